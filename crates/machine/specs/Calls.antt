@@ -1,0 +1,354 @@
+-- Calls 1 to 20: functions of what the call sees (Context), of the request's fields and of the partition's own record. The checks
+-- stand in the order of document 01, then what an accepted call does. Defined for every record.
+use Prim.Native.Nat.{ℕ, _+_, _-_, _%_}
+use mathlib.Core.Bool.{Bool, true, false, cond, not, _&&_, _||_}
+use mathlib.Core.List.{List, [], _∷_}
+use lib.ListN.{take}
+use lib.Dec.{leb, ltb, eqb}
+use Rattle.machine.specs.declared.Given.{Given}
+use Rattle.machine.specs.declared.Process.{Process}
+use Rattle.machine.specs.declared.Partition.{Partition}
+use Rattle.machine.specs.declared.Context.{Context}
+use Rattle.machine.specs.declared.Reply.{Reply}
+use Rattle.machine.specs.declared.Called.{Called}
+use Rattle.machine.specs.declared.Request.{Request}
+use Rattle.machine.specs.declared.Semaphore.{Semaphore as SemaphoreT}
+use Rattle.machine.specs.declared.EventState.{EventState}
+use Rattle.machine.specs.declared.Wait.{Wait}
+use Rattle.machine.specs.declared.Wait.the-variants.{Timed, Semaphore, Event}
+use Rattle.machine.specs.declared.Time.{Time}
+use Rattle.machine.specs.declared.Time.the-variants.{Never, At}
+use Rattle.machine.specs.declared.Field.{Field}
+use Rattle.machine.specs.declared.Field.the-variants.{Number, MinusOne, Other}
+use Rattle.machine.specs.Limits.{processLimit, semaphoreLimit, eventLimit, priorityLimit, valueLimit, durationLimit, greatestValue}
+use Rattle.machine.specs.Field.{isNumber, between, isDuration, isMinusOne, isTimeout, isName, numberOf, timeOf}
+use Rattle.machine.specs.Process.{createdProcess, later, object, periodic, ready, withSuspended, withCurrent, waitingFor, suspendedUntil, startRule, startedEarly, stopped, resumed, nextRelease}
+use Rattle.machine.specs.Partition.{normalMode, replaced, nothingCreated, process, semaphore, event, withProcesses, withSemaphores, withEvents, stored, arrivedLast, waiters, ended, endedAll, enteredNormal}
+
+-- Code, value and extra are 0 unless named.
+abbrev pub coded : ℕ → Reply
+coded code = record { code = code; value = 0; extra = At 0 }
+
+abbrev pub valued : ℕ → Time → Reply
+valued value extra = record { code = 0; value = value; extra = extra }
+
+-- Checks run in the order written; "n:" means answer code n if.
+unfoldable pub checked : {A : Type 0} → (ℕ → A) → List (Bool × ℕ) → A → A
+checked refuse [] accepted = accepted
+checked refuse ((test, code) ∷ l) accepted = cond test (refuse code) (checked refuse l accepted)
+
+abbrev pub answered : ℕ → Partition → Called
+answered code p = record { partition = p; reply = coded code }
+
+-- a refused call leaves the record as it is
+abbrev pub refused : Partition → ℕ → Called
+refused p code = answered code p
+
+-- code 0 with value and extra
+abbrev pub answeredWith : ℕ → Time → Partition → Called
+answeredWith value extra p = record { partition = p; reply = valued value extra }
+
+-- the only place that gives code 7: the process has the record x, in which it waits
+unfoldable pub blocked : ℕ → Process → Partition → Called
+blocked id x p = answered 7 (stored id x p)
+
+-- an id unknown: none of that kind has been created with it
+abbrev pub unknown : ℕ → ℕ → Bool
+unknown id count = eqb id 0 || ltb count id
+
+-- start modes; IDLE gets 9 before
+abbrev pub startMode : Partition → Bool
+startMode p = not (normalMode p)
+
+abbrev pub dormant : Process → Bool
+dormant x = not (x .started)
+
+-- 1 SET_PARTITION_MODE a. 3: not 0..3. 1: 3 in NORMAL. 5: 2 in COLD_START. 5: 3 with no process. Modes 0, 1, 2: mode set; processes,
+-- semaphores, events erased (the messages by `restarted`, in Module).
+unfoldable pub setMode : Context → Field → Partition → Called
+setMode c a p =
+    checked (refused p)
+    ((not (between 0 3 a), 3)
+    ∷ (isNumber 3 a && normalMode p, 1)
+    ∷ (isNumber 2 a && eqb (p .mode) 1, 5)
+    ∷ (isNumber 3 a && eqb (p .processCount) 0, 5)
+    ∷ [])
+    (answered 0 (cond (isNumber 3 a) (enteredNormal c p) (nothingCreated (numberOf a))))
+
+-- the name is one of these
+unfoldable pub processNamed : Field → List Process → Bool
+processNamed name [] = false
+processNamed name (x ∷ l) = isNumber (x .given .name) name || processNamed name l
+
+unfoldable pub semaphoreNamed : Field → List SemaphoreT → Bool
+semaphoreNamed name [] = false
+semaphoreNamed name (s ∷ l) = isNumber (s .name) name || semaphoreNamed name l
+
+unfoldable pub eventNamed : Field → List EventState → Bool
+eventNamed name [] = false
+eventNamed name (s ∷ l) = isNumber (s .name) name || eventNamed name l
+
+-- a multiple of M in 1..9,999,999
+abbrev pub isMultiple : ℕ → Field → Bool
+isMultiple frame f = between 1 durationLimit f && (not (eqb frame 0) && eqb (numberOf f % frame) 0)
+
+-- capacity above a period that isn't −1
+abbrev pub above : Field → Field → Bool
+above capacity period = not (isMinusOne capacity) && (not (isMinusOne period) && ltb (numberOf period) (numberOf capacity))
+
+abbrev pub isPriority : Field → Bool
+isPriority f = between 1 priorityLimit f
+
+-- what CREATE_PROCESS admits
+abbrev pub admissible : Context → Request → Bool
+admissible c r =
+    isName (r .a) && (isPriority (r .b)
+    && ((isMinusOne (r .c) || isMultiple (c .frame) (r .c))
+    && ((isMinusOne (r .e) || between 1 durationLimit (r .e))
+    && not (above (r .e) (r .c)))))
+
+-- one more process, with the next id
+abbrev pub withNewProcess : Process → Partition → Partition
+withNewProcess x p = withProcesses (replaced processLimit (p .processCount + 1) x (p .processes)) (p .processCount + 1) (p .arrival) (p .waiting) p
+
+-- 2 CREATE_PROCESS name, priority, period, capacity. 4: 16 exist. 1: name exists. 3: name not 1..255, priority not 1..239, period neither
+-- −1 nor a multiple of M in 1..9,999,999, capacity neither −1 nor 1..9,999,999, or capacity above a period that isn't −1. 5: NORMAL.
+-- Value: id.
+unfoldable pub createProcess : Context → Request → Partition → Called
+createProcess c r p =
+    checked (refused p)
+    ((leb processLimit (p .processCount), 4)
+    ∷ (processNamed (r .a) (take (p .processCount) (p .processes)), 1)
+    ∷ (not (admissible c r), 3)
+    ∷ (normalMode p, 5)
+    ∷ [])
+    (answeredWith (p .processCount + 1) (At 0)
+    (withNewProcess (createdProcess (record { name = numberOf (r .a); base = numberOf (r .b); period = timeOf (r .c); capacity = timeOf (r .e) })) p))
+
+-- periodic and delay ≥ period
+abbrev pub reaches : Time → ℕ → Bool
+reaches Never delay = false
+reaches (At period) delay = leb period delay
+
+-- 3 START id; 4 DELAYED_START id, delay. 3: delay not in D, or periodic and delay ≥ period. 1: not DORMANT. In NORMAL: start rule. Else
+-- priority, marks, wake code as there; waits for NORMAL; only here the delay field is set, by START to 0.
+unfoldable pub start : Context → ℕ → Field → Partition → Called
+start c id delay p =
+    let x = process id p in
+    checked (refused p)
+    ((unknown id (p .processCount), 3)
+    ∷ (not (isDuration delay) || reaches (x .given .period) (numberOf delay), 3)
+    ∷ (not (dormant x), 1)
+    ∷ [])
+    (answered 0 (stored id (cond (normalMode p) (startRule c (numberOf delay) x) (startedEarly (numberOf delay) x)) p))
+
+-- 5 STOP id. 3: the caller. 1: DORMANT. DORMANT; it leaves its queue.
+unfoldable pub stop : Context → ℕ → Partition → Called
+stop c id p =
+    checked (refused p)
+    ((unknown id (p .processCount), 3)
+    ∷ (eqb id (c .caller), 3)
+    ∷ (dormant (process id p), 1)
+    ∷ [])
+    (answered 0 (stored id (stopped (process id p)) p))
+
+-- 6 STOP_SELF: same for the caller. 5: start mode.
+unfoldable pub stopSelf : Context → Partition → Called
+stopSelf c p =
+    checked (refused p)
+    ((startMode p, 5) ∷ [])
+    (answered 0 (stored (c .caller) (stopped (process (c .caller) p)) p))
+
+-- 7 SUSPEND id. 3: the caller. 5: DORMANT or periodic. 1: suspended. Sets the mark.
+unfoldable pub suspend : Context → ℕ → Partition → Called
+suspend c id p =
+    checked (refused p)
+    ((unknown id (p .processCount), 3)
+    ∷ (eqb id (c .caller), 3)
+    ∷ (dormant (process id p) || periodic (process id p), 5)
+    ∷ (process id p .suspended, 1)
+    ∷ [])
+    (answered 0 (stored id (withSuspended true (process id p)) p))
+
+-- 8 SUSPEND_SELF a. 5: start mode or periodic. 3: not in T. a = 0 changes nothing; else mark set, w = t + a or −1, code 7.
+unfoldable pub suspendSelf : Context → Field → Partition → Called
+suspendSelf c a p =
+    checked (refused p)
+    ((startMode p || periodic (process (c .caller) p), 5)
+    ∷ (not (isTimeout a), 3)
+    ∷ [])
+    (cond (isNumber 0 a)
+    (answered 0 p)
+    (blocked (c .caller) (suspendedUntil (later (At (c .time)) (timeOf a)) (process (c .caller) p)) p))
+
+-- 9 TIMED_WAIT a. 5: start mode. 3: not in D. a = 0: caller goes to the end of the arrival list; else waits timed, w = t + a, code 7.
+unfoldable pub timedWait : Context → Field → Partition → Called
+timedWait c a p =
+    checked (refused p)
+    ((startMode p, 5)
+    ∷ (not (isDuration a), 3)
+    ∷ [])
+    (cond (isNumber 0 a)
+    (answered 0 (arrivedLast (c .caller) p))
+    (blocked (c .caller) (waitingFor Timed (later (At (c .time)) (timeOf a)) (process (c .caller) p)) p))
+
+-- 10 PERIODIC_WAIT. 5: start mode or aperiodic. r rises by period; w = r, d = r + capacity or −1; waits, code 7, even if r ≤ t.
+unfoldable pub periodicWait : Context → Partition → Called
+periodicWait c p =
+    checked (refused p)
+    ((startMode p || not (periodic (process (c .caller) p)), 5) ∷ [])
+    (blocked (c .caller) (nextRelease (process (c .caller) p)) p)
+
+-- 11 RESUME id. 3: the caller. 5: DORMANT or periodic. 1: not suspended. Clears the mark; if no wait, w = −1, wake code 0.
+unfoldable pub resume : Context → ℕ → Partition → Called
+resume c id p =
+    checked (refused p)
+    ((unknown id (p .processCount), 3)
+    ∷ (eqb id (c .caller), 3)
+    ∷ (dormant (process id p) || periodic (process id p), 5)
+    ∷ (not (process id p .suspended), 1)
+    ∷ [])
+    (answered 0 (stored id (resumed (process id p)) p))
+
+-- 12 SET_PRIORITY id, a. 3: not 1..239. 5: DORMANT. Current priority = a; a READY one goes to the arrival list's end.
+unfoldable pub setPriority : ℕ → Field → Partition → Called
+setPriority id a p =
+    let q = stored id (withCurrent (numberOf a) (process id p)) p in
+    checked (refused p)
+    ((unknown id (p .processCount), 3)
+    ∷ (not (isPriority a), 3)
+    ∷ (dormant (process id p), 5)
+    ∷ [])
+    (answered 0 (cond (ready (process id p)) (arrivedLast id q) q))
+
+-- Value 0 DORMANT, 1 READY, 2 running, 3 else
+abbrev pub status : Context → ℕ → Process → ℕ
+status c id x = cond (dormant x) 0 (cond (eqb id (c .caller)) 2 (cond (ready x) 1 3))
+
+-- 13 GET_PROCESS_STATUS id. Value 0 DORMANT, 1 READY, 2 running, 3 else; extra d.
+unfoldable pub getStatus : Context → ℕ → Partition → Called
+getStatus c id p =
+    checked (refused p)
+    ((unknown id (p .processCount), 3) ∷ [])
+    (answeredWith (status c id (process id p)) (process id p .times .deadline) p)
+
+-- 14 CREATE_SEMAPHORE name, start, max. 4: 8 exist. 1: name exists among its kind. 3: name not 1..255, max not 1..32,767, start not
+-- 0..max. 5: NORMAL. Value: id.
+unfoldable pub createSemaphore : Request → Partition → Called
+createSemaphore r p =
+    checked (refused p)
+    ((leb semaphoreLimit (p .semaphoreCount), 4)
+    ∷ (semaphoreNamed (r .a) (take (p .semaphoreCount) (p .semaphores)), 1)
+    ∷ (not (isName (r .a) && (between 1 valueLimit (r .c) && between 0 (numberOf (r .c)) (r .b))), 3)
+    ∷ (normalMode p, 5)
+    ∷ [])
+    (answeredWith (p .semaphoreCount + 1) (At 0)
+    (withSemaphores (replaced semaphoreLimit (p .semaphoreCount + 1) (record { name = numberOf (r .a); value = numberOf (r .b); max = numberOf (r .c) }) (p .semaphores)) (p .semaphoreCount + 1) p))
+
+-- 17 CREATE_EVENT name (DOWN): as 14.
+unfoldable pub createEvent : Field → Partition → Called
+createEvent name p =
+    checked (refused p)
+    ((leb eventLimit (p .eventCount), 4)
+    ∷ (eventNamed name (take (p .eventCount) (p .events)), 1)
+    ∷ (not (isName name), 3)
+    ∷ (normalMode p, 5)
+    ∷ [])
+    (answeredWith (p .eventCount + 1) (At 0)
+    (withEvents (replaced eventLimit (p .eventCount + 1) (record { name = numberOf name; up = false }) (p .events)) (p .eventCount + 1) p))
+
+unfoldable pub withValue : ℕ → ℕ → Partition → Partition
+withValue k n p =
+    let s = semaphore k p in
+    withSemaphores (replaced semaphoreLimit k (record { name = s .name; value = n; max = s .max }) (p .semaphores)) (p .semaphoreCount) p
+
+unfoldable pub withUp : ℕ → Bool → Partition → Partition
+withUp k up p = withEvents (replaced eventLimit k (record { name = event k p .name; up = up }) (p .events)) (p .eventCount) p
+
+-- 2: a = 0. Else queued last at the object that the wait names, w = t + a or −1, code 7
+unfoldable pub queued : Context → Field → Wait → Partition → Called
+queued c a w p =
+    checked (refused p)
+    ((isNumber 0 a, 2) ∷ [])
+    (blocked (c .caller) (waitingFor w (later (At (c .time)) (timeOf a)) (process (c .caller) p)) p)
+
+-- 15 WAIT_SEMAPHORE id, a. 5: start mode. 3: a not in T. Value > 0: one less, code 0.
+unfoldable pub waitSemaphore : Context → ℕ → Field → Partition → Called
+waitSemaphore c k a p =
+    checked (refused p)
+    ((unknown k (p .semaphoreCount), 3)
+    ∷ (startMode p, 5)
+    ∷ (not (isTimeout a), 3)
+    ∷ [])
+    (cond (ltb 0 (semaphore k p .value))
+    (answered 0 (withValue k (semaphore k p .value - 1) p))
+    (queued c a (Semaphore k) p))
+
+-- 20 WAIT_EVENT id, a: as 15; event UP: code 0.
+unfoldable pub waitEvent : Context → ℕ → Field → Partition → Called
+waitEvent c k a p =
+    checked (refused p)
+    ((unknown k (p .eventCount), 3)
+    ∷ (startMode p, 5)
+    ∷ (not (isTimeout a), 3)
+    ∷ [])
+    (cond (event k p .up)
+    (answered 0 p)
+    (queued c a (Event k) p))
+
+-- bound: a value past the greatest one is the greatest
+abbrev pub oneMore : ℕ → ℕ
+oneMore n = cond (ltb n greatestValue) (n + 1) n
+
+-- First waiter's wait ends (w −1, wake code 0); none: value + 1.
+unfoldable pub signalled : List ℕ → ℕ → Partition → Partition
+signalled [] k p = withValue k (oneMore (semaphore k p .value)) p
+signalled (id ∷ l) k p = ended id p
+
+-- 16 SIGNAL id. 1: value = max.
+unfoldable pub signal : ℕ → Partition → Called
+signal k p =
+    checked (refused p)
+    ((unknown k (p .semaphoreCount), 3)
+    ∷ (eqb (semaphore k p .value) (semaphore k p .max), 1)
+    ∷ [])
+    (answered 0 (signalled (waiters (object (Semaphore k)) p) k p))
+
+-- 18 SET_EVENT id: UP, all waiters' waits end in queue order the same way.
+unfoldable pub setEvent : ℕ → Partition → Called
+setEvent k p =
+    checked (refused p)
+    ((unknown k (p .eventCount), 3) ∷ [])
+    (answered 0 (endedAll (waiters (object (Event k)) p) (withUp k true p)))
+
+-- 19 RESET_EVENT id: DOWN.
+unfoldable pub resetEvent : ℕ → Partition → Called
+resetEvent k p =
+    checked (refused p)
+    ((unknown k (p .eventCount), 3) ∷ [])
+    (answered 0 (withUp k false p))
+
+-- Calls 1 to 20 by number, with their fields; another number, which 13 refuses before, leaves the record as it is.
+unfoldable pub partitionCall : Context → ℕ → Request → Partition → Called
+partitionCall c n r p =
+    cond (eqb n 1) (setMode c (r .a) p)
+    (cond (eqb n 2) (createProcess c r p)
+    (cond (eqb n 3) (start c (numberOf (r .a)) (Number 0) p)
+    (cond (eqb n 4) (start c (numberOf (r .a)) (r .b) p)
+    (cond (eqb n 5) (stop c (numberOf (r .a)) p)
+    (cond (eqb n 6) (stopSelf c p)
+    (cond (eqb n 7) (suspend c (numberOf (r .a)) p)
+    (cond (eqb n 8) (suspendSelf c (r .a) p)
+    (cond (eqb n 9) (timedWait c (r .a) p)
+    (cond (eqb n 10) (periodicWait c p)
+    (cond (eqb n 11) (resume c (numberOf (r .a)) p)
+    (cond (eqb n 12) (setPriority (numberOf (r .a)) (r .b) p)
+    (cond (eqb n 13) (getStatus c (numberOf (r .a)) p)
+    (cond (eqb n 14) (createSemaphore r p)
+    (cond (eqb n 15) (waitSemaphore c (numberOf (r .a)) (r .b) p)
+    (cond (eqb n 16) (signal (numberOf (r .a)) p)
+    (cond (eqb n 17) (createEvent (r .a) p)
+    (cond (eqb n 18) (setEvent (numberOf (r .a)) p)
+    (cond (eqb n 19) (resetEvent (numberOf (r .a)) p)
+    (cond (eqb n 20) (waitEvent c (numberOf (r .a)) (r .b) p)
+    (refused p 13))))))))))))))))))))

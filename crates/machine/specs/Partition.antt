@@ -1,0 +1,218 @@
+-- A partition: its two lists follow the records of its processes.
+use Prim.Native.Nat.{ℕ, zero, suc, _+_, _-_, min}
+use mathlib.Core.Bool.{Bool, true, false, cond, not, _&&_, _||_}
+use mathlib.Core.List.{List, [], _∷_, _++_}
+use lib.ListN.{getD, set, replicate}
+use lib.Dec.{leb, ltb, eqb}
+use Rattle.machine.specs.declared.Ids.{Ids}
+use Rattle.machine.specs.declared.Process.{Process}
+use Rattle.machine.specs.declared.Semaphore.{Semaphore as SemaphoreT}
+use Rattle.machine.specs.declared.EventState.{EventState}
+use Rattle.machine.specs.declared.Partition.{Partition}
+use Rattle.machine.specs.declared.Choice.{Choice}
+use Rattle.machine.specs.declared.Context.{Context}
+use Rattle.machine.specs.declared.Time.{Time}
+use Rattle.machine.specs.declared.Time.the-variants.{Never, At}
+use Rattle.machine.specs.Limits.{processLimit, semaphoreLimit, eventLimit, greatestTime}
+use Rattle.machine.specs.Ids.{members, idsOf, kept, appended, removed, follow}
+use Rattle.machine.specs.Process.{blankProcess, ready, object, onObject, ticked, waitEnded, entered}
+
+-- IDLE 0, COLD_START 1, WARM_START 2, NORMAL 3
+abbrev pub idleMode : Partition → Bool
+idleMode p = eqb (p .mode) 0
+
+abbrev pub normalMode : Partition → Bool
+normalMode p = eqb (p .mode) 3
+
+abbrev pub noSemaphore : SemaphoreT
+noSemaphore = record { name = 0; value = 0; max = 0 }
+
+abbrev pub noEvent : EventState
+noEvent = record { name = 0; up = false }
+
+-- a partition in this mode with nothing created
+abbrev pub nothingCreated : ℕ → Partition
+nothingCreated mode = record {
+  mode = mode;
+  processes = replicate processLimit blankProcess;
+  processCount = 0;
+  semaphores = replicate semaphoreLimit noSemaphore;
+  semaphoreCount = 0;
+  events = replicate eventLimit noEvent;
+  eventCount = 0;
+  arrival = idsOf [];
+  waiting = idsOf [];
+  soonest = 0;
+}
+
+-- Ids count from 1 in order of creation: 1..limit
+abbrev pub within : ℕ → ℕ → Bool
+within limit id = ltb 0 id && leb id limit
+
+-- bound: what an id outside names is the default, and replacing it changes nothing
+unfoldable pub named : {A : Type 0} → ℕ → A → ℕ → List A → A
+named limit d id l = cond (within limit id) (getD l (id - 1) d) d
+
+unfoldable pub replaced : {A : Type 0} → ℕ → ℕ → A → List A → List A
+replaced limit id a l = cond (within limit id) (set l (id - 1) a) l
+
+abbrev pub process : ℕ → Partition → Process
+process id p = named processLimit blankProcess id (p .processes)
+
+abbrev pub semaphore : ℕ → Partition → SemaphoreT
+semaphore k p = named semaphoreLimit noSemaphore k (p .semaphores)
+
+abbrev pub event : ℕ → Partition → EventState
+event k p = named eventLimit noEvent k (p .events)
+
+abbrev pub withMode : ℕ → Partition → Partition
+withMode mode p = record {
+  mode = mode;
+  processes = p .processes;
+  processCount = p .processCount;
+  semaphores = p .semaphores;
+  semaphoreCount = p .semaphoreCount;
+  events = p .events;
+  eventCount = p .eventCount;
+  arrival = p .arrival;
+  waiting = p .waiting;
+  soonest = p .soonest;
+}
+
+abbrev pub withProcesses : List Process → ℕ → Ids → Ids → Partition → Partition
+withProcesses l n a w p = record {
+  mode = p .mode;
+  processes = l;
+  processCount = n;
+  semaphores = p .semaphores;
+  semaphoreCount = p .semaphoreCount;
+  events = p .events;
+  eventCount = p .eventCount;
+  arrival = a;
+  waiting = w;
+  soonest = p .soonest;
+}
+
+abbrev pub withSemaphores : List SemaphoreT → ℕ → Partition → Partition
+withSemaphores l n p = record {
+  mode = p .mode;
+  processes = p .processes;
+  processCount = p .processCount;
+  semaphores = l;
+  semaphoreCount = n;
+  events = p .events;
+  eventCount = p .eventCount;
+  arrival = p .arrival;
+  waiting = p .waiting;
+  soonest = p .soonest;
+}
+
+abbrev pub withEvents : List EventState → ℕ → Partition → Partition
+withEvents l n p = record {
+  mode = p .mode;
+  processes = p .processes;
+  processCount = p .processCount;
+  semaphores = p .semaphores;
+  semaphoreCount = p .semaphoreCount;
+  events = l;
+  eventCount = n;
+  arrival = p .arrival;
+  waiting = p .waiting;
+  soonest = p .soonest;
+}
+
+abbrev pub withSoonest : ℕ → Partition → Partition
+withSoonest n p = record {
+  mode = p .mode;
+  processes = p .processes;
+  processCount = p .processCount;
+  semaphores = p .semaphores;
+  semaphoreCount = p .semaphoreCount;
+  events = p .events;
+  eventCount = p .eventCount;
+  arrival = p .arrival;
+  waiting = p .waiting;
+  soonest = n;
+}
+
+-- process id has this record from now on. Becoming READY appends it to the arrival list; ceasing removes it; and so the waiting list,
+-- for waiting on an object. Bound: no such id changes nothing.
+unfoldable pub stored : ℕ → Process → Partition → Partition
+stored id x p =
+    let old = process id p in
+    cond (within processLimit id)
+    (withProcesses (replaced processLimit id x (p .processes)) (p .processCount)
+    (follow (ready old) (ready x) id (p .arrival))
+    (follow (onObject old) (onObject x) id (p .waiting)) p)
+    p
+
+-- process id goes to the end of the arrival list
+unfoldable pub arrivedLast : ℕ → Partition → Partition
+arrivedLast id p = withProcesses (p .processes) (p .processCount) (appended id (removed id (p .arrival))) (p .waiting) p
+
+-- the process chosen so far, or a later one of greater priority; id 0 is none
+abbrev pub preferred : Choice → ℕ → ℕ → Choice
+preferred c id priority = cond (eqb (c .id) 0 || ltb (c .priority) priority) (record { id = id; priority = priority }) c
+
+unfoldable pub chosen : Partition → Choice → List ℕ → Choice
+chosen p c [] = c
+chosen p c (id ∷ l) = chosen p (preferred c id (process id p .current)) l
+
+-- The running process is, in a current NORMAL partition, the READY one of greatest current priority, first in the arrival list among
+-- equals; otherwise 0.
+unfoldable pub running : Partition → ℕ
+running p = cond (normalMode p) (chosen p (record { id = 0; priority = 0 }) (members (p .arrival)) .id) 0
+
+-- the queue of an object: the waiting processes whose wait names it, in the order in which they began to wait
+abbrev pub waitsOn : ℕ → Partition → ℕ → Bool
+waitsOn o p id = eqb (object (process id p .wait)) o
+
+unfoldable pub waiters : ℕ → Partition → List ℕ
+waiters o p = kept (waitsOn o p) (members (p .waiting))
+
+-- the wait of process id ends (w −1, wake code 0)
+unfoldable pub ended : ℕ → Partition → Partition
+ended id p = stored id (waitEnded 0 (process id p)) p
+
+unfoldable pub endedAll : List ℕ → Partition → Partition
+endedAll [] p = p
+endedAll (id ∷ l) p = endedAll l (ended id p)
+
+-- a change of every process by ascending id: n of them from id on
+unfoldable pub eachFrom : (Process → Process) → ℕ → ℕ → Partition → Partition
+eachFrom f zero id p = p
+eachFrom f (suc n) id p = eachFrom f n (id + 1) (stored id (f (process id p)) p)
+
+abbrev pub each : (Process → Process) → Partition → Partition
+each f p = eachFrom f (p .processCount) 1 p
+
+-- In each NORMAL partition, processes by ascending id
+unfoldable pub tickPartition : ℕ → Partition → Partition
+tickPartition t p = cond (normalMode p) (each (ticked t) p) p
+
+-- Mode 3: mode set; every process waiting for NORMAL, by id, takes the start rule with its delay
+unfoldable pub enteredNormal : Context → Partition → Partition
+enteredNormal c p = each (entered c) (withMode 3 p)
+
+-- the least of a time and a number; −1 is no bound
+abbrev pub sooner : Time → ℕ → ℕ
+sooner Never n = n
+sooner (At t) n = min t n
+
+-- no wake time or deadline of n processes from id on comes before this number
+unfoldable pub soonestFrom : ℕ → ℕ → Partition → ℕ
+soonestFrom zero id p = greatestTime
+soonestFrom (suc n) id p = sooner (process id p .times .wake) (sooner (process id p .times .deadline) (soonestFrom n (id + 1) p))
+
+abbrev pub soonestOf : Partition → ℕ
+soonestOf p = soonestFrom (p .processCount) 1 p
+
+-- its field `soonest` says so
+abbrev pub noted : Partition → Partition
+noted p = withSoonest (soonestOf p) p
+
+unfoldable pub freshPartition : Partition
+freshPartition = withSoonest greatestTime (nothingCreated 1)
+
+unfoldable pub emptyPartition : Partition
+emptyPartition = nothingCreated 0

@@ -1,0 +1,205 @@
+-- A process by itself.
+use Prim.Native.Nat.{ℕ, _+_}
+use mathlib.Core.Bool.{Bool, true, false, cond, not, _&&_, _||_}
+use lib.Dec.{leb, eqb, ltb}
+use Rattle.machine.specs.declared.Given.{Given}
+use Rattle.machine.specs.declared.Times.{Times}
+use Rattle.machine.specs.declared.Process.{Process}
+use Rattle.machine.specs.declared.Context.{Context}
+use Rattle.machine.specs.declared.Wait.{Wait}
+use Rattle.machine.specs.declared.Wait.the-variants.{None, Normal, Delay, Timed, Period, Semaphore, Event}
+use Rattle.machine.specs.declared.Time.{Time}
+use Rattle.machine.specs.declared.Time.the-variants.{Never, At}
+use Rattle.machine.specs.Limits.{greatestTime}
+
+-- Created, it is DORMANT: four fields as given, no wait, r, d, w −1, the rest (current priority too) 0.
+abbrev pub createdProcess : Given → Process
+createdProcess g = record {
+  given = g;
+  times = record { release = Never; deadline = Never; wake = Never; delay = 0 };
+  current = 0;
+  suspended = false;
+  missed = false;
+  code = 0;
+  started = false;
+  wait = None;
+}
+
+-- what stands where no process has been created
+abbrev pub blankProcess : Process
+blankProcess = createdProcess (record { name = 0; base = 0; period = Never; capacity = Never })
+
+-- bound: a time past the greatest one is the greatest
+abbrev pub capped : ℕ → ℕ
+capped n = cond (leb n greatestTime) n greatestTime
+
+-- a time after another: −1 where one of them is −1
+abbrev pub later : Time → Time → Time
+later Never b = Never
+later (At m) Never = Never
+later (At m) (At n) = At (capped (m + n))
+
+-- it is not −1 and ≤ t
+abbrev pub due : ℕ → Time → Bool
+due t Never = false
+due t (At w) = leb w t
+
+abbrev pub isNever : Time → Bool
+isNever Never = true
+isNever (At n) = false
+
+-- period is not −1
+abbrev pub periodic : Process → Bool
+periodic x = not (isNever (x .given .period))
+
+-- the object that a wait names, as a number; 0 for none. A later family of objects adds its line here.
+abbrev pub object : Wait → ℕ
+object None = 0
+object Normal = 0
+object Delay = 0
+object Timed = 0
+object Period = 0
+object (Semaphore k) = 256 + k
+object (Event k) = 512 + k
+
+abbrev pub onObject : Process → Bool
+onObject x = not (eqb (object (x .wait)) 0)
+
+abbrev pub waitsForNothing : Wait → Bool
+waitsForNothing None = true
+waitsForNothing Normal = false
+waitsForNothing Delay = false
+waitsForNothing Timed = false
+waitsForNothing Period = false
+waitsForNothing (Semaphore k) = false
+waitsForNothing (Event k) = false
+
+abbrev pub waitsForNormal : Wait → Bool
+waitsForNormal None = false
+waitsForNormal Normal = true
+waitsForNormal Delay = false
+waitsForNormal Timed = false
+waitsForNormal Period = false
+waitsForNormal (Semaphore k) = false
+waitsForNormal (Event k) = false
+
+-- It is READY if started, waiting for nothing and not suspended.
+abbrev pub ready : Process → Bool
+ready x = x .started && (not (x .suspended) && waitsForNothing (x .wait))
+
+abbrev pub withWake : Time → Times → Times
+withWake w s = record { release = s .release; deadline = s .deadline; wake = w; delay = s .delay }
+
+abbrev pub withDeadline : Time → Times → Times
+withDeadline d s = record { release = s .release; deadline = d; wake = s .wake; delay = s .delay }
+
+abbrev pub withDelay : ℕ → Times → Times
+withDelay n s = record { release = s .release; deadline = s .deadline; wake = s .wake; delay = n }
+
+-- released at r: w = r, d = r + capacity, or −1
+abbrev pub releasedAt : Time → Time → Times → Times
+releasedAt r capacity s = record { release = r; deadline = later r capacity; wake = r; delay = s .delay }
+
+-- the wait ends (w −1) with this wake code; a suspended mark stays
+abbrev pub waitEnded : ℕ → Process → Process
+waitEnded code x = record { given = x .given; times = withWake Never (x .times); current = x .current; suspended = x .suspended; missed = x .missed; code = code; started = x .started; wait = None }
+
+abbrev pub withSuspended : Bool → Process → Process
+withSuspended b x = record { given = x .given; times = x .times; current = x .current; suspended = b; missed = x .missed; code = x .code; started = x .started; wait = x .wait }
+
+abbrev pub withCurrent : ℕ → Process → Process
+withCurrent n x = record { given = x .given; times = x .times; current = n; suspended = x .suspended; missed = x .missed; code = x .code; started = x .started; wait = x .wait }
+
+-- it waits, until this time
+abbrev pub waitingFor : Wait → Time → Process → Process
+waitingFor w until x = record { given = x .given; times = withWake until (x .times); current = x .current; suspended = x .suspended; missed = x .missed; code = x .code; started = x .started; wait = w }
+
+-- SUSPEND_SELF: mark set, w; the wait stays none
+abbrev pub suspendedUntil : Time → Process → Process
+suspendedUntil until x = record { given = x .given; times = withWake until (x .times); current = x .current; suspended = true; missed = x .missed; code = x .code; started = x .started; wait = x .wait }
+
+-- if w is not −1 and w ≤ t, the wait ends (w −1); semaphore and event waiters leave their queue with wake code 6, others get 0, and a
+-- suspended mark stays; a process that had no wait but the mark loses the mark instead, wake code 6, w −1. (A process with
+-- neither, which no run reaches, has only w and the wake code set.)
+unfoldable pub woken : ℕ → Process → Process
+woken t x =
+    cond (due t (x .times .wake))
+    (cond (waitsForNothing (x .wait))
+    (withSuspended false (waitEnded 6 x))
+    (waitEnded (cond (onObject x) 6 0) x))
+    x
+
+-- missed mark 1, d −1
+abbrev pub deadlineMissed : Process → Process
+deadlineMissed x = record { given = x .given; times = withDeadline Never (x .times); current = x .current; suspended = x .suspended; missed = true; code = x .code; started = x .started; wait = x .wait }
+
+-- Then if d is not −1 and d ≤ t: missed mark 1, d −1.
+unfoldable pub expired : ℕ → Process → Process
+expired t x = cond (due t (x .times .deadline)) (deadlineMissed x) x
+
+-- a tick at one process: the wake time first, then the deadline
+abbrev pub ticked : ℕ → Process → Process
+ticked t x = expired t (woken t x)
+
+-- Current priority = base; marks, wake code cleared. It is started, with these times and this wait.
+abbrev pub begun : Times → Wait → Process → Process
+begun s w x = record { given = x .given; times = s; current = x .given .base; suspended = false; missed = false; code = 0; started = true; wait = w }
+
+-- Start rule(delay), document 01's term. Aperiodic (period −1): d = t + delay + capacity, or −1; delay 0 means READY, else waits
+-- delay with w = t + delay.
+abbrev pub startedAperiodic : Context → ℕ → Process → Process
+startedAperiodic c delay x =
+    let at = later (At (c .time)) (At delay) in
+    let d = later at (x .given .capacity) in
+    cond (eqb delay 0)
+    (begun (withWake Never (withDeadline d (x .times))) None x)
+    (begun (withWake at (withDeadline d (x .times))) Delay x)
+
+-- Periodic: r = the partition's next release point, plus delay; waits period, w = r, d = r + capacity, or −1.
+abbrev pub startedPeriodic : Context → ℕ → Process → Process
+startedPeriodic c delay x = begun (releasedAt (later (At (c .release)) (At delay)) (x .given .capacity) (x .times)) Period x
+
+unfoldable pub startRule : Context → ℕ → Process → Process
+startRule c delay x = cond (periodic x) (startedPeriodic c delay x) (startedAperiodic c delay x)
+
+-- started in a start mode: priority, marks, wake code as there; waits for NORMAL; only here the delay field is set
+abbrev pub startedEarly : ℕ → Process → Process
+startedEarly delay x = begun (withDelay delay (x .times)) Normal x
+
+-- entering NORMAL: every process waiting for NORMAL takes the start rule with its delay, keeping its suspended mark and current
+-- priority
+unfoldable pub entered : Context → Process → Process
+entered c x =
+    cond (waitsForNormal (x .wait))
+    (withSuspended (x .suspended) (withCurrent (x .current) (startRule c (x .times .delay) x)))
+    x
+
+-- STOP: DORMANT; wait, w, d, r, suspended mark cleared (w, d, r to −1)
+abbrev pub stopped : Process → Process
+stopped x = record {
+  given = x .given;
+  times = record { release = Never; deadline = Never; wake = Never; delay = x .times .delay };
+  current = x .current;
+  suspended = false;
+  missed = x .missed;
+  code = x .code;
+  started = false;
+  wait = None;
+}
+
+-- RESUME: clears the mark; if no wait, w = −1, wake code 0
+abbrev pub resumed : Process → Process
+resumed x = cond (waitsForNothing (x .wait)) (withSuspended false (waitEnded 0 x)) (withSuspended false x)
+
+-- PERIODIC_WAIT: r rises by period; w = r, d = r + capacity or −1; waits
+abbrev pub nextRelease : Process → Process
+nextRelease x = record {
+  given = x .given;
+  times = releasedAt (later (x .times .release) (x .given .period)) (x .given .capacity) (x .times);
+  current = x .current;
+  suspended = x .suspended;
+  missed = x .missed;
+  code = x .code;
+  started = x .started;
+  wait = Period;
+}

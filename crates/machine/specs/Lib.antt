@@ -5,3 +5,5 @@ pub mod Process
 pub mod Partition
 pub mod Calls
 pub mod Module
+pub mod TwoRuns
+pub mod LeftRight

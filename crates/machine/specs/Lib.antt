@@ -5,5 +5,8 @@ pub mod Process
 pub mod Partition
 pub mod Calls
 pub mod Module
+pub mod Text
+pub mod Table
+pub mod Replay
 pub mod TwoRuns
 pub mod LeftRight

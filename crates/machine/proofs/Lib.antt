@@ -4,3 +4,6 @@ pub mod Isolation
 pub mod Dispatch
 pub mod Bodies
 pub mod Refusals
+pub mod Worked
+pub mod Starred
+pub mod Mistakes

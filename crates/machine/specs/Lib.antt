@@ -8,5 +8,8 @@ pub mod Module
 pub mod Text
 pub mod Table
 pub mod Replay
+pub mod Examples
 pub mod TwoRuns
 pub mod LeftRight
+pub mod Valid
+pub mod Starred

@@ -28,6 +28,7 @@ use Rattle.machine.specs.Module as M
 use Rattle.machine.specs.LeftRight.{next, answeredEvent, after, isZero, memberOf, isTick, common, shown, commonAnswers, Within, Closed, EqualIn, LeftRight}
 use Rattle.machine.specs.TwoRuns.{Unwinding, two-runs, keep}
 use Rattle.machine.proofs.Tests.{by-test, by-tests, by-checks, by-checks₂, Passed, and-left, and-right, or-left, or-right, not-both}
+use Rattle.machine.proofs.Fields.{in-limits, between-zero}
 use Rattle.machine.proofs.Agree.{Agree, agree-same, agree-back, agree-along, part-both, part-free, message-both, message-free, time-both, tick-both, erase-both, erase-free}
 
 -- what an event gives on two sides
@@ -69,12 +70,6 @@ weaker : (a b d : Bool) → ((a && b) || d) ≡ true → (a || d) ≡ true
 weaker true b d h = refl
 weaker false b d h = h
 
--- a field within limits that names 0 is the number 0
-between-zero : (high : ℕ) (f : Field) → between 0 high f ≡ true → eqb (numberOf f) 0 ≡ true → isNumber 0 f ≡ true
-between-zero high (Number n) h q = q
-between-zero high MinusOne h q = absurd (true≢false (sym h))
-between-zero high Other h q = absurd (true≢false (sym h))
-
 -- 13 leaves no event with just one 0
 pub tick-common : (S : ℕ → Bool) (T : Table) (e : Event) → M.malformed T (requestOf e) ≡ false → eqb (numberOf (field (e .partition))) 0 ≡ true → common S e ≡ true
 tick-common S T e q z =
@@ -104,11 +99,6 @@ module _ (T : Table) (S : ℕ → Bool) (closed : Closed T S) where
   record AtEnd (U : Table) (k i w : ℕ) : Type 0 where
     there : i < U .channelCount
     end : w ≡ k
-
-  in-limits : (low high : ℕ) (f : Field) → between low high f ≡ true → (low ≤ numberOf f) × (numberOf f ≤ high)
-  in-limits low high (Number n) q = (leb-true low n (and-left (leb low n) (leb n high) q), leb-true n high (and-right (leb low n) (leb n high) q))
-  in-limits low high MinusOne q = absurd (true≢false (sym q))
-  in-limits low high Other q = absurd (true≢false (sym q))
 
   at-end : (U : Table) (k : ℕ) (r : Request) (w : ℕ) → Passed (M.channelChecks U k r w) → AtEnd U k (numberOf (r .a) - 1) w
   unfolding M.channelChecks Passed

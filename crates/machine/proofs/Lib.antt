@@ -1,9 +1,12 @@
 pub mod Tests
+pub mod Fields
 pub mod Agree
 pub mod Isolation
+pub mod Tables
 pub mod Dispatch
 pub mod Bodies
 pub mod Refusals
 pub mod Worked
 pub mod Starred
 pub mod Mistakes
+pub mod Run

@@ -8,6 +8,7 @@ pub mod Module
 pub mod Text
 pub mod Table
 pub mod Replay
+pub mod Waiting
 pub mod Examples
 pub mod TwoRuns
 pub mod LeftRight

@@ -1,0 +1,3 @@
+pub mod TextField
+pub mod TextLine
+pub mod TextInput

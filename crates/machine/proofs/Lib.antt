@@ -10,3 +10,6 @@ pub mod Worked
 pub mod Starred
 pub mod Mistakes
 pub mod Run
+pub mod TextField
+pub mod TextLine
+pub mod TextInput

@@ -5,3 +5,4 @@ pub mod Process
 pub mod Partition
 pub mod Calls
 pub mod Module
+pub mod Valid

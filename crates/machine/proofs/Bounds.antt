@@ -21,6 +21,10 @@ use Rattle.machine.specs.Calls.{checked, unknown, withValue, withUp}
 pub differ : {P : Type 0} {b : Bool} → b ≡ true → b ≡ false → P
 differ {b} t f = absurd (let z : _≡_ {A = ℕ} 0 1 = cc in omega arith)
 
+pub not-so : (b : Bool) → (b ≡ true → ⊥) → b ≡ false
+not-so true h = absurd (h refl)
+not-so false h = refl
+
 pub same-or-not : (a b : ℕ) → (a ≡ b) ⊎ (a ≡ b → ⊥)
 same-or-not a b = go (eqb a b) refl
   where

@@ -2,3 +2,5 @@ pub mod Lists
 pub mod Bounds
 pub mod Folds
 pub mod Quiet
+pub mod Tracking
+pub mod Keeping

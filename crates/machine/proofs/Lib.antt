@@ -13,3 +13,9 @@ pub mod Run
 pub mod TextField
 pub mod TextLine
 pub mod TextInput
+pub mod Lists
+pub mod Bounds
+pub mod Folds
+pub mod Quiet
+pub mod Tracking
+pub mod Keeping

@@ -25,6 +25,10 @@ pub not-so : (b : Bool) → (b ≡ true → ⊥) → b ≡ false
 not-so true h = absurd (h refl)
 not-so false h = refl
 
+pub so : (b : Bool) → (b ≡ false → ⊥) → b ≡ true
+so true h = refl
+so false h = absurd (h refl)
+
 pub same-or-not : (a b : ℕ) → (a ≡ b) ⊎ (a ≡ b → ⊥)
 same-or-not a b = go (eqb a b) refl
   where

@@ -4,3 +4,4 @@ pub mod Folds
 pub mod Quiet
 pub mod Tracking
 pub mod Keeping
+pub mod Sound

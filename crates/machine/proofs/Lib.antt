@@ -5,3 +5,4 @@ pub mod Quiet
 pub mod Tracking
 pub mod Keeping
 pub mod Sound
+pub mod Running

@@ -6,3 +6,4 @@ pub mod Tracking
 pub mod Keeping
 pub mod Sound
 pub mod Running
+pub mod Kept

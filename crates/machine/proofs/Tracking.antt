@@ -42,7 +42,7 @@ contains-kept f x (y ∷ l) = go (f y) refl (eqb y x) refl (contains-kept f x l)
     go false e true s h = let k : f x ≡ false = ap f (sym (eqb-true y x s)) ∙ e in h ∙ rw k
     go false e false s h = h
 
-distinct-kept : (f : ℕ → Bool) (l : List ℕ) → Distinct l → Distinct (kept f l)
+pub distinct-kept : (f : ℕ → Bool) (l : List ℕ) → Distinct l → Distinct (kept f l)
 unfolding Distinct kept
 distinct-kept f [] d = tt
 distinct-kept f (y ∷ l) d = go (f y) (distinct-kept f l (d .1))
@@ -102,7 +102,7 @@ module _ (f : ℕ → Bool) (q : Ids) (tr : Tracks f q) where
   appended-plain id room = ap (appended id) (tr .canonical) ∙ appended-idsOf (members q) id room
 
   module _ (g : ℕ → Bool) (id : ℕ) (others : (x : ℕ) → (x ≡ id → ⊥) → g x ≡ f x) where
-    tracks-same : g id ≡ f id → Tracks g q
+    pub tracks-same : g id ≡ f id → Tracks g q
     tracks-same e = record {
       canonical = tr .canonical;
       distinct = tr .distinct;

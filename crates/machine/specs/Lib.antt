@@ -5,4 +5,12 @@ pub mod Process
 pub mod Partition
 pub mod Calls
 pub mod Module
+pub mod Text
+pub mod Table
+pub mod Replay
+pub mod Waiting
+pub mod Examples
+pub mod TwoRuns
+pub mod LeftRight
 pub mod Valid
+pub mod Starred

@@ -31,7 +31,8 @@ use Rattle.machine.specs.Limits.{processLimit, semaphoreLimit, eventLimi
 use Rattle.machine.specs.Ids.{members, idsOf}
 use Rattle.machine.specs.Process.{blankProcess, isNever, periodic, ready, onObject}
 use Rattle.machine.specs.Partition.{normalMode, named, noSemaphore, noEvent, process, running, tickPartition, soonestOf}
-use Rattle.machine.specs.Module.{windows, channel, flaggedFor, part, message, withPart, withTime, noCaller, emptyModule, freshModule, step}
+use Rattle.machine.specs.Table.{hasFlagged, readTable}
+use Rattle.machine.specs.Module.{windows, channel, part, message, withPart, withTime, noCaller, emptyModule, step}
 
 -- low..high
 abbrev pub Between : ℕ → ℕ → ℕ → Type 0
@@ -277,11 +278,6 @@ unfoldable pub SoundWindows : ℕ → ℕ → ℕ → List Window → Type 0
 SoundWindows previous frame size [] = Unit {0}
 SoundWindows previous frame size (w ∷ ws) = SoundWindow previous frame size w × SoundWindows (w .start + w .duration) frame size ws
 
--- partition k has a window with flag 1
-unfoldable pub hasFlagged : ℕ → List Window → Bool
-hasFlagged k [] = false
-hasFlagged k (w ∷ ws) = flaggedFor k w || hasFlagged k ws
-
 pub record SoundChannel (size : ℕ) (c : Channel) : Type 0 where
   pub source : Between 1 size (c .source)
   pub destination : Between 1 size (c .destination)
@@ -319,8 +315,7 @@ pub record ValidModule (m : Module) : Type 0 where
 
 -- Module records come only from table reading and from events.
 pub data Reached : Module → Type 0 where
-  accepted : (T : Table) → SoundTable T → Reached (freshModule T)
-  refused : Reached emptyModule
+  read : (input : List ℕ) → Reached (readTable input .state)
   stepped : (m : Module) (e : EventT) → Reached m → Reached (step m e .state)
 
 -- ---------------------------------------------------------------- the tick with no partition passed over

@@ -1,4 +1,4 @@
--- What a test and a list of checks settle, and what an id inside its limit names, and one outside. Assumes nothing.
+-- What a test settles, and what an id inside its limit names, and one outside. Assumes nothing.
 use Prim.Native.Nat.{ℕ, zero, suc, _+_, _-_, _≤_, _<_}
 use mathlib.Core.Path.{_≡_, refl, ap, sym, _∙_}
 use mathlib.Core.Bool.{Bool, true, false, cond, not, _&&_, _||_, and-false}
@@ -11,21 +11,14 @@ use lib.Dec.{eqb, ltb, leb}
 use borrow.Author.Tests.{lt-ltb, le-ltb, le-leb, lt-leb, ltb-true, ltb-false, leb-true, eqb-true, eqb-false}
 use Rattle.machine.specs.declared.Process.{Process}
 use Rattle.machine.specs.declared.Partition.{Partition}
-use Rattle.machine.specs.declared.Context.{Context}
-use Rattle.machine.specs.declared.Called.{Called}
-use Rattle.machine.specs.declared.Request.{Request}
-use Rattle.machine.specs.declared.Field.the-variants.{Number}
 use Rattle.machine.specs.Limits.{processLimit, semaphoreLimit, eventLimit}
-use Rattle.machine.specs.Field.{numberOf}
 use Rattle.machine.specs.Ids.{follow}
 use Rattle.machine.specs.Process.{blankProcess, ready, onObject}
 use Rattle.machine.specs.Partition.{within, named, replaced, noSemaphore, noEvent, withSemaphores, withEvents, withProcesses, stored}
-use Rattle.machine.specs.Calls.{checked, refused, unknown, setMode, createProcess, start, stop, stopSelf, suspend, suspendSelf, timedWait, periodicWait, resume, setPriority, getStatus, createSemaphore, createEvent, withValue, withUp, waitSemaphore, waitEvent, signal, setEvent, resetEvent, partitionCall}
+use Rattle.machine.specs.Calls.{unknown, withValue, withUp}
+use Rattle.machine.proofs.Tests.{by-test, or-left, or-right, and-left, and-right}
 
 -- ---------------------------------------------------------------- tests
-pub differ : {P : Type 0} {b : Bool} → b ≡ true → b ≡ false → P
-differ {b} t f = absurd (let z : _≡_ {A = ℕ} 0 1 = cc in omega arith)
-
 pub not-so : (b : Bool) → (b ≡ true → ⊥) → b ≡ false
 not-so true h = absurd (h refl)
 not-so false h = refl
@@ -41,27 +34,16 @@ same-or-not a b = go (eqb a b) refl
     go true e = inl (eqb-true a b e)
     go false e = inr (eqb-false a b e)
 
+-- the value of a test, with what it tells
+pub either : {P : Type 0} (b : Bool) → (b ≡ true → P) → (b ≡ false → P) → P
+either true f g = f refl
+either false f g = g refl
+
 pub or-false-parts : (a b : Bool) → (a || b) ≡ false → (a ≡ false) × (b ≡ false)
-or-false-parts true b e = differ refl e
-or-false-parts false b e = (refl, e)
+or-false-parts a b h = (or-left a b h, or-right a b h)
 
 pub and-true-parts : (a b : Bool) → (a && b) ≡ true → (a ≡ true) × (b ≡ true)
-and-true-parts true b e = (refl, e)
-and-true-parts false b e = differ e refl
-
-pub by-test : {A : Type 0} (P : A → Type 0) (b : Bool) (x y : A) → (b ≡ true → P x) → (b ≡ false → P y) → P (cond b x y)
-by-test P true x y f g = f refl
-by-test P false x y f g = g refl
-
--- every test of a list of checks is passed
-unfoldable pub Passed : List (Bool × ℕ) → Type 0
-Passed [] = Unit {0}
-Passed ((test, code) ∷ l) = (test ≡ false) × Passed l
-
-pub by-checks : {A : Type 0} (P : A → Type 0) (refuse : ℕ → A) (l : List (Bool × ℕ)) (accepted : A) → ((n : ℕ) → P (refuse n)) → (Passed l → P accepted) → P (checked refuse l accepted)
-unfolding checked Passed
-by-checks P refuse [] accepted f g = g tt
-by-checks P refuse ((test, code) ∷ l) accepted f g = by-test P test _ _ (λ e. f code) (λ e. by-checks P refuse l accepted f (λ h. g (e, h)))
+and-true-parts a b h = (and-left a b h, and-right a b h)
 
 -- an id that is known
 pub known-id : (id count : ℕ) → unknown id count ≡ false → (1 ≤ id) × (id ≤ count)
@@ -114,13 +96,13 @@ module _ (limit id : ℕ) where
         go false = refl
 
 getD-replicate-any : {A : Type 0} (n i : ℕ) (a : A) → getD (replicate n a) i a ≡ a
-getD-replicate-any n i a = by-test (λ (t : ℕ). getD (replicate n a) i a ≡ a) (ltb i n) 0 0
+getD-replicate-any n i a = either (ltb i n)
     (λ e. getD-replicate n i a a (ltb-true i n e))
     (λ e. List·getD-eq-default (replicate n a) a (rw (length-replicate n a) (ltb-false i n e)))
 
 pub named-replicate : {A : Type 0} (limit n id : ℕ) (a : A) → named limit a id (replicate n a) ≡ a
 unfolding named
-named-replicate limit n id a = by-test (λ (y : _). y ≡ a) (within limit id) _ _ (λ _. getD-replicate-any n (id - 1) a) (λ _. refl)
+named-replicate limit n id a = by-test (λ (y : _). y ≡ a) (within limit id) (λ _. getD-replicate-any n (id - 1) a) (λ _. refl)
 
 -- what an id names after another, or the same, has been replaced
 module _ {A : Type 0} (limit : ℕ) (d : A) (id : ℕ) (a : A) (l : List A) (lo : 1 ≤ id) where
@@ -134,56 +116,6 @@ module _ {A : Type 0} (limit : ℕ) (d : A) (id : ℕ) (a : A) (l : List A) (lo 
       go : (b : Bool) → within limit y ≡ b → cond b (getD (set l (id - 1) a) (y - 1) d) d ≡ cond b (getD l (y - 1) d) d
       go true e = let k = within-out limit y e in getD-set-other l (id - 1) (y - 1) a d (λ s. ne (omega arith))
       go false e = refl
-
--- ---------------------------------------------------------------- calls 1 to 20
--- what holds of each call's body, with the fields that it has
-pub record EachCall (P : Called → Type 0) (c : Context) (r : Request) (p : Partition) : Type 0 where
-  pub call1 : P (setMode c (r .a) p)
-  pub call2 : P (createProcess c r p)
-  pub call3 : P (start c (numberOf (r .a)) (Number 0) p)
-  pub call4 : P (start c (numberOf (r .a)) (r .b) p)
-  pub call5 : P (stop c (numberOf (r .a)) p)
-  pub call6 : P (stopSelf c p)
-  pub call7 : P (suspend c (numberOf (r .a)) p)
-  pub call8 : P (suspendSelf c (r .a) p)
-  pub call9 : P (timedWait c (r .a) p)
-  pub call10 : P (periodicWait c p)
-  pub call11 : P (resume c (numberOf (r .a)) p)
-  pub call12 : P (setPriority (numberOf (r .a)) (r .b) p)
-  pub call13 : P (getStatus c (numberOf (r .a)) p)
-  pub call14 : P (createSemaphore r p)
-  pub call15 : P (waitSemaphore c (numberOf (r .a)) (r .b) p)
-  pub call16 : P (signal (numberOf (r .a)) p)
-  pub call17 : P (createEvent (r .a) p)
-  pub call18 : P (setEvent (numberOf (r .a)) p)
-  pub call19 : P (resetEvent (numberOf (r .a)) p)
-  pub call20 : P (waitEvent c (numberOf (r .a)) (r .b) p)
-  pub none : P (refused p 13)
-
-pub by-call : (P : Called → Type 0) (c : Context) (n : ℕ) (r : Request) (p : Partition) → EachCall P c r p → P (partitionCall c n r p)
-unfolding partitionCall
-by-call P c n r p h =
-    by-test P (eqb n 1) _ _ (λ _. h .call1) (λ _.
-    by-test P (eqb n 2) _ _ (λ _. h .call2) (λ _.
-    by-test P (eqb n 3) _ _ (λ _. h .call3) (λ _.
-    by-test P (eqb n 4) _ _ (λ _. h .call4) (λ _.
-    by-test P (eqb n 5) _ _ (λ _. h .call5) (λ _.
-    by-test P (eqb n 6) _ _ (λ _. h .call6) (λ _.
-    by-test P (eqb n 7) _ _ (λ _. h .call7) (λ _.
-    by-test P (eqb n 8) _ _ (λ _. h .call8) (λ _.
-    by-test P (eqb n 9) _ _ (λ _. h .call9) (λ _.
-    by-test P (eqb n 10) _ _ (λ _. h .call10) (λ _.
-    by-test P (eqb n 11) _ _ (λ _. h .call11) (λ _.
-    by-test P (eqb n 12) _ _ (λ _. h .call12) (λ _.
-    by-test P (eqb n 13) _ _ (λ _. h .call13) (λ _.
-    by-test P (eqb n 14) _ _ (λ _. h .call14) (λ _.
-    by-test P (eqb n 15) _ _ (λ _. h .call15) (λ _.
-    by-test P (eqb n 16) _ _ (λ _. h .call16) (λ _.
-    by-test P (eqb n 17) _ _ (λ _. h .call17) (λ _.
-    by-test P (eqb n 18) _ _ (λ _. h .call18) (λ _.
-    by-test P (eqb n 19) _ _ (λ _. h .call19) (λ _.
-    by-test P (eqb n 20) _ _ (λ _. h .call20) (λ _.
-    h .none))))))))))))))))))))
 
 -- ---------------------------------------------------------------- what a partition's stores do
 module _ (id : ℕ) (x : Process) (p : Partition) where

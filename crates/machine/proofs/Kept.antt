@@ -28,7 +28,10 @@ use Rattle.machine.specs.Process.{createdProcess, blankProcess, later, o
 use Rattle.machine.specs.Partition.{normalMode, idleMode, named, replaced, nothingCreated, noSemaphore, noEvent, process, semaphore, event, withMode, withProcesses, stored, arrivedLast, waitsOn, waiters, ended, endedAll, each, running, tickPartition, enteredNormal, freshPartition}
 use Rattle.machine.specs.Calls.{refused, answered, answeredWith, blocked, checked, startMode, unknown, dormant, setMode, isMultiple, above, isPriority, admissible, withNewProcess, createProcess, reaches, start, stop, stopSelf, suspend, suspendSelf, timedWait, periodicWait, resume, setPriority, getStatus, createSemaphore, createEvent, withValue, withUp, queued, waitSemaphore, waitEvent, oneMore, signalled, signal, setEvent, resetEvent, partitionCall}
 use Rattle.machine.specs.Valid.{Between, contains, Distinct, Tracks, Timeout, Ahead, SoundPeriod, SoundCapacity, NotAbove, Below, SoundGiven, KnownWait, Setting, setting, SoundProcess, SoundSemaphore, SoundEvent, Numbered, Listed, ListedIn, Objects, ObjectsIn, settingOf, Valid, SoundContext}
-use Rattle.machine.proofs.Bounds.{differ, not-so, so, same-or-not, or-false-parts, and-true-parts, by-test, Passed, by-checks, by-call, known-id, within-in, named-in, named-same, named-other, replaced-in, named-replicate, value-in, up-in}
+use Rattle.machine.proofs.Tests.{by-test, Passed, by-checks, not-both}
+use Rattle.machine.proofs.Bounds.{not-so, so, same-or-not, or-false-parts, and-true-parts, known-id, within-in, named-in, named-same, named-other, replaced-in, named-replicate, value-in, up-in, either}
+use Rattle.machine.proofs.Dispatch.{by-call}
+use Rattle.machine.proofs.Fields.{in-limits}
 use Rattle.machine.proofs.Tracking.{contains-kept, distinct-kept, tracks-same}
 use Rattle.machine.proofs.Keeping.{numbered-set, all-set, process-created, process-stored, each-rest, each-listed, each-process, changedAll, ended-changed, AllCreated, changed-rest, changed-listed, changed-process, valid-of, stored-valid, arrived-valid}
 use Rattle.machine.proofs.Sound.{outside-normal, ahead-later, created-sound, start-sound, entered-sound, early-sound, stopped-sound, suspended-sound, priority-sound, resumed-sound, ended-sound, ready-released, waiting-sound, suspends-sound, next-sound, ticked-sound}
@@ -37,7 +40,7 @@ use Rattle.machine.proofs.Running.{running-runs}
 -- ---------------------------------------------------------------- the tick
 pub tick-valid : (frame t : ℕ) (p : Partition) → Valid frame t p → Valid frame (t + 1) (tickPartition (t + 1) p)
 unfolding tickPartition
-tick-valid frame t p v = by-test (Valid frame (t + 1)) (normalMode p) _ p
+tick-valid frame t p v = by-test (Valid frame (t + 1)) (normalMode p)
     (λ e. valid-of frame (t + 1) p (each (ticked (t + 1)) p) (each-rest (ticked (t + 1)) p (v .lists)) (v .mode) (v .objects) (each-listed (ticked (t + 1)) p (v .lists)) (λ id b.
     rw (each-process (ticked (t + 1)) p (v .lists) id b) (ticked-sound frame t (p .semaphoreCount) (p .eventCount) (normalMode p) e (process id p) (v .eachProcess id b))))
     (λ e. record {
@@ -74,23 +77,18 @@ unfolding freshPartition
 fresh-valid frame t = let v = nothing-valid frame t 1 (omega arith) in record { mode = v .mode; lists = v .lists; objects = v .objects; eachProcess = v .eachProcess }
 
 -- ---------------------------------------------------------------- what checks tell of fields
-pub between-number : (low high : ℕ) (f : Field) → between low high f ≡ true → Between low high (numberOf f)
-between-number low high (Number n) h = let r = and-true-parts (leb low n) (leb n high) h in (leb-true low n (r .0), leb-true n high (r .1))
-between-number low high MinusOne h = differ h refl
-between-number low high Other h = differ h refl
-
 not-zero : (n : ℕ) → isNumber 0 (Number n) ≡ false → n ≡ 0 → ⊥
 not-zero n h e = eqb-false n 0 h e
 
 duration-ahead : (t : ℕ) (a : Field) → t ≤ timeLimit → isDuration a ≡ true → isNumber 0 a ≡ false → Ahead t (later (At t) (timeOf a))
-duration-ahead t (Number n) ends h z = ahead-later t n ends (not-zero n z) (between-number 0 durationLimit (Number n) h .1)
-duration-ahead t MinusOne ends h z = differ h refl
-duration-ahead t Other ends h z = differ h refl
+duration-ahead t (Number n) ends h z = ahead-later t n ends (not-zero n z) (in-limits 0 durationLimit (Number n) h .1)
+duration-ahead t MinusOne ends h z = not-both _ h refl
+duration-ahead t Other ends h z = not-both _ h refl
 
 timeout-ahead : (t : ℕ) (a : Field) → t ≤ timeLimit → isTimeout a ≡ true → isNumber 0 a ≡ false → Timeout t (later (At t) (timeOf a))
-timeout-ahead t (Number n) ends h z = ahead-later t n ends (not-zero n z) (between-number 0 durationLimit (Number n) h .1)
+timeout-ahead t (Number n) ends h z = ahead-later t n ends (not-zero n z) (in-limits 0 durationLimit (Number n) h .1)
 timeout-ahead t MinusOne ends h z = tt
-timeout-ahead t Other ends h z = differ h refl
+timeout-ahead t Other ends h z = not-both _ h refl
 
 -- ---------------------------------------------------------------- semaphores and events
 module _ (frame t : ℕ) (p : Partition) (v : Valid frame t p) (k : ℕ) where
@@ -137,7 +135,7 @@ module _ (p : Partition) (v : ListedIn p) (o : ℕ) where
 
   pub waiters-exact : (o ≡ 0 → ⊥) → (id : ℕ) → contains id (waiters o p) ≡ waitsOn o p id
   unfolding waiters
-  waiters-exact some id = contains-kept (waitsOn o p) id (members (p .waiting)) ∙ rw (v .waitings .exact id) (by-test (λ (n : ℕ). (waitsOn o p id && onObject (process id p)) ≡ waitsOn o p id) (waitsOn o p id) 0 0
+  waiters-exact some id = contains-kept (waitsOn o p) id (members (p .waiting)) ∙ rw (v .waitings .exact id) (either (waitsOn o p id)
       (λ e. rw (e, ne-eqb (object (process id p .wait)) 0 (λ z. some (sym (eqb-true _ o e) ∙ z))))
       (λ e. rw e))
 
@@ -190,8 +188,8 @@ module _ (c : Context) (p : Partition) (v : Valid (c .frame) (c .time) p) where
       let b = known-id id (p .processCount) (h .0) in
       let x = process id p in
       let y = withCurrent (numberOf a) x in
-      let w = puts id b y (priority-sound _ x (v .eachProcess id b) (not-false (x .started) (h .1 .1 .0)) (numberOf a) (between-number 1 priorityLimit a (not-false _ (h .1 .0)))) in
-      by-test (Valid (c .frame) (c .time)) (ready x) _ _
+      let w = puts id b y (priority-sound _ x (v .eachProcess id b) (not-false (x .started) (h .1 .1 .0)) (numberOf a) (in-limits 1 priorityLimit a (not-false _ (h .1 .0)))) in
+      by-test (Valid (c .frame) (c .time)) (ready x)
       (λ e. arrived-valid (c .frame) (c .time) (stored id y p) w id (rw (process-stored p id y (v .lists) b) e))
       (λ _. w))
 
@@ -211,7 +209,7 @@ module _ (c : Context) (p : Partition) (v : Valid (c .frame) (c .time) p) where
   unfolding signalled contains
   signalled-valid [] k b below on all =
       let s = v .objects .eachSemaphore k b in
-      value-valid (c .frame) (c .time) p v k b (oneMore (semaphore k p .value)) (by-test (λ (n : ℕ). n ≤ semaphore k p .max) (ltb (semaphore k p .value) greatestValue) _ _ (λ _. omega (arith, s .value)) (λ _. s .value))
+      value-valid (c .frame) (c .time) p v k b (oneMore (semaphore k p .value)) (by-test (λ (n : ℕ). n ≤ semaphore k p .max) (ltb (semaphore k p .value) greatestValue) (λ _. omega (arith, s .value)) (λ _. s .value))
   signalled-valid (id ∷ l) k b below on all = let i : (eqb id id || contains id l) ≡ true = rw (eq-eqb id id refl) in ended-valid id (all id i) (on id i)
 
   pub signal-valid : (k : ℕ) → KeptBy c (signal k p)
@@ -225,7 +223,7 @@ module _ (c : Context) (p : Partition) (v : Valid (c .frame) (c .time) p) where
   ended-all-valid l dis on all =
       let f = waitEnded 0 in
       rw (ended-changed l p) (valid-of (c .frame) (c .time) p (changedAll f l p) (changed-rest f l p) (v .mode) (v .objects) (changed-listed f l p (v .lists) all) (λ id b.
-      rw (changed-process f l p (v .lists) all dis id) (by-test (SoundProcess (settingOf (c .frame) (c .time) p)) (contains id l) _ _
+      rw (changed-process f l p (v .lists) all dis id) (by-test (SoundProcess (settingOf (c .frame) (c .time) p)) (contains id l)
       (λ e. ended-sound _ (process id p) (v .eachProcess id b) (on id e))
       (λ _. v .eachProcess id b))))
 
@@ -246,7 +244,7 @@ running-caller p v some = let k = running-runs p v some .isReady in record { cre
 
 module _ (c : Context) (p : Partition) (v : Valid (c .frame) (c .time) p) (k : SoundContext c p) where
   normal-caller : normalMode p ≡ true → Caller (c .caller) p
-  normal-caller n = rw (k .caller) (running-caller p (v .lists) (λ z. differ (rw (n, z)) (or-false-parts (idleMode p) _ (k .calls) .1)))
+  normal-caller n = rw (k .caller) (running-caller p (v .lists) (λ z. not-both _ (rw (n, z)) (or-false-parts (idleMode p) _ (k .calls) .1)))
 
   -- not a start mode
   in-normal : startMode p ≡ false → normalMode p ≡ true
@@ -260,9 +258,9 @@ module _ (c : Context) (p : Partition) (v : Valid (c .frame) (c .time) p) (k : S
       let l = v .eachProcess id b .lasting in
       let d = v .eachProcess id b .dormant (not-true _ (not-false _ (h .1 .1 .0))) in
       let f = or-false-parts _ (reaches (x .given .period) (numberOf delay)) (h .1 .0) in
-      let short = between-number 0 durationLimit delay (not-false _ (f .0)) .1 in
+      let short = in-limits 0 durationLimit delay (not-false _ (f .0)) .1 in
       let below = reaches-below (x .given .period) (numberOf delay) (f .1) in
-      puts c p v id b _ (by-test (SoundProcess (settingOf (c .frame) (c .time) p)) (normalMode p) _ _
+      puts c p v id b _ (by-test (SoundProcess (settingOf (c .frame) (c .time) p)) (normalMode p)
       (λ e. start-sound c (k .time) (k .frame .1) (k .near) (normalMode p) e (p .semaphoreCount) (p .eventCount) (numberOf delay) x l (d .times .release) short below)
       (λ e. early-sound _ x l (d .times) e (numberOf delay) short below)))
 
@@ -279,7 +277,7 @@ module _ (c : Context) (p : Partition) (v : Valid (c .frame) (c .time) p) (k : S
       let n = in-normal (f .0) in
       let q = normal-caller n in
       let x = process (c .caller) p in
-      by-test (KeptBy c) (isNumber 0 a) _ _
+      by-test (KeptBy c) (isNumber 0 a)
       (λ _. v)
       (λ e. puts c p v (c .caller) (q .created) _ (suspends-sound _ x (v .eachProcess (c .caller) (q .created)) n (q .isReady) (f .1) _ (timeout-ahead (c .time) a (k .time) (not-false _ (h .1 .0)) e))))
 
@@ -290,7 +288,7 @@ module _ (c : Context) (p : Partition) (v : Valid (c .frame) (c .time) p) (k : S
       let q = normal-caller n in
       let x = process (c .caller) p in
       let g = v .eachProcess (c .caller) (q .created) in
-      by-test (KeptBy c) (isNumber 0 a) _ _
+      by-test (KeptBy c) (isNumber 0 a)
       (λ _. arrived-valid (c .frame) (c .time) p v (c .caller) (q .isReady))
       (λ e. puts c p v (c .caller) (q .created) _ (waiting-sound _ x g n (q .isReady) Timed tt _ (duration-ahead (c .time) a (k .time) (not-false _ (h .1 .0)) e) (ready-released _ x g n (q .isReady)))))
 
@@ -314,7 +312,7 @@ module _ (c : Context) (p : Partition) (v : Valid (c .frame) (c .time) p) (k : S
       let n = in-normal (h .1 .0) in
       let q = normal-caller n in
       let g = v .eachProcess (c .caller) (q .created) in
-      by-test (KeptBy c) (ltb 0 (semaphore j p .value)) _ _
+      by-test (KeptBy c) (ltb 0 (semaphore j p .value))
       (λ _. value-valid (c .frame) (c .time) p v j o (semaphore j p .value - 1) (omega (arith, v .objects .eachSemaphore j o .value)))
       (λ _. queued-valid n a (not-false _ (h .1 .1 .0)) (Semaphore j) (λ u f. waiting-sound _ (process (c .caller) p) g n (q .isReady) (Semaphore j) o u f (ready-released _ (process (c .caller) p) g n (q .isReady)))))
 
@@ -324,7 +322,7 @@ module _ (c : Context) (p : Partition) (v : Valid (c .frame) (c .time) p) (k : S
       let n = in-normal (h .1 .0) in
       let q = normal-caller n in
       let g = v .eachProcess (c .caller) (q .created) in
-      by-test (KeptBy c) (event j p .up) _ _
+      by-test (KeptBy c) (event j p .up)
       (λ _. v)
       (λ _. queued-valid n a (not-false _ (h .1 .1 .0)) (Event j) (λ u f. waiting-sound _ (process (c .caller) p) g n (q .isReady) (Event j) (known-id j (p .eventCount) (h .0)) u f (ready-released _ (process (c .caller) p) g n (q .isReady)))))
 
@@ -340,15 +338,15 @@ module _ (c : Context) (p : Partition) (v : Valid (c .frame) (c .time) p) (k : S
   pub set-mode-valid : (a : Field) → KeptBy c (setMode c a p)
   unfolding setMode Passed
   set-mode-valid a = by-checks (KeptBy c) (refused p) _ _ (λ n. v) (λ h.
-      by-test (Valid (c .frame) (c .time)) (isNumber 3 a) _ _
+      by-test (Valid (c .frame) (c .time)) (isNumber 3 a)
       (λ e. entered-valid (rw e at (h .1 .0)))
-      (λ e. nothing-valid (c .frame) (c .time) (numberOf a) (between-number 0 3 a (not-false _ (h .0)) .1)))
+      (λ e. nothing-valid (c .frame) (c .time) (numberOf a) (in-limits 0 3 a (not-false _ (h .0)) .1)))
 
 -- ---------------------------------------------------------------- what CREATE_PROCESS admits
 field-period : (frame : ℕ) (f : Field) → (isMinusOne f || isMultiple frame f) ≡ true → SoundPeriod frame (timeOf f)
 field-period frame (Number n) h =
     let r = and-true-parts (between 1 durationLimit (Number n)) _ h in
-    (between-number 1 durationLimit (Number n) (r .0), eqb-true (n % frame) 0 (and-true-parts (not (eqb frame 0)) _ (r .1) .1))
+    (in-limits 1 durationLimit (Number n) (r .0), eqb-true (n % frame) 0 (and-true-parts (not (eqb frame 0)) _ (r .1) .1))
 field-period frame MinusOne h = tt
 field-period frame Other h = tt
 
@@ -358,7 +356,7 @@ field-above n MinusOne h = tt
 field-above n Other h = tt
 
 field-capacity : (e f : Field) → (isMinusOne e || between 1 durationLimit e) ≡ true → not (above e f) ≡ true → SoundCapacity (timeOf f) (timeOf e)
-field-capacity (Number n) f h k = (between-number 1 durationLimit (Number n) h, field-above n f k)
+field-capacity (Number n) f h k = (in-limits 1 durationLimit (Number n) h, field-above n f k)
 field-capacity MinusOne f h k = tt
 field-capacity Other f h k = tt
 
@@ -372,8 +370,8 @@ admitted c r h =
     let h3 = and-true-parts (isMinusOne (r .c) || isMultiple (c .frame) (r .c)) _ (h2 .1) in
     let h4 = and-true-parts (isMinusOne (r .e) || between 1 durationLimit (r .e)) _ (h3 .1) in
     record {
-      name = between-number 1 nameLimit (r .a) (h1 .0);
-      base = between-number 1 priorityLimit (r .b) (h2 .0);
+      name = in-limits 1 nameLimit (r .a) (h1 .0);
+      base = in-limits 1 priorityLimit (r .b) (h2 .0);
       period = field-period (c .frame) (r .c) (h3 .0);
       capacity = field-capacity (r .e) (r .c) (h4 .0) (h4 .1);
     }
@@ -419,7 +417,7 @@ module _ (c : Context) (p : Partition) (v : Valid (c .frame) (c .time) p) where
           semaphores = numbered-set (o .semaphores) n _ n (omega arith) (omega arith, omega arith) (omega arith);
           events = o .events;
           eachSemaphore = all-set (o .semaphores) n _ n (omega arith) (omega arith, omega arith) (omega arith) SoundSemaphore
-              (record { name = between-number 1 nameLimit (r .a) (f .0); value = between-number 0 (numberOf (r .c)) (r .b) (g .1) .1; max = between-number 1 valueLimit (r .c) (g .0) })
+              (record { name = in-limits 1 nameLimit (r .a) (f .0); value = in-limits 0 (numberOf (r .c)) (r .b) (g .1) .1; max = in-limits 1 valueLimit (r .c) (g .0) })
               (λ y b ne. o .eachSemaphore y (b .0, omega (arith, b .1, ne)));
           eachEvent = o .eachEvent;
         };
@@ -440,7 +438,7 @@ module _ (c : Context) (p : Partition) (v : Valid (c .frame) (c .time) p) where
           events = numbered-set (o .events) n _ n (omega arith) (omega arith, omega arith) (omega arith);
           eachSemaphore = o .eachSemaphore;
           eachEvent = all-set (o .events) n _ n (omega arith) (omega arith, omega arith) (omega arith) SoundEvent
-              (record { name = between-number 1 nameLimit name (not-false _ (h .1 .1 .0)) })
+              (record { name = in-limits 1 nameLimit name (not-false _ (h .1 .1 .0)) })
               (λ y b ne. o .eachEvent y (b .0, omega (arith, b .1, ne)));
         };
         eachProcess = λ id b. outside-normal (settingOf (c .frame) (c .time) p) _ (process id p) (h .1 .1 .1 .0) (h .1 .1 .1 .0) refl (v .eachProcess id b);
@@ -448,26 +446,26 @@ module _ (c : Context) (p : Partition) (v : Valid (c .frame) (c .time) p) where
 
 -- ---------------------------------------------------------------- every call
 pub call-valid : (c : Context) (n : ℕ) (r : Request) (p : Partition) → Valid (c .frame) (c .time) p → SoundContext c p → KeptBy c (partitionCall c n r p)
-call-valid c n r p v k = by-call (KeptBy c) c n r p (record {
-  call1 = set-mode-valid c p v k (r .a);
-  call2 = create-process-valid c p v r;
-  call3 = start-valid c p v k (numberOf (r .a)) (Number 0);
-  call4 = start-valid c p v k (numberOf (r .a)) (r .b);
-  call5 = stop-valid c p v (numberOf (r .a));
-  call6 = stop-self-valid c p v k;
-  call7 = suspend-valid c p v (numberOf (r .a));
-  call8 = suspend-self-valid c p v k (r .a);
-  call9 = timed-valid c p v k (r .a);
-  call10 = periodic-valid c p v k;
-  call11 = resume-valid c p v (numberOf (r .a));
-  call12 = priority-valid c p v (numberOf (r .a)) (r .b);
-  call13 = status-valid c p v (numberOf (r .a));
-  call14 = create-semaphore-valid c p v r;
-  call15 = wait-semaphore-valid c p v k (numberOf (r .a)) (r .b);
-  call16 = signal-valid c p v (numberOf (r .a));
-  call17 = create-event-valid c p v (r .a);
-  call18 = set-event-valid c p v (numberOf (r .a));
-  call19 = reset-valid c p v (numberOf (r .a));
-  call20 = wait-event-valid c p v k (numberOf (r .a)) (r .b);
-  none = v;
-})
+call-valid c n r p v k =
+    by-call c n r p (KeptBy c)
+    (set-mode-valid c p v k (r .a))
+    (create-process-valid c p v r)
+    (start-valid c p v k (numberOf (r .a)) (Number 0))
+    (start-valid c p v k (numberOf (r .a)) (r .b))
+    (stop-valid c p v (numberOf (r .a)))
+    (stop-self-valid c p v k)
+    (suspend-valid c p v (numberOf (r .a)))
+    (suspend-self-valid c p v k (r .a))
+    (timed-valid c p v k (r .a))
+    (periodic-valid c p v k)
+    (resume-valid c p v (numberOf (r .a)))
+    (priority-valid c p v (numberOf (r .a)) (r .b))
+    (status-valid c p v (numberOf (r .a)))
+    (create-semaphore-valid c p v r)
+    (wait-semaphore-valid c p v k (numberOf (r .a)) (r .b))
+    (signal-valid c p v (numberOf (r .a)))
+    (create-event-valid c p v (r .a))
+    (set-event-valid c p v (numberOf (r .a)))
+    (reset-valid c p v (numberOf (r .a)))
+    (wait-event-valid c p v k (numberOf (r .a)) (r .b))
+    (λ _. v)

@@ -14,7 +14,8 @@ use Rattle.machine.specs.Ids.{members}
 use Rattle.machine.specs.Process.{ready}
 use Rattle.machine.specs.Partition.{normalMode, process, preferred, chosen, running}
 use Rattle.machine.specs.Valid.{Between, contains, ListedIn, Runs}
-use Rattle.machine.proofs.Bounds.{differ, so, by-test}
+use Rattle.machine.proofs.Tests.{by-test, not-both}
+use Rattle.machine.proofs.Bounds.{so, either}
 use Rattle.machine.proofs.Keeping.{process-created}
 
 abbrev priorityOf : Partition → ℕ → ℕ
@@ -36,7 +37,7 @@ data Scanned (p : Partition) (c : Choice) (l : List ℕ) : Choice → Type 0 whe
 -- what holds of one id and of each of a list holds of both together
 in-front : (P : ℕ → Type 0) (id : ℕ) (l : List ℕ) → P id → ((y : ℕ) → contains y l ≡ true → P y) → (y : ℕ) → contains y (id ∷ l) ≡ true → P y
 unfolding contains
-in-front P id l here there y h = by-test (λ (k : ℕ). P y) (eqb id y) 0 0
+in-front P id l here there y h = either (eqb id y)
     (λ e. rw (eqb-true id y e) at here)
     (λ e. there y (rw e at h))
 
@@ -52,7 +53,7 @@ module _ (p : Partition) (id : ℕ) (l : List ℕ) where
 
   first-here : ((y : ℕ) → contains y l ≡ true → priorityOf p y ≤ priorityOf p id) → First p (id ∷ l) id
   unfolding contains
-  first-here h = record { before = []; after = l; split = refl; smaller = λ y e. differ e refl; notGreater = h }
+  first-here h = record { before = []; after = l; split = refl; smaller = λ y e. not-both _ e refl; notGreater = h }
 
   -- the scan went on from id
   taken : (c d : Choice) → c .priority < priorityOf p id → Scanned p (record { id = id; priority = priorityOf p id }) l d → Scanned p c (id ∷ l) d
@@ -78,10 +79,10 @@ proper-head id l h = (h id (rw (eq-eqb id id refl)), λ y e. h y (rw e (or-true 
 
 scanned : (p : Partition) (l : List ℕ) (c : Choice) → (c .id ≡ 0 → ⊥) → Proper l → Scanned p c l (chosen p c l)
 unfolding chosen contains
-scanned p [] c some all = stays (λ y e. differ e refl)
+scanned p [] c some all = stays (λ y e. not-both _ e refl)
 scanned p (id ∷ l) c some all =
     let r = proper-head id l all in
-    by-test (λ (d : Choice). Scanned p c (id ∷ l) (chosen p d l)) (eqb (c .id) 0 || ltb (c .priority) (priorityOf p id)) _ c
+    by-test (λ (d : Choice). Scanned p c (id ∷ l) (chosen p d l)) (eqb (c .id) 0 || ltb (c .priority) (priorityOf p id))
     (λ e. taken p id l c _ (ltb-true (c .priority) (priorityOf p id) (rw (ne-eqb (c .id) 0 some) at e)) (scanned p l _ (r .0) (r .1)))
     (λ e. passed p id l c _ (ltb-false (c .priority) (priorityOf p id) (rw (ne-eqb (c .id) 0 some) at e)) (scanned p l c some (r .1)))
 
@@ -128,14 +129,14 @@ module _ (p : Partition) (v : ListedIn p) where
 
   runs-some : (l : List ℕ) → members (p .arrival) ≡ l → (id : ℕ) → ready (process id p) ≡ true → chosen p noChoice l .id ≡ 0 → ⊥
   unfolding contains
-  runs-some [] e id k z = differ k (sym (v .arrivals .exact id) ∙ rw e)
+  runs-some [] e id k z = not-both _ k (sym (v .arrivals .exact id) ∙ rw e)
   runs-some (x ∷ l) e id k z =
       let q : Proper (x ∷ l) = rw e at proper in
       q _ (first-member p (x ∷ l) _ (first-chosen p x l q)) z
 
   pub running-runs : (running p ≡ 0 → ⊥) → Runs p (running p)
   unfolding running
-  running-runs = by-test (λ (r : ℕ). (r ≡ 0 → ⊥) → Runs p r) (normalMode p) _ 0 (λ _. ran (members (p .arrival)) refl) (λ _ some. absurd (some refl))
+  running-runs = by-test (λ (r : ℕ). (r ≡ 0 → ⊥) → Runs p r) (normalMode p) (λ _. ran (members (p .arrival)) refl) (λ _ some. absurd (some refl))
 
   -- a process runs exactly where the mode is NORMAL and one is READY
   pub running-normal : (running p ≡ 0 → ⊥) → normalMode p ≡ true

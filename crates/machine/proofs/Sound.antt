@@ -17,14 +17,15 @@ use Rattle.machine.specs.declared.Time.the-variants.{Never, At}
 use Rattle.machine.specs.Limits.{priorityLimit, durationLimit, timeLimit, frameLimit, greatestTime}
 use Rattle.machine.specs.Process.{createdProcess, capped, later, due, isNever, periodic, onObject, object, waitsForNothing, waitsForNormal, ready, releasedAt, withWake, withDeadline, withDelay, waitEnded, withSuspended, withCurrent, waitingFor, suspendedUntil, woken, deadlineMissed, expired, ticked, begun, startedAperiodic, startedPeriodic, startRule, startedEarly, entered, stopped, resumed, nextRelease}
 use Rattle.machine.specs.Valid.{Between, latestWake, latestDeadline, AtMost, NotAfter, Ahead, Timeout, SoundPeriod, NotAbove, Below, SoundCapacity, SoundGiven, Timeless, Dormant, Early, KnownWait, SoundWake, Released, SoundRelease, Setting, setting, Going, Lasting, LastingIn, SoundCode, SoundMark, SoundProcess}
-use Rattle.machine.proofs.Bounds.{differ, not-so, so, and-true-parts, by-test}
+use Rattle.machine.proofs.Tests.{by-test, not-both}
+use Rattle.machine.proofs.Bounds.{not-so, so, and-true-parts}
 
 -- ---------------------------------------------------------------- sums of times
 pub later-plain : (m n : ℕ) → m + n ≤ greatestTime → later (At m) (At n) ≡ At (m + n)
 later-plain m n h = rw (le-leb (m + n) greatestTime h)
 
 capped-at-most : (n k : ℕ) → n ≤ k → capped n ≤ k
-capped-at-most n k h = by-test (λ (c : ℕ). c ≤ k) (leb n greatestTime) n greatestTime (λ _. h) (λ e. omega (arith, leb-false n greatestTime e))
+capped-at-most n k h = by-test (λ (c : ℕ). c ≤ k) (leb n greatestTime) (λ _. h) (λ e. omega (arith, leb-false n greatestTime e))
 
 pub later-not-after : (m n k : ℕ) (a b : Time) → NotAfter m a → NotAfter n b → m + n ≤ k → NotAfter k (later a b)
 later-not-after m n k Never b ha hb h = tt
@@ -53,19 +54,19 @@ capacity-bound period Never h = tt
 capacity-bound period (At n) h = h .0 .1
 
 period-bound : (frame : ℕ) (p : Time) → SoundPeriod frame p → isNever p ≡ false → AtMost durationLimit p
-period-bound frame Never h e = differ refl e
+period-bound frame Never h e = not-both _ refl e
 period-bound frame (At n) h e = h .0 .1
 
 -- ---------------------------------------------------------------- a sound process by what it is
 module _ (s : Setting) (x : Process) (l : LastingIn (s .frame) x) (c : SoundCode (x .code)) (m : SoundMark x) where
   pub as-dormant : x .started ≡ false → Dormant (x .wait) (x .suspended) (x .times) → SoundProcess s x
-  as-dormant e d = record { lasting = l; code = c; mark = m; dormant = λ _. d; early = λ a b. differ a e; going = λ a b. differ a e }
+  as-dormant e d = record { lasting = l; code = c; mark = m; dormant = λ _. d; early = λ a b. not-both _ a e; going = λ a b. not-both _ a e }
 
   pub as-early : x .started ≡ true → s .normal ≡ false → Early (x .wait) (x .times) → SoundProcess s x
-  as-early e n d = record { lasting = l; code = c; mark = m; dormant = λ a. differ e a; early = λ _ _. d; going = λ a b. differ b n }
+  as-early e n d = record { lasting = l; code = c; mark = m; dormant = λ a. not-both _ e a; early = λ _ _. d; going = λ a b. not-both _ b n }
 
   pub as-going : x .started ≡ true → s .normal ≡ true → Going s (x .given .period) (x .suspended) (x .wait) (x .times) → SoundProcess s x
-  as-going e n d = record { lasting = l; code = c; mark = m; dormant = λ a. differ e a; early = λ a b. differ n b; going = λ _ _. d }
+  as-going e n d = record { lasting = l; code = c; mark = m; dormant = λ a. not-both _ e a; early = λ a b. not-both _ n b; going = λ _ _. d }
 
 -- outside NORMAL neither the time nor the objects matter
 pub outside-normal : (s s′ : Setting) (x : Process) → s .normal ≡ false → s′ .normal ≡ false → s′ .frame ≡ s .frame → SoundProcess s x → SoundProcess s′ x
@@ -75,7 +76,7 @@ outside-normal s s′ x n n′ e h = record {
   mark = h .mark;
   dormant = h .dormant;
   early = λ a _. h .early a n;
-  going = λ a b. differ b n′;
+  going = λ a b. not-both _ b n′;
 }
 
 -- ---------------------------------------------------------------- lemmas on the parts, by their variables
@@ -85,7 +86,7 @@ zero-below frame (At n) h = h .0 .0
 
 -- a delay below a period
 delay-below : (frame delay : ℕ) (p : Time) → SoundPeriod frame p → isNever p ≡ false → Below p delay → delay < durationLimit
-delay-below frame delay Never h e b = differ refl e
+delay-below frame delay Never h e b = not-both _ refl e
 delay-below frame delay (At n) h e b = omega (arith, h .0)
 
 -- no wait and no wake time, whatever the mark
@@ -95,14 +96,14 @@ none-wake t false r = refl
 
 released-never : (t : ℕ) (p r : Time) → isNever p ≡ true → r ≡ Never → Released t p r
 released-never t Never r e h = h
-released-never t (At n) r e h = differ e refl
+released-never t (At n) r e h = not-both _ e refl
 
 released-at-most : (t : ℕ) (p r : Time) → isNever p ≡ false → AtMost t r → Released t p r
-released-at-most t Never r e h = differ refl e
+released-at-most t Never r e h = not-both _ refl e
 released-at-most t (At n) r e h = h
 
 at-most-released : (t : ℕ) (p r : Time) → isNever p ≡ false → Released t p r → AtMost t r
-at-most-released t Never r e h = differ refl e
+at-most-released t Never r e h = not-both _ refl e
 at-most-released t (At n) r e h = h
 
 released-more : (t : ℕ) (p r : Time) → Released t p r → Released (t + 1) p r
@@ -138,7 +139,7 @@ release-on t p (Semaphore k) r h = released-more t p r h
 release-on t p (Event k) r h = released-more t p r h
 
 due-at-most : (t : ℕ) (w : Time) → due t w ≡ true → AtMost t w
-due-at-most t Never e = differ e refl
+due-at-most t Never e = not-both _ e refl
 due-at-most t (At n) e = leb-true n t e
 
 -- one tick later, where w has come and the wait ends
@@ -155,9 +156,9 @@ release-ended t p mark (Event j) r w h k e = released-more t p r h
 release-object : (t : ℕ) (p : Time) (v : Wait) (r : Time) → not (eqb (object v) 0) ≡ true → SoundRelease t p v r → Released t p r
 release-object t p None r e h = h
 release-object t p Normal r e h = absurd h
-release-object t p Delay r e h = differ e refl
+release-object t p Delay r e h = not-both _ e refl
 release-object t p Timed r e h = h
-release-object t p Period r e h = differ e refl
+release-object t p Period r e h = not-both _ e refl
 release-object t p (Semaphore k) r e h = h
 release-object t p (Event k) r e h = h
 
@@ -173,7 +174,7 @@ wake-suspended t mark r (Semaphore k) w h = h
 wake-suspended t mark r (Event k) w h = h
 
 wake-resumed : (t : ℕ) (mark : Bool) (r : Time) (v : Wait) (w : Time) → waitsForNothing v ≡ false → SoundWake t mark r v w → SoundWake t false r v w
-wake-resumed t mark r None w e h = differ refl e
+wake-resumed t mark r None w e h = not-both _ refl e
 wake-resumed t mark r Normal w e h = h
 wake-resumed t mark r Delay w e h = h
 wake-resumed t mark r Timed w e h = h
@@ -183,12 +184,12 @@ wake-resumed t mark r (Event k) w e h = h
 
 for-nothing : (v : Wait) → waitsForNothing v ≡ true → v ≡ None
 for-nothing None e = refl
-for-nothing Normal e = differ e refl
-for-nothing Delay e = differ e refl
-for-nothing Timed e = differ e refl
-for-nothing Period e = differ e refl
-for-nothing (Semaphore k) e = differ e refl
-for-nothing (Event k) e = differ e refl
+for-nothing Normal e = not-both _ e refl
+for-nothing Delay e = not-both _ e refl
+for-nothing Timed e = not-both _ e refl
+for-nothing Period e = not-both _ e refl
+for-nothing (Semaphore k) e = not-both _ e refl
+for-nothing (Event k) e = not-both _ e refl
 
 -- ---------------------------------------------------------------- creating and starting
 no-times : (delay : ℕ) → Timeless (record { release = Never; deadline = Never; wake = Never; delay = delay })
@@ -196,7 +197,7 @@ no-times delay = record { release = refl; deadline = refl; wake = refl }
 
 pub created-sound : (s : Setting) (g : Given) → SoundGiven (s .frame) g → SoundProcess s (createdProcess g)
 created-sound s g h = as-dormant s (createdProcess g)
-    (record { given = h; current = omega arith; priority = λ e. differ e refl; delay = omega arith; early = zero-below (s .frame) (g .period) (h .period) })
+    (record { given = h; current = omega arith; priority = λ e. not-both _ e refl; delay = omega arith; early = zero-below (s .frame) (g .period) (h .period) })
     (inl refl) (and-false (not (isNever (g .period)))) refl
     (record { wait = refl; unmarked = refl; times = no-times 0 })
 
@@ -221,7 +222,7 @@ module _ (c : Context) (ends : c .time ≤ timeLimit) (frame : c .frame ≤ fram
     start-any mark clear n priority =
         let s = setting (c .frame) (c .time) normal a b in
         let l′ = with-current (c .frame) x l n priority true in
-        by-test (λ (y : Process). SoundProcess s (withSuspended mark (withCurrent n y))) (periodic x) _ _
+        by-test (λ (y : Process). SoundProcess s (withSuspended mark (withCurrent n y))) (periodic x)
         (λ k.
         let some = not-true (isNever (x .given .period)) k in
         as-going s _ l′ (inl refl) clear refl e (record {
@@ -232,7 +233,7 @@ module _ (c : Context) (ends : c .time ≤ timeLimit) (frame : c .frame ≤ fram
         }))
         (λ k.
         let never = not-false (isNever (x .given .period)) k in
-        by-test (λ (y : Process). SoundProcess s (withSuspended mark (withCurrent n y))) (eqb delay 0) _ _
+        by-test (λ (y : Process). SoundProcess s (withSuspended mark (withCurrent n y))) (eqb delay 0)
         (λ _. as-going s _ l′ (inl refl) clear refl e (record {
           wait = tt;
           wake = none-wake (c .time) mark (x .times .release);
@@ -248,7 +249,7 @@ module _ (c : Context) (ends : c .time ≤ timeLimit) (frame : c .frame ≤ fram
 
     start-same : withSuspended false (withCurrent (x .given .base) (startRule c delay x)) ≡ startRule c delay x
     unfolding startRule
-    start-same = by-test (λ (y : Process). withSuspended false (withCurrent (x .given .base) y) ≡ y) (periodic x) _ _ (λ _. refl) (λ _. by-test (λ (y : Process). withSuspended false (withCurrent (x .given .base) y) ≡ y) (eqb delay 0) _ _ (λ _. refl) (λ _. refl))
+    start-same = by-test (λ (y : Process). withSuspended false (withCurrent (x .given .base) y) ≡ y) (periodic x) (λ _. refl) (λ _. by-test (λ (y : Process). withSuspended false (withCurrent (x .given .base) y) ≡ y) (eqb delay 0) (λ _. refl) (λ _. refl))
 
     pub start-sound : SoundProcess (setting (c .frame) (c .time) normal a b) (startRule c delay x)
     start-sound = rw start-same at (start-any false (and-false (periodic x)) (x .given .base) (l .given .base))
@@ -258,12 +259,12 @@ module _ (c : Context) (ends : c .time ≤ timeLimit) (frame : c .frame ≤ fram
   unfolding entered
   entered-sound t before out x h =
       let s = setting (c .frame) (c .time) normal a b in
-      by-test (SoundProcess s) (waitsForNormal (x .wait)) _ x
+      by-test (SoundProcess s) (waitsForNormal (x .wait))
       (λ k.
-      let begun = so (x .started) (λ d. differ k (ap waitsForNormal (h .dormant d .wait))) in
+      let begun = so (x .started) (λ d. not-both _ k (ap waitsForNormal (h .dormant d .wait))) in
       start-any (x .times .delay) x (h .lasting) (h .early begun out .times .release) (h .lasting .delay) (h .lasting .early) (x .suspended) (h .mark) (x .current) (h .lasting .priority begun, h .lasting .current))
       (λ k.
-      let idle = not-so (x .started) (λ d. differ (ap waitsForNormal (h .early d out .wait)) k) in
+      let idle = not-so (x .started) (λ d. not-both _ (ap waitsForNormal (h .early d out .wait)) k) in
       as-dormant s x (h .lasting) (h .code) (h .mark) idle (h .dormant idle))
 
 -- ---------------------------------------------------------------- the other rules
@@ -281,7 +282,7 @@ module _ (s : Setting) (x : Process) where
     stopped-sound =
         let l = h .lasting in
         as-dormant s (stopped x)
-        (record { given = l .given; current = l .current; priority = λ e. differ e refl; delay = l .delay; early = l .early })
+        (record { given = l .given; current = l .current; priority = λ e. not-both _ e refl; delay = l .delay; early = l .early })
         (h .code) (and-false (periodic x)) refl
         (record { wait = refl; unmarked = refl; times = no-times (x .times .delay) })
 
@@ -291,7 +292,7 @@ module _ (s : Setting) (x : Process) where
         lasting = h .lasting;
         code = h .code;
         mark = rw k;
-        dormant = λ d. differ e d;
+        dormant = λ d. not-both _ e d;
         early = h .early;
         going = λ d n. let g = h .going d n in record { wait = g .wait; wake = wake-suspended (s .time) (x .suspended) (x .times .release) (x .wait) (x .times .wake) (g .wake); release = g .release; deadline = g .deadline };
       }
@@ -307,20 +308,20 @@ module _ (s : Setting) (x : Process) where
       }
 
       pub resumed-sound : SoundProcess s (resumed x)
-      resumed-sound = by-test (SoundProcess s) (waitsForNothing (x .wait)) _ _
+      resumed-sound = by-test (SoundProcess s) (waitsForNothing (x .wait))
           (λ k. record {
             lasting = h .lasting;
             code = inl refl;
             mark = and-false (periodic x);
-            dormant = λ d. differ e d;
-            early = λ d n. differ k (ap waitsForNothing (h .early d n .wait));
+            dormant = λ d. not-both _ e d;
+            early = λ d n. not-both _ k (ap waitsForNothing (h .early d n .wait));
             going = λ d n. let g = h .going d n in record { wait = tt; wake = refl; release = rw (for-nothing (x .wait) k) at (g .release); deadline = g .deadline };
           })
           (λ k. record {
             lasting = h .lasting;
             code = h .code;
             mark = and-false (periodic x);
-            dormant = λ d. differ e d;
+            dormant = λ d. not-both _ e d;
             early = h .early;
             going = λ d n. let g = h .going d n in record { wait = g .wait; wake = wake-resumed (s .time) (x .suspended) (x .times .release) (x .wait) (x .times .wake) k (g .wake); release = g .release; deadline = g .deadline };
           })
@@ -331,8 +332,8 @@ module _ (s : Setting) (x : Process) where
       lasting = h .lasting;
       code = inl refl;
       mark = h .mark;
-      dormant = λ d. differ k (ap (λ (v : Wait). not (eqb (object v) 0)) (h .dormant d .wait));
-      early = λ d n. differ k (ap (λ (v : Wait). not (eqb (object v) 0)) (h .early d n .wait));
+      dormant = λ d. not-both _ k (ap (λ (v : Wait). not (eqb (object v) 0)) (h .dormant d .wait));
+      early = λ d n. not-both _ k (ap (λ (v : Wait). not (eqb (object v) 0)) (h .early d n .wait));
       going = λ d n. let g = h .going d n in record { wait = tt; wake = none-wake (s .time) (x .suspended) (x .times .release); release = release-object (s .time) (x .given .period) (x .wait) (x .times .release) k (g .release); deadline = g .deadline };
     }
 
@@ -376,14 +377,14 @@ woken-sound : (frame t a b : ℕ) (normal : Bool) → normal ≡ true → (x : P
 unfolding woken
 woken-sound frame t a b normal n x h =
     let s = setting frame (t + 1) normal a b in
-    by-test (SoundProcess s) (due (t + 1) (x .times .wake)) _ x
+    by-test (SoundProcess s) (due (t + 1) (x .times .wake))
     (λ k.
-    let e = so (x .started) (λ d. differ k (ap (due (t + 1)) (h .dormant d .times .wake))) in
+    let e = so (x .started) (λ d. not-both _ k (ap (due (t + 1)) (h .dormant d .times .wake))) in
     let g = h .going e n in
     let r = release-ended t (x .given .period) (x .suspended) (x .wait) (x .times .release) (x .times .wake) (g .release) (g .wake) k in
-    by-test (SoundProcess s) (waitsForNothing (x .wait)) _ _
+    by-test (SoundProcess s) (waitsForNothing (x .wait))
     (λ _. as-going s _ (h .lasting) (inr refl) (and-false (periodic x)) e n (record { wait = tt; wake = refl; release = r; deadline = g .deadline }))
-    (λ _. as-going s _ (h .lasting) (by-test SoundCode (onObject x) 6 0 (λ _. inr refl) (λ _. inl refl)) (h .mark) e n (record { wait = tt; wake = none-wake (t + 1) (x .suspended) (x .times .release); release = r; deadline = g .deadline })))
+    (λ _. as-going s _ (h .lasting) (by-test SoundCode (onObject x) (λ _. inr refl) (λ _. inl refl)) (h .mark) e n (record { wait = tt; wake = none-wake (t + 1) (x .suspended) (x .times .release); release = r; deadline = g .deadline })))
     (λ k. record {
       lasting = h .lasting;
       code = h .code;
@@ -396,7 +397,7 @@ woken-sound frame t a b normal n x h =
 expired-sound : (s : Setting) (t : ℕ) (x : Process) → SoundProcess s x → SoundProcess s (expired t x)
 unfolding expired
 expired-sound s t x h =
-    by-test (SoundProcess s) (due t (x .times .deadline)) _ x
+    by-test (SoundProcess s) (due t (x .times .deadline))
     (λ k. record {
       lasting = h .lasting;
       code = h .code;

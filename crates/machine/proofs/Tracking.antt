@@ -13,7 +13,8 @@ use Rattle.machine.specs.Limits.{processLimit}
 use Rattle.machine.specs.Ids.{members, idsOf, keptIf, kept, other, appended, removed, follow}
 use Rattle.machine.specs.Valid.{contains, Distinct, Tracks}
 use Rattle.machine.proofs.Lists.{members-idsOf, appended-idsOf}
-use Rattle.machine.proofs.Bounds.{differ, same-or-not, or-false-parts}
+use Rattle.machine.proofs.Tests.{not-both}
+use Rattle.machine.proofs.Bounds.{same-or-not, or-false-parts}
 
 contains-snoc : (x : ℕ) (l : List ℕ) (id : ℕ) → contains x (l ++ (id ∷ [])) ≡ (contains x l || eqb id x)
 unfolding contains
@@ -79,7 +80,7 @@ pigeonhole (suc n) l d h =
     omega (arith, length-kept-one (suc n) l d)
   where
     lower : (x : ℕ) (b : Bool) → eqb x (suc n) ≡ b → (not b && contains x l) ≡ true → (1 ≤ x) × (x ≤ n)
-    lower x true e c = differ c refl
+    lower x true e c = not-both _ c refl
     lower x false e c = let k = h x c in let ne = eqb-false x (suc n) e in (k .0, omega arith)
 
 -- f is a property of the ids 1 to processLimit

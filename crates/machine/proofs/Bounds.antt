@@ -95,7 +95,7 @@ module _ (limit id : ℕ) where
         go true = set-getD l (id - 1) d
         go false = refl
 
-getD-replicate-any : {A : Type 0} (n i : ℕ) (a : A) → getD (replicate n a) i a ≡ a
+pub getD-replicate-any : {A : Type 0} (n i : ℕ) (a : A) → getD (replicate n a) i a ≡ a
 getD-replicate-any n i a = either (ltb i n)
     (λ e. getD-replicate n i a a (ltb-true i n e))
     (λ e. List·getD-eq-default (replicate n a) a (rw (length-replicate n a) (ltb-false i n e)))

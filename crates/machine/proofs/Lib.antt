@@ -22,3 +22,4 @@ pub mod Keeping
 pub mod Sound
 pub mod Running
 pub mod Kept
+pub mod Reached

@@ -304,14 +304,18 @@ pub record SoundMessage (t : ℕ) (x : Message) : Type 0 where
 abbrev pub Noted : Partition → Type 0
 Noted p = p .soonest ≡ soonestOf p
 
-pub record ValidModule (m : Module) : Type 0 where
-  pub table : (m ≡ emptyModule) ⊎ SoundTable (m .table)
+pub record SoundModule (m : Module) : Type 0 where
+  pub table : SoundTable (m .table)
   pub partitionsSize : length (m .partitions) ≡ partitionLimit
   pub messagesSize : length (m .messages) ≡ channelLimit
   pub time : m .t ≤ timeLimit
   pub eachPartition : (i : ℕ) → i < m .table .size → Valid (m .table .frame) (m .t) (part m i)
   pub noted : (i : ℕ) → i < m .table .size → Noted (part m i)
   pub eachMessage : (i : ℕ) → SoundMessage (m .t) (message m i)
+
+-- the record of a refused table, or one with a sound table
+abbrev pub ValidModule : Module → Type 0
+ValidModule m = (m ≡ emptyModule) ⊎ SoundModule m
 
 -- Module records come only from table reading and from events.
 pub data Reached : Module → Type 0 where

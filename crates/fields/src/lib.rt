@@ -78,13 +78,7 @@ pub fn is_between(f: Field, low: u32, high: u32) -> bool
     ensures { λ r. ⌜ r ≡ between low high f ⌝ }
 {
     match f {
-        Field::Number(n) => {
-            if low <= n {
-                n <= high
-            } else {
-                false
-            }
-        }
+        Field::Number(n) => { if low <= n { n <= high } else { false } }
         Field::MinusOne => false,
         Field::Other => false,
     }
@@ -109,7 +103,11 @@ pub fn is_duration(f: Field) -> bool
 pub fn is_timeout(f: Field) -> bool
     ensures { λ r. ⌜ r ≡ isTimeout f ⌝ }
 {
-    if is_minus_one(f) { true } else { is_duration(f) }
+    if is_minus_one(f) {
+        true
+    } else {
+        is_duration(f)
+    }
 }
 
 pub fn is_name(f: Field) -> bool

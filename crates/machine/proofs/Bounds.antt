@@ -1,4 +1,4 @@
--- What a test and a list of checks settle, and what an id inside its limit names, and one outside. Assumes nothing.
+-- What a test settles, and what an id inside its limit names, and one outside. Assumes nothing.
 use Prim.Native.Nat.{ℕ, zero, suc, _+_, _-_, _≤_, _<_}
 use mathlib.Core.Path.{_≡_, refl, ap, sym, _∙_}
 use mathlib.Core.Bool.{Bool, true, false, cond, not, _&&_, _||_, and-false}
@@ -15,15 +15,17 @@ use Rattle.machine.specs.Limits.{processLimit, semaphoreLimit, eventLimi
 use Rattle.machine.specs.Ids.{follow}
 use Rattle.machine.specs.Process.{blankProcess, ready, onObject}
 use Rattle.machine.specs.Partition.{within, named, replaced, noSemaphore, noEvent, withSemaphores, withEvents, withProcesses, stored}
-use Rattle.machine.specs.Calls.{checked, unknown, withValue, withUp}
+use Rattle.machine.specs.Calls.{unknown, withValue, withUp}
+use Rattle.machine.proofs.Tests.{by-test, or-left, or-right, and-left, and-right}
 
 -- ---------------------------------------------------------------- tests
-pub differ : {P : Type 0} {b : Bool} → b ≡ true → b ≡ false → P
-differ {b} t f = absurd (let z : _≡_ {A = ℕ} 0 1 = cc in omega arith)
-
 pub not-so : (b : Bool) → (b ≡ true → ⊥) → b ≡ false
 not-so true h = absurd (h refl)
 not-so false h = refl
+
+pub so : (b : Bool) → (b ≡ false → ⊥) → b ≡ true
+so true h = refl
+so false h = absurd (h refl)
 
 pub same-or-not : (a b : ℕ) → (a ≡ b) ⊎ (a ≡ b → ⊥)
 same-or-not a b = go (eqb a b) refl
@@ -32,27 +34,16 @@ same-or-not a b = go (eqb a b) refl
     go true e = inl (eqb-true a b e)
     go false e = inr (eqb-false a b e)
 
+-- the value of a test, with what it tells
+pub either : {P : Type 0} (b : Bool) → (b ≡ true → P) → (b ≡ false → P) → P
+either true f g = f refl
+either false f g = g refl
+
 pub or-false-parts : (a b : Bool) → (a || b) ≡ false → (a ≡ false) × (b ≡ false)
-or-false-parts true b e = differ refl e
-or-false-parts false b e = (refl, e)
+or-false-parts a b h = (or-left a b h, or-right a b h)
 
 pub and-true-parts : (a b : Bool) → (a && b) ≡ true → (a ≡ true) × (b ≡ true)
-and-true-parts true b e = (refl, e)
-and-true-parts false b e = differ e refl
-
-pub by-test : {A : Type 0} (P : A → Type 0) (b : Bool) (x y : A) → (b ≡ true → P x) → (b ≡ false → P y) → P (cond b x y)
-by-test P true x y f g = f refl
-by-test P false x y f g = g refl
-
--- every test of a list of checks is passed
-unfoldable pub Passed : List (Bool × ℕ) → Type 0
-Passed [] = Unit {0}
-Passed ((test, code) ∷ l) = (test ≡ false) × Passed l
-
-pub by-checks : {A : Type 0} (P : A → Type 0) (refuse : ℕ → A) (l : List (Bool × ℕ)) (accepted : A) → ((n : ℕ) → P (refuse n)) → (Passed l → P accepted) → P (checked refuse l accepted)
-unfolding checked Passed
-by-checks P refuse [] accepted f g = g tt
-by-checks P refuse ((test, code) ∷ l) accepted f g = by-test P test _ _ (λ e. f code) (λ e. by-checks P refuse l accepted f (λ h. g (e, h)))
+and-true-parts a b h = (and-left a b h, and-right a b h)
 
 -- an id that is known
 pub known-id : (id count : ℕ) → unknown id count ≡ false → (1 ≤ id) × (id ≤ count)
@@ -104,14 +95,14 @@ module _ (limit id : ℕ) where
         go true = set-getD l (id - 1) d
         go false = refl
 
-getD-replicate-any : {A : Type 0} (n i : ℕ) (a : A) → getD (replicate n a) i a ≡ a
-getD-replicate-any n i a = by-test (λ (t : ℕ). getD (replicate n a) i a ≡ a) (ltb i n) 0 0
+pub getD-replicate-any : {A : Type 0} (n i : ℕ) (a : A) → getD (replicate n a) i a ≡ a
+getD-replicate-any n i a = either (ltb i n)
     (λ e. getD-replicate n i a a (ltb-true i n e))
     (λ e. List·getD-eq-default (replicate n a) a (rw (length-replicate n a) (ltb-false i n e)))
 
 pub named-replicate : {A : Type 0} (limit n id : ℕ) (a : A) → named limit a id (replicate n a) ≡ a
 unfolding named
-named-replicate limit n id a = by-test (λ (y : _). y ≡ a) (within limit id) _ _ (λ _. getD-replicate-any n (id - 1) a) (λ _. refl)
+named-replicate limit n id a = by-test (λ (y : _). y ≡ a) (within limit id) (λ _. getD-replicate-any n (id - 1) a) (λ _. refl)
 
 -- what an id names after another, or the same, has been replaced
 module _ {A : Type 0} (limit : ℕ) (d : A) (id : ℕ) (a : A) (l : List A) (lo : 1 ≤ id) where

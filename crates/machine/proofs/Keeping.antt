@@ -16,7 +16,8 @@ use Rattle.machine.specs.Ids.{members, other, removed, follow}
 use Rattle.machine.specs.Process.{blankProcess, ready, onObject, waitEnded}
 use Rattle.machine.specs.Partition.{within, named, process, withProcesses, stored, arrivedLast, ended, endedAll, eachFrom, each}
 use Rattle.machine.specs.Valid.{Between, contains, Distinct, Tracks, Numbered, Listed, ListedIn, ObjectsIn, SoundProcess, settingOf, Valid}
-use Rattle.machine.proofs.Bounds.{differ, not-so, same-or-not, or-false-parts, and-true-parts, by-test, within-in, within-out, named-in, named-same, named-other, stored-in, stored-out}
+use Rattle.machine.proofs.Tests.{by-test, not-both}
+use Rattle.machine.proofs.Bounds.{not-so, same-or-not, or-false-parts, and-true-parts, within-in, within-out, named-in, named-same, named-other, stored-in, stored-out, either}
 use Rattle.machine.proofs.Tracking.{Ranged, tracks-room, tracks-append, tracks-remove, tracks-follow}
 
 -- ---------------------------------------------------------------- one of a list replaced, or the next one created
@@ -44,13 +45,13 @@ module _ (f : Process → Bool) (blank : f blankProcess ≡ false) where
     where
       go : (b : Bool) → within processLimit x ≡ b → f (cond b (getD l (x - 1) blankProcess) blankProcess) ≡ true → (1 ≤ x) × (x ≤ processLimit)
       go true e k = within-out processLimit x e
-      go false e k = differ k blank
+      go false e k = not-both _ k blank
 
   pub process-created : (p : Partition) → ListedIn p → (id : ℕ) → f (process id p) ≡ true → Between 1 (p .processCount) id
   process-created p v id h = (
     process-ranged (p .processes) id h .0,
-    by-test (λ (n : ℕ). id ≤ p .processCount) (ltb (p .processCount) id) 0 0
-        (λ e. let k : f blankProcess ≡ true = rw (v .numbered .past id (ltb-true (p .processCount) id e)) at h in differ k blank)
+    either (ltb (p .processCount) id)
+        (λ e. let k : f blankProcess ≡ true = rw (v .numbered .past id (ltb-true (p .processCount) id e)) at h in not-both _ k blank)
         (λ e. ltb-false (p .processCount) id e),
   )
 
@@ -62,10 +63,10 @@ Rest p q = q ≡ withProcesses (q .processes) (p .processCount) (q .arrival) (q 
 module _ (p : Partition) (id : ℕ) (x : Process) where
   pub stored-rest : Rest p (stored id x p)
   unfolding stored
-  stored-rest = by-test (λ (q : Partition). q ≡ withProcesses (q .processes) (p .processCount) (q .arrival) (q .waiting) p) (within processLimit id) _ p (λ _. refl) (λ _. refl)
+  stored-rest = by-test (λ (q : Partition). q ≡ withProcesses (q .processes) (p .processCount) (q .arrival) (q .waiting) p) (within processLimit id) (λ _. refl) (λ _. refl)
 
   pub process-other : (y : ℕ) → (y ≡ id → ⊥) → process y (stored id x p) ≡ process y p
-  process-other y ne = by-test (λ (n : ℕ). process y (stored id x p) ≡ process y p) (within processLimit id) 0 0
+  process-other y ne = either (within processLimit id)
       (λ e. rw (stored-in id x p e) (named-other processLimit blankProcess id x (p .processes) (within-out processLimit id e .0) y ne))
       (λ e. rw (stored-out id x p e))
 
@@ -116,15 +117,15 @@ ended-changed (id ∷ l) p = ended-changed l (stored id (waitEnded 0 (process id
 
 pub from-range : (n id y : ℕ) → contains y (idsFrom n id) ≡ true → (id ≤ y) × (y < id + n)
 unfolding contains idsFrom
-from-range zero id y h = differ h refl
-from-range (suc n) id y h = by-test (λ (k : ℕ). (id ≤ y) × (y < id + suc n)) (eqb id y) 0 0
+from-range zero id y h = not-both _ h refl
+from-range (suc n) id y h = either (eqb id y)
     (λ e. let s = eqb-true id y e in (omega arith, omega arith))
     (λ e. let r = from-range n (id + 1) y (rw e at h) in (omega arith, omega arith))
 
 pub from-has : (n id y : ℕ) → id ≤ y → y < id + n → contains y (idsFrom n id) ≡ true
 unfolding contains idsFrom
 from-has zero id y lo hi = absurd (omega arith)
-from-has (suc n) id y lo hi = by-test (λ (k : ℕ). (eqb id y || contains y (idsFrom n (id + 1))) ≡ true) (eqb id y) 0 0
+from-has (suc n) id y lo hi = either (eqb id y)
     (λ e. rw e)
     (λ e. let ne = eqb-false id y e in rw e (from-has n (id + 1) y (omega arith) (omega arith)))
 
@@ -167,7 +168,7 @@ module _ (f : Process → Process) where
       let b = all id (rw (eq-eqb id id refl)) in
       changed-process l (stored id x p) (stored-listed p id x v b)
       (λ z c. rw (rest-count p _ (stored-rest p id x)) (all z (rw c (or-true (eqb id z))))) (dis .1) y
-      ∙ by-test (λ (k : ℕ). cond (contains y l) (f (process y (stored id x p))) (process y (stored id x p)) ≡ cond (eqb id y || contains y l) (f (process y p)) (process y p)) (eqb id y) 0 0
+      ∙ either (eqb id y)
       (λ e. let s : id ≡ y = eqb-true id y e in rw (e, ← s, dis .0) (process-stored p id x v b))
       (λ e. rw (e, process-other p id x y (λ s. eqb-false id y e (sym s))))
 

@@ -19,3 +19,7 @@ pub mod Folds
 pub mod Quiet
 pub mod Tracking
 pub mod Keeping
+pub mod Sound
+pub mod Running
+pub mod Kept
+pub mod Reached

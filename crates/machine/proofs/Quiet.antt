@@ -21,7 +21,8 @@ use Rattle.machine.specs.Process.{blankProcess, ready, onObject, due, wo
 use Rattle.machine.specs.Partition.{within, replaced, process, normalMode, withProcesses, stored, eachFrom, each, tickPartition, sooner, soonestFrom, soonestOf, withSoonest, noted}
 use Rattle.machine.specs.Module.{noPartition, part, withPart, tickAt, tickTo}
 use Rattle.machine.specs.Valid.{plainTickTo, Noted}
-use Rattle.machine.proofs.Bounds.{by-test, replaced-same}
+use Rattle.machine.proofs.Tests.{by-test}
+use Rattle.machine.proofs.Bounds.{replaced-same}
 
 pub follow-same : (b : Bool) (id : ℕ) (q : Ids) → follow b b id q ≡ q
 follow-same true id q = refl
@@ -57,7 +58,7 @@ tick-from-same t (suc n) id p h =
 -- nothing is due before the soonest wake time or deadline
 pub tick-same : (t : ℕ) (p : Partition) → t < soonestOf p → tickPartition t p ≡ p
 unfolding tickPartition
-tick-same t p h = by-test (λ (q : Partition). q ≡ p) (normalMode p) (each (ticked t) p) p (λ _. tick-from-same t (p .processCount) 1 p h) (λ _. refl)
+tick-same t p h = by-test (λ (q : Partition). q ≡ p) (normalMode p) (λ _. tick-from-same t (p .processCount) 1 p h) (λ _. refl)
 
 noted-same : (p : Partition) → Noted p → noted p ≡ p
 noted-same p h = ap (λ n. withSoonest n p) (sym h)
@@ -67,7 +68,7 @@ noted-same p h = ap (λ n. withSoonest n p) (sym h)
 pub tick-at-plain : (i : ℕ) (m : Module) → Noted (part m i) → tickAt i m ≡ withPart i (tickPartition (m .t) (part m i)) m
 unfolding tickAt
 tick-at-plain i m h =
-    by-test (λ (q : Module). q ≡ withPart i (tickPartition (m .t) (part m i)) m) (leb (part m i .soonest) (m .t)) _ m
+    by-test (λ (q : Module). q ≡ withPart i (tickPartition (m .t) (part m i)) m) (leb (part m i .soonest) (m .t))
     (λ _. refl)
     (λ e.
     let s : m .t < soonestOf (part m i) = rw h at (leb-false (part m i .soonest) (m .t) e) in
@@ -75,7 +76,7 @@ tick-at-plain i m h =
 
 tick-at-other : (i j : ℕ) (m : Module) → (j ≡ i → ⊥) → part (tickAt i m) j ≡ part m j
 unfolding tickAt
-tick-at-other i j m ne = by-test (λ (q : Module). part q j ≡ part m j) (leb (part m i .soonest) (m .t)) _ m (λ _. getD-set-other (m .partitions) i j _ noPartition ne) (λ _. refl)
+tick-at-other i j m ne = by-test (λ (q : Module). part q j ≡ part m j) (leb (part m i .soonest) (m .t)) (λ _. getD-set-other (m .partitions) i j _ noPartition ne) (λ _. refl)
 
 -- a tick of the first n partitions leaves the later ones
 pub tick-to-other : (n i : ℕ) (m : Module) → n ≤ i → part (tickTo n m) i ≡ part m i

@@ -13,7 +13,8 @@ use Rattle.machine.specs.Limits.{processLimit}
 use Rattle.machine.specs.Ids.{members, idsOf, keptIf, kept, other, appended, removed, follow}
 use Rattle.machine.specs.Valid.{contains, Distinct, Tracks}
 use Rattle.machine.proofs.Lists.{members-idsOf, appended-idsOf}
-use Rattle.machine.proofs.Bounds.{differ, same-or-not, or-false-parts}
+use Rattle.machine.proofs.Tests.{not-both}
+use Rattle.machine.proofs.Bounds.{same-or-not, or-false-parts}
 
 contains-snoc : (x : ℕ) (l : List ℕ) (id : ℕ) → contains x (l ++ (id ∷ [])) ≡ (contains x l || eqb id x)
 unfolding contains
@@ -42,7 +43,7 @@ contains-kept f x (y ∷ l) = go (f y) refl (eqb y x) refl (contains-kept f x l)
     go false e true s h = let k : f x ≡ false = ap f (sym (eqb-true y x s)) ∙ e in h ∙ rw k
     go false e false s h = h
 
-distinct-kept : (f : ℕ → Bool) (l : List ℕ) → Distinct l → Distinct (kept f l)
+pub distinct-kept : (f : ℕ → Bool) (l : List ℕ) → Distinct l → Distinct (kept f l)
 unfolding Distinct kept
 distinct-kept f [] d = tt
 distinct-kept f (y ∷ l) d = go (f y) (distinct-kept f l (d .1))
@@ -79,7 +80,7 @@ pigeonhole (suc n) l d h =
     omega (arith, length-kept-one (suc n) l d)
   where
     lower : (x : ℕ) (b : Bool) → eqb x (suc n) ≡ b → (not b && contains x l) ≡ true → (1 ≤ x) × (x ≤ n)
-    lower x true e c = differ c refl
+    lower x true e c = not-both _ c refl
     lower x false e c = let k = h x c in let ne = eqb-false x (suc n) e in (k .0, omega arith)
 
 -- f is a property of the ids 1 to processLimit
@@ -102,7 +103,7 @@ module _ (f : ℕ → Bool) (q : Ids) (tr : Tracks f q) where
   appended-plain id room = ap (appended id) (tr .canonical) ∙ appended-idsOf (members q) id room
 
   module _ (g : ℕ → Bool) (id : ℕ) (others : (x : ℕ) → (x ≡ id → ⊥) → g x ≡ f x) where
-    tracks-same : g id ≡ f id → Tracks g q
+    pub tracks-same : g id ≡ f id → Tracks g q
     tracks-same e = record {
       canonical = tr .canonical;
       distinct = tr .distinct;

@@ -29,7 +29,7 @@ use Rattle.machine.specs.declared.Event.{Event as EventT}
 use Rattle.machine.specs.declared.Answer.{Answer}
 use Rattle.machine.specs.Limits.{processLimit, semaphoreLimit, eventLimit, nameLimit, priorityLimit, valueLimit, durationLimit, timeLimit, frameLimit, partitionLimit, windowLimit, channelLimit, numberLimit}
 use Rattle.machine.specs.Ids.{members, idsOf}
-use Rattle.machine.specs.Process.{blankProcess, periodic, ready, onObject}
+use Rattle.machine.specs.Process.{blankProcess, isNever, periodic, ready, onObject}
 use Rattle.machine.specs.Partition.{normalMode, named, noSemaphore, noEvent, process, running, tickPartition, soonestOf}
 use Rattle.machine.specs.Table.{hasFlagged, readTable}
 use Rattle.machine.specs.Module.{windows, channel, part, message, withPart, withTime, noCaller, emptyModule, step}
@@ -116,15 +116,15 @@ pub record Timeless (s : Times) : Type 0 where
   pub wake : s .wake ≡ Never
 
 -- DORMANT
-pub record Dormant (x : Process) : Type 0 where
-  pub wait : x .wait ≡ None
-  pub mark : x .suspended ≡ false
-  pub times : Timeless (x .times)
+pub record Dormant (v : Wait) (mark : Bool) (s : Times) : Type 0 where
+  pub wait : v ≡ None
+  pub unmarked : mark ≡ false
+  pub times : Timeless s
 
 -- started outside NORMAL
-pub record Early (x : Process) : Type 0 where
-  pub wait : x .wait ≡ Normal
-  pub times : Timeless (x .times)
+pub record Early (v : Wait) (s : Times) : Type 0 where
+  pub wait : v ≡ Normal
+  pub times : Timeless s
 
 -- the object of a wait, one of s semaphores and e events, has been created; in NORMAL none waits for NORMAL
 abbrev pub KnownWait : ℕ → ℕ → Wait → Type 0
@@ -146,22 +146,20 @@ SoundWake t mark r Period w = w ≡ r
 SoundWake t mark r (Semaphore k) w = Timeout t w
 SoundWake t mark r (Event k) w = Timeout t w
 
--- r, by the period and the wait, in NORMAL at t: −1 for an aperiodic process, and at most t for a periodic one unless it waits for its period
+-- r of a process that does not wait for its period: −1 for an aperiodic one, at most t for a periodic one
+abbrev pub Released : ℕ → Time → Time → Type 0
+Released t Never r = r ≡ Never
+Released t (At period) r = AtMost t r
+
+-- r, by the wait, in NORMAL at t
 abbrev pub SoundRelease : ℕ → Time → Wait → Time → Type 0
-SoundRelease t Never None r = r ≡ Never
-SoundRelease t Never Normal r = ⊥
-SoundRelease t Never Delay r = r ≡ Never
-SoundRelease t Never Timed r = r ≡ Never
-SoundRelease t Never Period r = ⊥
-SoundRelease t Never (Semaphore k) r = r ≡ Never
-SoundRelease t Never (Event k) r = r ≡ Never
-SoundRelease t (At p) None r = AtMost t r
-SoundRelease t (At p) Normal r = ⊥
-SoundRelease t (At p) Delay r = ⊥
-SoundRelease t (At p) Timed r = AtMost t r
-SoundRelease t (At p) Period r = AtMost latestWake r
-SoundRelease t (At p) (Semaphore k) r = AtMost t r
-SoundRelease t (At p) (Event k) r = AtMost t r
+SoundRelease t period None r = Released t period r
+SoundRelease t period Normal r = ⊥
+SoundRelease t period Delay r = (isNever period ≡ true) × (r ≡ Never)
+SoundRelease t period Timed r = Released t period r
+SoundRelease t period Period r = (isNever period ≡ false) × AtMost latestWake r
+SoundRelease t period (Semaphore k) r = Released t period r
+SoundRelease t period (Event k) r = Released t period r
 
 -- what a process's rules look at besides its own record: M, the time, whether the mode is NORMAL, how many semaphores and events there are
 pub record Setting : Type 0 where
@@ -171,29 +169,42 @@ pub record Setting : Type 0 where
   pub semaphores : ℕ
   pub events : ℕ
 
+abbrev pub setting : ℕ → ℕ → Bool → ℕ → ℕ → Setting
+setting frame t normal s e = record { frame = frame; time = t; normal = normal; semaphores = s; events = e }
+
 -- started in NORMAL
-pub record Going (s : Setting) (x : Process) : Type 0 where
-  pub wait : KnownWait (s .semaphores) (s .events) (x .wait)
-  pub wake : SoundWake (s .time) (x .suspended) (x .times .release) (x .wait) (x .times .wake)
-  pub release : SoundRelease (s .time) (x .given .period) (x .wait) (x .times .release)
-  pub deadline : NotAfter latestDeadline (x .times .deadline)
+pub record Going (c : Setting) (period : Time) (mark : Bool) (v : Wait) (s : Times) : Type 0 where
+  pub wait : KnownWait (c .semaphores) (c .events) v
+  pub wake : SoundWake (c .time) mark (s .release) v (s .wake)
+  pub release : SoundRelease (c .time) period v (s .release)
+  pub deadline : NotAfter latestDeadline (s .deadline)
 
 -- what no mode and no time changes
-pub record Lasting (frame : ℕ) (x : Process) : Type 0 where
-  pub given : SoundGiven frame (x .given)
-  pub current : x .current ≤ priorityLimit
-  pub priority : x .started ≡ true → 1 ≤ x .current
-  pub code : (x .code ≡ 0) ⊎ (x .code ≡ 6)
-  pub delay : x .times .delay ≤ durationLimit
-  pub early : Below (x .given .period) (x .times .delay)
-  -- a periodic process is never suspended
-  pub mark : (periodic x && x .suspended) ≡ false
+pub record Lasting (frame : ℕ) (g : Given) (n : ℕ) (started : Bool) (d : ℕ) : Type 0 where
+  pub given : SoundGiven frame g
+  pub current : n ≤ priorityLimit
+  pub priority : started ≡ true → 1 ≤ n
+  pub delay : d ≤ durationLimit
+  pub early : Below (g .period) d
 
-pub record SoundProcess (s : Setting) (x : Process) : Type 0 where
-  pub lasting : Lasting (s .frame) x
-  pub dormant : x .started ≡ false → Dormant x
-  pub early : x .started ≡ true → s .normal ≡ false → Early x
-  pub going : x .started ≡ true → s .normal ≡ true → Going s x
+abbrev pub LastingIn : ℕ → Process → Type 0
+LastingIn frame x = Lasting frame (x .given) (x .current) (x .started) (x .times .delay)
+
+-- a wake code
+abbrev pub SoundCode : ℕ → Type 0
+SoundCode n = (n ≡ 0) ⊎ (n ≡ 6)
+
+-- a periodic process is never suspended
+abbrev pub SoundMark : Process → Type 0
+SoundMark x = (periodic x && x .suspended) ≡ false
+
+pub record SoundProcess (c : Setting) (x : Process) : Type 0 where
+  pub lasting : LastingIn (c .frame) x
+  pub code : SoundCode (x .code)
+  pub mark : SoundMark x
+  pub dormant : x .started ≡ false → Dormant (x .wait) (x .suspended) (x .times)
+  pub early : x .started ≡ true → c .normal ≡ false → Early (x .wait) (x .times)
+  pub going : x .started ≡ true → c .normal ≡ true → Going c (x .given .period) (x .suspended) (x .wait) (x .times)
 
 -- ---------------------------------------------------------------- a partition
 pub record SoundSemaphore (s : SemaphoreT) : Type 0 where
@@ -229,7 +240,7 @@ abbrev pub ObjectsIn : Partition → Type 0
 ObjectsIn p = Objects (p .semaphores) (p .semaphoreCount) (p .events) (p .eventCount)
 
 abbrev pub settingOf : ℕ → ℕ → Partition → Setting
-settingOf frame t p = record { frame = frame; time = t; normal = normalMode p; semaphores = p .semaphoreCount; events = p .eventCount }
+settingOf frame t p = setting frame t (normalMode p) (p .semaphoreCount) (p .eventCount)
 
 pub record Valid (frame t : ℕ) (p : Partition) : Type 0 where
   pub mode : p .mode ≤ 3
@@ -293,14 +304,18 @@ pub record SoundMessage (t : ℕ) (x : Message) : Type 0 where
 abbrev pub Noted : Partition → Type 0
 Noted p = p .soonest ≡ soonestOf p
 
-pub record ValidModule (m : Module) : Type 0 where
-  pub table : (m ≡ emptyModule) ⊎ SoundTable (m .table)
+pub record SoundModule (m : Module) : Type 0 where
+  pub table : SoundTable (m .table)
   pub partitionsSize : length (m .partitions) ≡ partitionLimit
   pub messagesSize : length (m .messages) ≡ channelLimit
   pub time : m .t ≤ timeLimit
   pub eachPartition : (i : ℕ) → i < m .table .size → Valid (m .table .frame) (m .t) (part m i)
   pub noted : (i : ℕ) → i < m .table .size → Noted (part m i)
   pub eachMessage : (i : ℕ) → SoundMessage (m .t) (message m i)
+
+-- the record of a refused table, or one with a sound table
+abbrev pub ValidModule : Module → Type 0
+ValidModule m = (m ≡ emptyModule) ⊎ SoundModule m
 
 -- Module records come only from table reading and from events.
 pub data Reached : Module → Type 0 where

@@ -58,13 +58,7 @@ pub fn sooner_of(a: Time, n: u32) -> u32
 {
     match a {
         Time::Never => n,
-        Time::At(t) => {
-            if t <= n {
-                t
-            } else {
-                n
-            }
-        }
+        Time::At(t) => { if t <= n { t } else { n } }
     }
 }
 

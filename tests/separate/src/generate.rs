@@ -1,0 +1,616 @@
+//! Made-up inputs for the replay program, fixed by a seed.
+
+use crate::calls::MOST_TIME;
+use crate::damage::LINE_DAMAGES;
+use crate::line::{self, Line};
+use crate::machine::{Answer, Event, LAST_CALL, USED};
+use crate::record::{Channel, EventFlag, Id, Mode, Module, Partition, Process, Semaphore};
+use crate::replay::Lines;
+use crate::rng::Rng;
+use crate::tables::{self, NUMBER_DAMAGES};
+use std::io::{self, Write};
+
+/// A number that no rule takes, as far out as a line goes.
+const FAR: i64 = line::GREATEST;
+
+#[derive(Clone, Copy, Debug, PartialEq, Eq)]
+pub enum Kind {
+    Table,
+    Events,
+    Busy,
+    Ticks,
+    Damaged,
+}
+
+impl Kind {
+    pub fn from_name(name: &str) -> Option<Kind> {
+        match name {
+            "table" => Some(Kind::Table),
+            "events" => Some(Kind::Events),
+            "busy" => Some(Kind::Busy),
+            "ticks" => Some(Kind::Ticks),
+            "damaged" => Some(Kind::Damaged),
+            _ => None,
+        }
+    }
+}
+
+/// Prints an input of the kind to `out`.
+pub fn generate(seed: u64, kind: Kind, count: u64, out: &mut impl Write) -> io::Result<()> {
+    match kind {
+        Kind::Table => out.write_all(&table(seed)),
+        Kind::Events => print_events(seed, count, out),
+        Kind::Busy => print_busy(seed, count, out),
+        Kind::Ticks => print_ticks(seed, count, out),
+        Kind::Damaged => print_damaged(seed, count, out),
+    }
+}
+
+/// One table, accepted or damaged in up to two places.
+pub fn table(seed: u64) -> Vec<u8> {
+    let mut rng = Rng::new(seed);
+    let mut numbers = tables::accepted(&mut rng);
+    let kind = rng.below(8);
+    if matches!(kind, 1..=4) {
+        let last = NUMBER_DAMAGES[NUMBER_DAMAGES.len() - 1];
+        let (_, damage) = if rng.percent(10) { last } else { rng.pick(&NUMBER_DAMAGES) };
+        damage(&mut rng, &mut numbers);
+    }
+    let mut lines = tables::text(&numbers);
+    if matches!(kind, 4..=6) {
+        let at = rng.below(lines.len());
+        let (_, damage) = rng.pick(&LINE_DAMAGES);
+        damage(&mut rng, &mut lines[at]);
+    }
+    if kind == 7 {
+        cut_table(&mut rng, &mut lines);
+    }
+    lines.concat()
+}
+
+/// Missing table lines, empty input, a last line without its LF.
+fn cut_table(rng: &mut Rng, lines: &mut Vec<Vec<u8>>) {
+    match rng.below(4) {
+        0 => lines.clear(),
+        1 => lines.truncate(rng.below(lines.len())),
+        _ => {
+            lines.truncate(1 + rng.below(lines.len()));
+            if let Some(last) = lines.last_mut() {
+                let missing = rng.pick(&[1, 1, 2, 30]);
+                last.truncate(line::LENGTH - missing);
+            }
+        }
+    }
+}
+
+fn print_table(numbers: &[line::Six], out: &mut impl Write) -> io::Result<()> {
+    numbers.iter().try_for_each(|six| out.write_all(&line::text(six)))
+}
+
+fn print_events(seed: u64, count: u64, out: &mut impl Write) -> io::Result<()> {
+    let (numbers, mut events) = Events::with_table(seed);
+    print_table(&numbers, out)?;
+    for _ in 0..count {
+        let (event, _) = events.next_event();
+        out.write_all(&line::text(&event.six()))?;
+    }
+    Ok(())
+}
+
+/// Events with damaged lines in between; the last line may lack its LF.
+fn print_damaged(seed: u64, count: u64, out: &mut impl Write) -> io::Result<()> {
+    let (numbers, mut events) = Events::with_table(seed);
+    print_table(&numbers, out)?;
+    for _ in 0..count {
+        if events.rng.percent(70) {
+            let (event, _) = events.next_event();
+            out.write_all(&line::text(&event.six()))?;
+            continue;
+        }
+        let mut bytes = line::text(&events.choose().six()).to_vec();
+        let (_, damage) = events.rng.pick(&LINE_DAMAGES);
+        damage(&mut events.rng, &mut bytes);
+        events.take_lines(&bytes);
+        out.write_all(&bytes)?;
+    }
+    if events.rng.percent(30) {
+        let bytes = line::text(&events.choose().six());
+        let kept = line::LENGTH - events.rng.pick(&[1, 1, 2, 60]);
+        out.write_all(&bytes[..kept])?;
+    }
+    Ok(())
+}
+
+/// A module and the next event chosen by looking at it.
+pub struct Events {
+    pub module: Module,
+    rng: Rng,
+    /// Ticks still to come before the next choice.
+    burst: usize,
+}
+
+/// How often each call is made by a partition's main program: tick, 1, 2, ...
+const START_WEIGHTS: [usize; 23] = [
+    8, 6, 26, 14, 12, 2, 1, 4, 1, 1, 1, 4, 3, 3, 9, 1, 4, 7, 2, 2, 1, 4, 4,
+];
+
+/// How often each call is made by a running process.
+const NORMAL_WEIGHTS: [usize; 23] = [
+    24, 1, 2, 8, 7, 3, 1, 6, 4, 6, 4, 8, 6, 6, 2, 11, 8, 2, 5, 5, 8, 7, 7,
+];
+
+impl Events {
+    /// An accepted table and a source of events for its module.
+    pub fn with_table(seed: u64) -> (Vec<line::Six>, Events) {
+        let mut rng = Rng::new(seed);
+        let numbers = tables::accepted(&mut rng);
+        let module = tables::module(&numbers).expect("an accepted table");
+        (numbers, Events { module, rng, burst: 0 })
+    }
+
+    /// Chooses an event and steps the module by it.
+    pub fn next_event(&mut self) -> (Event, Answer) {
+        let event = self.choose();
+        let answer = self.module.step(&event);
+        (event, answer)
+    }
+
+    /// Steps the module by the good lines among these bytes.
+    fn take_lines(&mut self, bytes: &[u8]) {
+        let mut lines = Lines::new(bytes);
+        while let Some(line) = lines.next_line() {
+            if let Line::Six(six) = line {
+                self.module.step(&Event::from_six(six));
+            }
+        }
+    }
+
+    fn choose(&mut self) -> Event {
+        if self.burst > 0 {
+            self.burst -= 1;
+            return Event::TICK;
+        }
+        if self.rng.percent(3) {
+            return self.malformed();
+        }
+        let own = self.module.current();
+        if own == 0 || self.rng.percent(2) {
+            return if self.rng.percent(30) { self.call_by_other(own) } else { self.ticks() };
+        }
+        if self.rng.percent(30) && self.near_refresh(own) {
+            return self.call(own, 22);
+        }
+        let partition = self.module.partition(own);
+        let weights = match partition.mode {
+            Mode::Normal if partition.running() != 0 => self.normal_weights(own),
+            Mode::ColdStart | Mode::WarmStart => START_WEIGHTS,
+            _ => return self.call_that_gets_9(own),
+        };
+        match self.rng.weighted(&weights) {
+            0 => self.ticks(),
+            call => self.call(own, call as i64),
+        }
+    }
+
+    /// A periodic caller mostly works for a while and waits for its release.
+    fn normal_weights(&self, own: Id) -> [usize; 23] {
+        let partition = self.module.partition(own);
+        let mut weights = NORMAL_WEIGHTS;
+        if partition.process(partition.running()).periodic() {
+            weights[10] = 22;
+        }
+        weights
+    }
+
+    /// A tick, often with more behind it, now and then up to the next frame.
+    fn ticks(&mut self) -> Event {
+        let rest = (self.module.frame - self.module.t % self.module.frame) as usize;
+        self.burst = match self.rng.below(20) {
+            0..=10 => 0,
+            11..=17 => self.rng.below(6),
+            _ => rest.min(40),
+        };
+        Event::TICK
+    }
+
+    fn call_by_other(&mut self, own: Id) -> Event {
+        let other = 1 + self.rng.below(self.module.partitions.len());
+        let call = self.rng.range(1, LAST_CALL);
+        if other == own {
+            return self.ticks();
+        }
+        self.call(other, call)
+    }
+
+    fn call_that_gets_9(&mut self, own: Id) -> Event {
+        if self.rng.percent(85) {
+            return self.ticks();
+        }
+        let call = self.rng.range(1, LAST_CALL);
+        self.call(own, call)
+    }
+
+    /// An event for 13, by each of its reasons.
+    fn malformed(&mut self) -> Event {
+        let rng = &mut self.rng;
+        let partitions = self.module.partitions.len() as i64;
+        let own = self.module.current().max(1) as i64;
+        let call = rng.range(1, LAST_CALL);
+        let zeros = [0; 4];
+        match rng.below(6) {
+            0 => {
+                let partition = rng.pick(&[-1, partitions + 1, 9, FAR]);
+                let call = rng.range(0, LAST_CALL);
+                let partition = if partition <= partitions { -1 } else { partition };
+                Event { partition, call, fields: zeros }
+            }
+            1 => {
+                let partition = rng.pick(&[own, 0, -1]);
+                Event { partition, call: rng.pick(&[-1, 23, FAR]), fields: zeros }
+            }
+            2 => Event { partition: 0, call, fields: zeros },
+            3 => Event { partition: own, call: 0, fields: zeros },
+            4 => Event { fields: self.one_field(0), ..Event::TICK },
+            _ => {
+                let used = USED[call as usize];
+                let mut fields = self.fields(own as Id, call);
+                for (field, further) in fields[used..].iter_mut().zip(self.one_field(used)) {
+                    *field = further;
+                }
+                Event { partition: own, call, fields }
+            }
+        }
+    }
+
+    /// Zeros but for one number in the first `4 - used` places.
+    fn one_field(&mut self, used: usize) -> [i64; 4] {
+        let mut fields = [0; 4];
+        if used < 4 {
+            fields[self.rng.below(4 - used)] = self.rng.pick(&[1, 2, -1, FAR]);
+        }
+        fields
+    }
+
+    /// A call with fields that fit its partition's record for the most part.
+    fn call(&mut self, own: Id, call: i64) -> Event {
+        Event { partition: own as i64, call, fields: self.fields(own, call) }
+    }
+
+    fn fields(&mut self, own: Id, call: i64) -> [i64; 4] {
+        match call {
+            1 => [self.mode(own), 0, 0, 0],
+            2 => self.new_process(),
+            3 => [self.process(own, Process::dormant), 0, 0, 0],
+            4 => self.delayed_start(own),
+            5 => [self.process(own, |process| process.started), 0, 0, 0],
+            7 => [self.process(own, may_suspend), 0, 0, 0],
+            8 | 9 => [self.time_out(own), 0, 0, 0],
+            11 => [self.process(own, |process| process.suspended), 0, 0, 0],
+            12 => [self.process(own, |process| process.started), self.priority(), 0, 0],
+            13 => [self.process(own, |_| true), 0, 0, 0],
+            14 => self.new_semaphore(),
+            15 => [self.semaphore(own, |it| it.value == 0), self.time_out(own), 0, 0],
+            16 => [self.semaphore(own, |it| !it.queue.is_empty()), 0, 0, 0],
+            17 => [self.name(), 0, 0, 0],
+            18 => [self.event(own, |it| !it.queue.is_empty()), 0, 0, 0],
+            19 => [self.event(own, |it| it.up), 0, 0, 0],
+            20 => [self.event(own, |it| !it.up), self.time_out(own), 0, 0],
+            21 => [self.source_channel(own), self.message(), 0, 0],
+            22 => [self.destination_channel(own), 0, 0, 0],
+            _ => [0; 4],
+        }
+    }
+
+    /// Mostly NORMAL once a process is started; restarts and IDLE are rare.
+    fn mode(&mut self, own: Id) -> i64 {
+        let partition = self.module.partition(own);
+        let started = partition.processes.iter().any(|process| process.started);
+        let weights = match partition.mode {
+            // 0, 1, 2, 3, out of range
+            Mode::Normal => [1, 8, 10, 50, 31],
+            _ if started => [1, 2, 4, 83, 10],
+            _ => [1, 5, 10, 14, 70],
+        };
+        match self.rng.weighted(&weights) {
+            4 => self.rng.pick(&[-1, 4, 4, FAR]),
+            mode => mode as i64,
+        }
+    }
+
+    fn name(&mut self) -> i64 {
+        match self.rng.below(20) {
+            0 => self.rng.pick(&[0, -1, 256, FAR]),
+            1 => self.rng.pick(&[1, 255]),
+            2..=5 => self.rng.range(1, 12),
+            _ => self.rng.range(1, 255),
+        }
+    }
+
+    fn priority(&mut self) -> i64 {
+        match self.rng.below(20) {
+            0..=1 => self.rng.pick(&[0, -1, 240, FAR]),
+            2 => self.rng.pick(&[1, 239]),
+            _ => self.rng.range(1, 5),
+        }
+    }
+
+    fn new_process(&mut self) -> [i64; 4] {
+        let priority = if self.rng.percent(40) { self.priority() } else { self.rng.range(1, 5) };
+        let period = self.period();
+        [self.name(), priority, period, self.capacity(period)]
+    }
+
+    /// Aperiodic, multiples of M, and the edges of both rules.
+    fn period(&mut self) -> i64 {
+        let frame = self.module.frame;
+        let last_multiple = MOST_TIME / frame * frame;
+        match self.rng.below(40) {
+            0..=23 => -1,
+            24..=33 => frame * self.rng.range(1, 3),
+            34 => frame + 1,
+            35 => self.rng.pick(&[0, frame - 1, 2 * frame + 1]),
+            36 => last_multiple,
+            37 => last_multiple + frame,
+            38 => self.rng.pick(&[MOST_TIME, MOST_TIME + 1, FAR]),
+            _ => 2 * frame,
+        }
+    }
+
+    fn capacity(&mut self, period: i64) -> i64 {
+        match self.rng.below(20) {
+            0..=5 => -1,
+            6..=15 if period > 0 && period <= MOST_TIME => self.rng.range(1, period),
+            6..=15 => self.rng.range(1, 20),
+            16 if period > 0 => period,
+            17 if period > 0 => period + 1,
+            18 => self.rng.pick(&[0, MOST_TIME, MOST_TIME + 1, FAR]),
+            _ => self.rng.pick(&[1, 2, 3]),
+        }
+    }
+
+    fn delayed_start(&mut self, own: Id) -> [i64; 4] {
+        let id = self.process(own, Process::dormant);
+        let partition = self.module.partition(own);
+        let period = partition.process_id(id).and_then(|id| partition.process(id).period);
+        let delay = match (period, self.rng.below(20)) {
+            (_, 0) => self.rng.pick(&[-1, MOST_TIME + 1, FAR]),
+            (_, 1) => MOST_TIME,
+            (_, 2..=4) => 0,
+            (Some(period), 5..=7) => period - 1,
+            (Some(period), 8..=9) => period,
+            (Some(period), _) => self.rng.range(0, period - 1).min(self.rng.range(0, 10)),
+            (None, 5) => self.rng.range(1, 2 * self.module.frame),
+            (None, _) => self.rng.range(1, 8),
+        };
+        [id, delay, 0, 0]
+    }
+
+    fn new_semaphore(&mut self) -> [i64; 4] {
+        let max = match self.rng.below(12) {
+            0 => self.rng.pick(&[0, -1, 32_768, FAR]),
+            1 => 32_767,
+            _ => self.rng.range(1, 3),
+        };
+        let start = match self.rng.below(12) {
+            0 => self.rng.pick(&[-1, max + 1, FAR]),
+            1..=2 => max,
+            _ => self.rng.range(0, max.clamp(0, 3)),
+        };
+        [self.name(), start.clamp(-1, FAR), max, 0]
+    }
+
+    /// An id: mostly of a process of the wanted sort, sometimes unknown.
+    fn process(&mut self, own: Id, wanted: impl Fn(&Process) -> bool) -> i64 {
+        pick_id(&mut self.rng, &self.module.partition(own).processes, wanted)
+    }
+
+    fn semaphore(&mut self, own: Id, wanted: impl Fn(&Semaphore) -> bool) -> i64 {
+        pick_id(&mut self.rng, &self.module.partition(own).semaphores, wanted)
+    }
+
+    fn event(&mut self, own: Id, wanted: impl Fn(&EventFlag) -> bool) -> i64 {
+        pick_id(&mut self.rng, &self.module.partition(own).events, wanted)
+    }
+
+    /// A channel to write to, mostly with the partition as its source.
+    fn source_channel(&mut self, own: Id) -> i64 {
+        pick_id(&mut self.rng, &self.module.channels, |channel| channel.source == own)
+    }
+
+    /// A channel to read from, one about to grow old first.
+    fn destination_channel(&mut self, own: Id) -> i64 {
+        let (t, near) = (self.module.t, self.near_refresh(own));
+        pick_id(&mut self.rng, &self.module.channels, |channel| {
+            channel.destination == own && (!near || about_to_age(channel, t))
+        })
+    }
+
+    /// True if a message into the partition is at refresh or one past it.
+    fn near_refresh(&self, own: Id) -> bool {
+        let mut into = self.module.channels.iter().filter(|channel| channel.destination == own);
+        into.any(|channel| about_to_age(channel, self.module.t))
+    }
+
+    fn message(&mut self) -> i64 {
+        match self.rng.below(12) {
+            0 => self.rng.pick(&[-1, MOST_TIME + 1, FAR]),
+            1 => self.rng.pick(&[0, MOST_TIME]),
+            _ => self.rng.range(0, 1000),
+        }
+    }
+
+    /// A time-out; never and very long only where another process is READY.
+    fn time_out(&mut self, own: Id) -> i64 {
+        let alone = self.module.partition(own).arrival.len() < 2 && self.rng.percent(90);
+        match self.rng.below(24) {
+            0..=3 => 0,
+            4 => self.rng.pick(&[MOST_TIME + 1, FAR]),
+            5..=7 if !alone => -1,
+            8 if !alone => MOST_TIME,
+            9..=10 => self.rng.range(1, 2 * self.module.frame),
+            11 => 1,
+            _ => self.rng.range(1, 6),
+        }
+    }
+}
+
+/// The number of an item of the wanted sort for the most part, else of any
+/// item, sometimes of none.
+fn pick_id<T>(rng: &mut Rng, items: &[T], wanted: impl Fn(&T) -> bool) -> i64 {
+    let count = items.len();
+    if count == 0 || rng.percent(6) {
+        return rng.pick(&[0, -1, count as i64 + 1, 17, FAR]);
+    }
+    let from = rng.below(count);
+    let mut places = (from..count).chain(0..from);
+    let fitting = places.find(|&place| wanted(&items[place]));
+    match fitting {
+        Some(place) if rng.percent(70) => place as i64 + 1,
+        _ => rng.range(1, count as i64),
+    }
+}
+
+fn about_to_age(channel: &Channel, t: i64) -> bool {
+    let age = channel.message.map_or(-1, |message| t - message.written);
+    age == channel.refresh || age == channel.refresh + 1
+}
+
+fn may_suspend(process: &Process) -> bool {
+    process.started && !process.periodic() && !process.suspended
+}
+
+/// Prints a set-up in which every partition enters NORMAL, then the lines.
+struct SetUp<'a, W> {
+    module: Module,
+    out: &'a mut W,
+}
+
+impl<W: Write> SetUp<'_, W> {
+    fn event(&mut self, event: Event) -> io::Result<Answer> {
+        self.out.write_all(&line::text(&event.six()))?;
+        Ok(self.module.step(&event))
+    }
+
+    fn call(&mut self, own: Id, call: i64, fields: [i64; 4]) -> io::Result<Answer> {
+        self.event(Event { partition: own as i64, call, fields })
+    }
+
+    /// Ticks until the partition is current.
+    fn reach(&mut self, own: Id) -> io::Result<()> {
+        while self.module.current() != own {
+            self.event(Event::TICK)?;
+        }
+        Ok(())
+    }
+}
+
+/// A table of full major frames for the two benchmarks.
+fn full_table(rng: &mut Rng, partitions: i64) -> Vec<line::Six> {
+    let windows = 2 * partitions;
+    let duration = rng.range(3, 6);
+    let mut table = vec![[windows * duration, partitions, windows, partitions, 0, 0]];
+    for window in 0..windows {
+        let flag = i64::from(window < partitions);
+        table.push([window * duration, duration, window % partitions + 1, flag, 0, 0]);
+    }
+    for source in 1..=partitions {
+        table.push([source, source % partitions + 1, rng.range(1, 30), 0, 0, 0]);
+    }
+    table
+}
+
+fn set_up<'a, W: Write>(numbers: &[line::Six], out: &'a mut W) -> io::Result<SetUp<'a, W>> {
+    print_table(numbers, out)?;
+    Ok(SetUp { module: tables::module(numbers).expect("an accepted table"), out })
+}
+
+/// Many processes in several partitions, then busy lines. Process 1 of each
+/// partition never waits, so that its partition always has a caller.
+fn print_busy(seed: u64, count: u64, out: &mut impl Write) -> io::Result<()> {
+    let mut rng = Rng::new(seed);
+    let numbers = full_table(&mut rng, 4);
+    let mut set_up = set_up(&numbers, out)?;
+    for own in 1..=4 {
+        set_up.reach(own)?;
+        for id in 1..=16 {
+            let period = if id % 4 == 0 { numbers[0][0] } else { -1 };
+            let priority = if id == 1 { 1 } else { rng.range(2, 9) };
+            set_up.call(own, 2, [id, priority, period, rng.pick(&[-1, 5, 20])])?;
+            set_up.call(own, 3, [id, 0, 0, 0])?;
+        }
+        for name in 1..=4 {
+            set_up.call(own, 14, [name, 1, 3, 0])?;
+            set_up.call(own, 17, [name, 0, 0, 0])?;
+        }
+        set_up.call(own, 1, [3, 0, 0, 0])?;
+    }
+    for _ in 0..count {
+        let event = busy_event(&mut rng, &set_up.module);
+        set_up.event(event)?;
+    }
+    Ok(())
+}
+
+/// A tick or a call that mostly gets 0 or 7.
+fn busy_event(rng: &mut Rng, module: &Module) -> Event {
+    let own = module.current();
+    let partition = module.partition(own);
+    let caller = partition.running();
+    if rng.percent(20) || caller == 0 {
+        return Event::TICK;
+    }
+    let may_wait = caller != 1;
+    let periodic = partition.process(caller).periodic();
+    let call = match rng.below(16) {
+        0..=2 => 15,
+        3..=4 => 20,
+        5 if periodic => 10,
+        5..=6 => 9,
+        7 if !periodic => 8,
+        7..=9 => 16,
+        10 => rng.pick(&[18, 19]),
+        11 => rng.pick(&[7, 11]),
+        12 => 12,
+        13 => 13,
+        14 => 21,
+        _ => 22,
+    };
+    let call = if may_wait || ![8, 9, 15, 20].contains(&call) { call } else { 16 };
+    let fields = busy_fields(rng, module, partition, call);
+    Event { partition: own as i64, call, fields }
+}
+
+fn busy_fields(rng: &mut Rng, module: &Module, partition: &Partition, call: i64) -> [i64; 4] {
+    let other = rng.range(2, partition.processes.len() as i64);
+    let own = module.current();
+    match call {
+        8 | 9 => [rng.range(1, 30), 0, 0, 0],
+        10 => [0; 4],
+        12 => [other, rng.range(2, 9), 0, 0],
+        15 | 20 => [rng.range(1, 4), rng.pick(&[-1, 10, 40]), 0, 0],
+        16 | 18 | 19 => [rng.range(1, 4), 0, 0, 0],
+        // Channel k goes from partition k to the one after it.
+        21 => [own as i64, rng.range(0, MOST_TIME), 0, 0],
+        22 => [(own + module.partitions.len() - 2) as i64 % 4 + 1, 0, 0, 0],
+        _ => [other, 0, 0, 0],
+    }
+}
+
+/// Every partition in NORMAL with processes that wait long, then ticks.
+fn print_ticks(seed: u64, count: u64, out: &mut impl Write) -> io::Result<()> {
+    let mut rng = Rng::new(seed);
+    let numbers = full_table(&mut rng, 8);
+    let mut set_up = set_up(&numbers, out)?;
+    for own in 1..=8 {
+        set_up.reach(own)?;
+        for id in 1..=16 {
+            set_up.call(own, 2, [id, rng.range(1, 9), -1, MOST_TIME])?;
+            set_up.call(own, 4, [id, MOST_TIME - rng.range(0, 1000), 0, 0])?;
+        }
+        set_up.call(own, 1, [3, 0, 0, 0])?;
+    }
+    for _ in 0..count {
+        set_up.event(Event::TICK)?;
+    }
+    Ok(())
+}

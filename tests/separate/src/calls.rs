@@ -76,7 +76,11 @@ impl Module {
     }
 
     fn clock(&self, partition: Id) -> Clock {
-        Clock { t: self.t, frame: self.frame, first_release: self.first_release(partition) }
+        Clock {
+            t: self.t,
+            frame: self.frame,
+            first_release: self.first_release(partition),
+        }
     }
 
     /// 1 SET_PARTITION_MODE a.
@@ -154,7 +158,10 @@ impl Module {
         if !D.contains(&a) {
             return refuse(3);
         }
-        channel.message = Some(Message { value: a, written: t });
+        channel.message = Some(Message {
+            value: a,
+            written: t,
+        });
         Outcome::DONE
     }
 
@@ -279,7 +286,12 @@ impl Partition {
             return refuse(5);
         }
         let or_never = |number| (number != -1).then_some(number);
-        self.processes.push(Process::created(name, priority, or_never(period), or_never(capacity)));
+        self.processes.push(Process::created(
+            name,
+            priority,
+            or_never(period),
+            or_never(capacity),
+        ));
         Outcome::value(self.processes.len() as i64, 0)
     }
 
@@ -454,7 +466,11 @@ impl Partition {
         if self.semaphores.len() == SEMAPHORES {
             return refuse(4);
         }
-        if self.semaphores.iter().any(|semaphore| semaphore.name == name) {
+        if self
+            .semaphores
+            .iter()
+            .any(|semaphore| semaphore.name == name)
+        {
             return refuse(1);
         }
         let good_max = (1..=MOST_VALUE).contains(&max);
@@ -465,7 +481,12 @@ impl Partition {
             return refuse(5);
         }
         let queue = VecDeque::with_capacity(PROCESSES);
-        self.semaphores.push(Semaphore { name, value: start, max, queue });
+        self.semaphores.push(Semaphore {
+            name,
+            value: start,
+            max,
+            queue,
+        });
         Outcome::value(self.semaphores.len() as i64, 0)
     }
 
@@ -484,7 +505,11 @@ impl Partition {
             return refuse(5);
         }
         let queue = VecDeque::with_capacity(PROCESSES);
-        self.events.push(EventFlag { name, up: false, queue });
+        self.events.push(EventFlag {
+            name,
+            up: false,
+            queue,
+        });
         Outcome::value(self.events.len() as i64, 0)
     }
 

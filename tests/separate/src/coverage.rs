@@ -65,8 +65,15 @@ const NAMES: [&str; CALLS] = [
 ];
 
 /// The kinds of wait, and the suspended mark of a process without wait.
-pub const HOLDS: [&str; 7] =
-    ["normal", "delay", "timed", "period", "semaphore", "event", "suspended, no wait"];
+pub const HOLDS: [&str; 7] = [
+    "normal",
+    "delay",
+    "timed",
+    "period",
+    "semaphore",
+    "event",
+    "suspended, no wait",
+];
 
 /// What can happen to a wait.
 pub const FATES: [&str; 10] = [
@@ -209,11 +216,19 @@ impl Coverage {
             self.count_hold(new, "began");
         }
         if !old.suspended && new.suspended {
-            let fate = if new.wait == Wait::None { "began" } else { "suspended" };
+            let fate = if new.wait == Wait::None {
+                "began"
+            } else {
+                "suspended"
+            };
             self.count_hold(new, fate);
         }
         if old.suspended && !new.suspended && new.started {
-            let fate = if event.call == 0 { "by time" } else { "resumed" };
+            let fate = if event.call == 0 {
+                "by time"
+            } else {
+                "resumed"
+            };
             self.count_hold(old, fate);
         }
         if old.suspended && !new.started && old.wait == Wait::None {
@@ -338,14 +353,19 @@ impl Coverage {
     pub fn missing(&self) -> Vec<(usize, usize)> {
         let pairs = ALLOWED.iter().enumerate();
         let pairs = pairs.flat_map(|(call, codes)| codes.iter().map(move |&code| (call, code)));
-        pairs.filter(|&(call, code)| self.answers[call][code] == 0).collect()
+        pairs
+            .filter(|&(call, code)| self.answers[call][code] == 0)
+            .collect()
     }
 
     /// The pairs that were met though document 01 has no such answer.
     pub fn unforeseen(&self) -> Vec<(usize, usize)> {
         let pairs = (0..CALLS).flat_map(|call| (0..CODES).map(move |code| (call, code)));
         let met = |&(call, code): &(usize, usize)| self.answers[call][code] > 0;
-        pairs.filter(met).filter(|&(call, code)| !ALLOWED[call].contains(&code)).collect()
+        pairs
+            .filter(met)
+            .filter(|&(call, code)| !ALLOWED[call].contains(&code))
+            .collect()
     }
 
     pub fn print(&self, out: &mut impl Write) -> io::Result<()> {
@@ -420,22 +440,34 @@ fn reason(module: &Module, event: &Event) -> usize {
         (event.partition > partitions, "partition above P"),
         (event.call < 0, "call below 0"),
         (event.call > LAST_CALL, "call above 22"),
-        (event.partition == 0 && event.call != 0, "partition 0 with a call"),
-        (event.partition != 0 && event.call == 0, "a partition with call 0"),
+        (
+            event.partition == 0 && event.call != 0,
+            "partition 0 with a call",
+        ),
+        (
+            event.partition != 0 && event.call == 0,
+            "a partition with call 0",
+        ),
     ];
     if let Some((_, name)) = reasons.iter().find(|(holds, _)| *holds) {
         return place(&REASONS, name);
     }
     let used = USED[event.call as usize];
-    let unused = (used..4).find(|&field| event.fields[field] != 0).unwrap_or(used);
+    let unused = (used..4)
+        .find(|&field| event.fields[field] != 0)
+        .unwrap_or(used);
     place(&REASONS, "unused a not 0") + unused
 }
 
 fn refused_at(text: &[u8], code: i64, line: i64) -> &'static str {
     // A table with a bad line has at least as many bytes as its good lines.
     let missing = text.len() < (line as usize).saturating_sub(1) * LENGTH + 1;
-    let windows = text.get(20..30).and_then(|field| std::str::from_utf8(field).ok());
-    let windows = windows.and_then(|field| field.trim().parse().ok()).unwrap_or(0);
+    let windows = text
+        .get(20..30)
+        .and_then(|field| std::str::from_utf8(field).ok());
+    let windows = windows
+        .and_then(|field| field.trim().parse().ok())
+        .unwrap_or(0);
     match (code, line) {
         (11, _) if missing => "11 for a missing line",
         (11, 1) => "11 on line 1",
@@ -448,12 +480,18 @@ fn refused_at(text: &[u8], code: i64, line: i64) -> &'static str {
 }
 
 fn place(names: &[&str], name: &str) -> usize {
-    names.iter().position(|&other| other == name).expect("a name of the list")
+    names
+        .iter()
+        .position(|&other| other == name)
+        .expect("a name of the list")
 }
 
 fn print_list(out: &mut impl Write, title: &str, names: &[&str], counts: &[u64]) -> io::Result<()> {
     writeln!(out, "\n{title}")?;
-    names.iter().zip(counts).try_for_each(|(name, count)| writeln!(out, "  {name}: {count}"))
+    names
+        .iter()
+        .zip(counts)
+        .try_for_each(|(name, count)| writeln!(out, "  {name}: {count}"))
 }
 
 fn print_pairs(out: &mut impl Write, title: &str, pairs: &[(usize, usize)]) -> io::Result<()> {

@@ -93,7 +93,9 @@ pub const LINE_DAMAGES: [(&str, LineDamage); 14] = [
         line.extend_from_slice(&twice);
         line.push(b'\n');
     }),
-    ("an LF inside", |rng, line| line[rng.below(LENGTH - 1)] = b'\n'),
+    ("an LF inside", |rng, line| {
+        line[rng.below(LENGTH - 1)] = b'\n'
+    }),
 ];
 
 /// Puts ten columns into a field of a line.

@@ -43,7 +43,12 @@ fn dump_module(module: &Module, out: &mut impl Write) -> io::Result<()> {
 }
 
 fn dump_window(window: &Window, n: usize, out: &mut impl Write) -> io::Result<()> {
-    let Window { start, duration, partition, flag } = window;
+    let Window {
+        start,
+        duration,
+        partition,
+        flag,
+    } = window;
     let flag = u8::from(*flag);
     writeln!(
         out,
@@ -52,7 +57,12 @@ fn dump_window(window: &Window, n: usize, out: &mut impl Write) -> io::Result<()
 }
 
 fn dump_channel(channel: &Channel, n: usize, out: &mut impl Write) -> io::Result<()> {
-    let Channel { source, destination, refresh, message } = channel;
+    let Channel {
+        source,
+        destination,
+        refresh,
+        message,
+    } = channel;
     let value = message.map_or(-1, |message| message.value);
     let written = message.map_or(-1, |message| message.written);
     writeln!(
@@ -79,7 +89,12 @@ fn dump_partition(partition: &Partition, k: usize, out: &mut impl Write) -> io::
         writeln!(out, "semaphore {id} name {name} value {value} max {max}")?;
     }
     for (event, id) in partition.events.iter().zip(1..) {
-        writeln!(out, "event {id} name {} up {}", event.name, u8::from(event.up))?;
+        writeln!(
+            out,
+            "event {id} name {} up {}",
+            event.name,
+            u8::from(event.up)
+        )?;
     }
     write!(out, "arrival")?;
     dump_ids(&partition.arrival, out)?;

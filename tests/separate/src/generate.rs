@@ -53,7 +53,11 @@ pub fn table(seed: u64) -> Vec<u8> {
     let kind = rng.below(8);
     if matches!(kind, 1..=4) {
         let last = NUMBER_DAMAGES[NUMBER_DAMAGES.len() - 1];
-        let (_, damage) = if rng.percent(10) { last } else { rng.pick(&NUMBER_DAMAGES) };
+        let (_, damage) = if rng.percent(10) {
+            last
+        } else {
+            rng.pick(&NUMBER_DAMAGES)
+        };
         damage(&mut rng, &mut numbers);
     }
     let mut lines = tables::text(&numbers);
@@ -84,7 +88,9 @@ fn cut_table(rng: &mut Rng, lines: &mut Vec<Vec<u8>>) {
 }
 
 fn print_table(numbers: &[line::Six], out: &mut impl Write) -> io::Result<()> {
-    numbers.iter().try_for_each(|six| out.write_all(&line::text(six)))
+    numbers
+        .iter()
+        .try_for_each(|six| out.write_all(&line::text(six)))
 }
 
 fn print_events(seed: u64, count: u64, out: &mut impl Write) -> io::Result<()> {
@@ -145,7 +151,16 @@ impl Events {
         let mut rng = Rng::new(seed);
         let numbers = tables::accepted(&mut rng);
         let module = tables::module(&numbers).expect("an accepted table");
-        (numbers, Events { module, rng, burst: 0 })
+        (numbers, Events::of(module, rng))
+    }
+
+    /// A source of events for a module.
+    pub fn of(module: Module, rng: Rng) -> Events {
+        Events {
+            module,
+            rng,
+            burst: 0,
+        }
     }
 
     /// Chooses an event and steps the module by it.
@@ -165,7 +180,8 @@ impl Events {
         }
     }
 
-    fn choose(&mut self) -> Event {
+    /// Chooses an event and leaves the module as it is.
+    pub fn choose(&mut self) -> Event {
         if self.burst > 0 {
             self.burst -= 1;
             return Event::TICK;
@@ -175,7 +191,11 @@ impl Events {
         }
         let own = self.module.current();
         if own == 0 || self.rng.percent(2) {
-            return if self.rng.percent(30) { self.call_by_other(own) } else { self.ticks() };
+            return if self.rng.percent(30) {
+                self.call_by_other(own)
+            } else {
+                self.ticks()
+            };
         }
         if self.rng.percent(30) && self.near_refresh(own) {
             return self.call(own, 22);
@@ -241,23 +261,50 @@ impl Events {
             0 => {
                 let partition = rng.pick(&[-1, partitions + 1, 9, FAR]);
                 let call = rng.range(0, LAST_CALL);
-                let partition = if partition <= partitions { -1 } else { partition };
-                Event { partition, call, fields: zeros }
+                let partition = if partition <= partitions {
+                    -1
+                } else {
+                    partition
+                };
+                Event {
+                    partition,
+                    call,
+                    fields: zeros,
+                }
             }
             1 => {
                 let partition = rng.pick(&[own, 0, -1]);
-                Event { partition, call: rng.pick(&[-1, 23, FAR]), fields: zeros }
+                Event {
+                    partition,
+                    call: rng.pick(&[-1, 23, FAR]),
+                    fields: zeros,
+                }
             }
-            2 => Event { partition: 0, call, fields: zeros },
-            3 => Event { partition: own, call: 0, fields: zeros },
-            4 => Event { fields: self.one_field(0), ..Event::TICK },
+            2 => Event {
+                partition: 0,
+                call,
+                fields: zeros,
+            },
+            3 => Event {
+                partition: own,
+                call: 0,
+                fields: zeros,
+            },
+            4 => Event {
+                fields: self.one_field(0),
+                ..Event::TICK
+            },
             _ => {
                 let used = USED[call as usize];
                 let mut fields = self.fields(own as Id, call);
                 for (field, further) in fields[used..].iter_mut().zip(self.one_field(used)) {
                     *field = further;
                 }
-                Event { partition: own, call, fields }
+                Event {
+                    partition: own,
+                    call,
+                    fields,
+                }
             }
         }
     }
@@ -273,7 +320,11 @@ impl Events {
 
     /// A call with fields that fit its partition's record for the most part.
     fn call(&mut self, own: Id, call: i64) -> Event {
-        Event { partition: own as i64, call, fields: self.fields(own, call) }
+        Event {
+            partition: own as i64,
+            call,
+            fields: self.fields(own, call),
+        }
     }
 
     fn fields(&mut self, own: Id, call: i64) -> [i64; 4] {
@@ -286,10 +337,20 @@ impl Events {
             7 => [self.process(own, may_suspend), 0, 0, 0],
             8 | 9 => [self.time_out(own), 0, 0, 0],
             11 => [self.process(own, |process| process.suspended), 0, 0, 0],
-            12 => [self.process(own, |process| process.started), self.priority(), 0, 0],
+            12 => [
+                self.process(own, |process| process.started),
+                self.priority(),
+                0,
+                0,
+            ],
             13 => [self.process(own, |_| true), 0, 0, 0],
             14 => self.new_semaphore(),
-            15 => [self.semaphore(own, |it| it.value == 0), self.time_out(own), 0, 0],
+            15 => [
+                self.semaphore(own, |it| it.value == 0),
+                self.time_out(own),
+                0,
+                0,
+            ],
             16 => [self.semaphore(own, |it| !it.queue.is_empty()), 0, 0, 0],
             17 => [self.name(), 0, 0, 0],
             18 => [self.event(own, |it| !it.queue.is_empty()), 0, 0, 0],
@@ -335,7 +396,11 @@ impl Events {
     }
 
     fn new_process(&mut self) -> [i64; 4] {
-        let priority = if self.rng.percent(40) { self.priority() } else { self.rng.range(1, 5) };
+        let priority = if self.rng.percent(40) {
+            self.priority()
+        } else {
+            self.rng.range(1, 5)
+        };
         let period = self.period();
         [self.name(), priority, period, self.capacity(period)]
     }
@@ -362,7 +427,7 @@ impl Events {
             6..=15 if period > 0 && period <= MOST_TIME => self.rng.range(1, period),
             6..=15 => self.rng.range(1, 20),
             16 if period > 0 => period,
-            17 if period > 0 => period + 1,
+            17 if period > 0 => (period + 1).min(FAR),
             18 => self.rng.pick(&[0, MOST_TIME, MOST_TIME + 1, FAR]),
             _ => self.rng.pick(&[1, 2, 3]),
         }
@@ -371,7 +436,9 @@ impl Events {
     fn delayed_start(&mut self, own: Id) -> [i64; 4] {
         let id = self.process(own, Process::dormant);
         let partition = self.module.partition(own);
-        let period = partition.process_id(id).and_then(|id| partition.process(id).period);
+        let period = partition
+            .process_id(id)
+            .and_then(|id| partition.process(id).period);
         let delay = match (period, self.rng.below(20)) {
             (_, 0) => self.rng.pick(&[-1, MOST_TIME + 1, FAR]),
             (_, 1) => MOST_TIME,
@@ -405,7 +472,11 @@ impl Events {
     }
 
     fn semaphore(&mut self, own: Id, wanted: impl Fn(&Semaphore) -> bool) -> i64 {
-        pick_id(&mut self.rng, &self.module.partition(own).semaphores, wanted)
+        pick_id(
+            &mut self.rng,
+            &self.module.partition(own).semaphores,
+            wanted,
+        )
     }
 
     fn event(&mut self, own: Id, wanted: impl Fn(&EventFlag) -> bool) -> i64 {
@@ -414,7 +485,9 @@ impl Events {
 
     /// A channel to write to, mostly with the partition as its source.
     fn source_channel(&mut self, own: Id) -> i64 {
-        pick_id(&mut self.rng, &self.module.channels, |channel| channel.source == own)
+        pick_id(&mut self.rng, &self.module.channels, |channel| {
+            channel.source == own
+        })
     }
 
     /// A channel to read from, one about to grow old first.
@@ -427,7 +500,11 @@ impl Events {
 
     /// True if a message into the partition is at refresh or one past it.
     fn near_refresh(&self, own: Id) -> bool {
-        let mut into = self.module.channels.iter().filter(|channel| channel.destination == own);
+        let mut into = self
+            .module
+            .channels
+            .iter()
+            .filter(|channel| channel.destination == own);
         into.any(|channel| about_to_age(channel, self.module.t))
     }
 
@@ -492,7 +569,11 @@ impl<W: Write> SetUp<'_, W> {
     }
 
     fn call(&mut self, own: Id, call: i64, fields: [i64; 4]) -> io::Result<Answer> {
-        self.event(Event { partition: own as i64, call, fields })
+        self.event(Event {
+            partition: own as i64,
+            call,
+            fields,
+        })
     }
 
     /// Ticks until the partition is current.
@@ -511,7 +592,14 @@ fn full_table(rng: &mut Rng, partitions: i64) -> Vec<line::Six> {
     let mut table = vec![[windows * duration, partitions, windows, partitions, 0, 0]];
     for window in 0..windows {
         let flag = i64::from(window < partitions);
-        table.push([window * duration, duration, window % partitions + 1, flag, 0, 0]);
+        table.push([
+            window * duration,
+            duration,
+            window % partitions + 1,
+            flag,
+            0,
+            0,
+        ]);
     }
     for source in 1..=partitions {
         table.push([source, source % partitions + 1, rng.range(1, 30), 0, 0, 0]);
@@ -521,7 +609,10 @@ fn full_table(rng: &mut Rng, partitions: i64) -> Vec<line::Six> {
 
 fn set_up<'a, W: Write>(numbers: &[line::Six], out: &'a mut W) -> io::Result<SetUp<'a, W>> {
     print_table(numbers, out)?;
-    Ok(SetUp { module: tables::module(numbers).expect("an accepted table"), out })
+    Ok(SetUp {
+        module: tables::module(numbers).expect("an accepted table"),
+        out,
+    })
 }
 
 /// Many processes in several partitions, then busy lines. Process 1 of each
@@ -575,9 +666,17 @@ fn busy_event(rng: &mut Rng, module: &Module) -> Event {
         14 => 21,
         _ => 22,
     };
-    let call = if may_wait || ![8, 9, 15, 20].contains(&call) { call } else { 16 };
+    let call = if may_wait || ![8, 9, 15, 20].contains(&call) {
+        call
+    } else {
+        16
+    };
     let fields = busy_fields(rng, module, partition, call);
-    Event { partition: own as i64, call, fields }
+    Event {
+        partition: own as i64,
+        call,
+        fields,
+    }
 }
 
 fn busy_fields(rng: &mut Rng, module: &Module, partition: &Partition, call: i64) -> [i64; 4] {

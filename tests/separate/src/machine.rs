@@ -22,10 +22,18 @@ pub struct Event {
 }
 
 impl Event {
-    pub const TICK: Event = Event { partition: 0, call: 0, fields: [0; 4] };
+    pub const TICK: Event = Event {
+        partition: 0,
+        call: 0,
+        fields: [0; 4],
+    };
 
     pub fn from_six([partition, call, a, b, c, e]: Six) -> Event {
-        Event { partition, call, fields: [a, b, c, e] }
+        Event {
+            partition,
+            call,
+            fields: [a, b, c, e],
+        }
     }
 
     pub fn six(&self) -> Six {
@@ -48,7 +56,14 @@ pub struct Answer {
 
 impl Answer {
     pub fn six(&self) -> Six {
-        [self.code, self.value, self.extra, self.t, self.current, self.running]
+        [
+            self.code,
+            self.value,
+            self.extra,
+            self.t,
+            self.current,
+            self.running,
+        ]
     }
 }
 
@@ -72,11 +87,19 @@ impl Outcome {
     pub const WAITING: Outcome = Outcome::code(7);
 
     pub const fn code(code: i64) -> Outcome {
-        Outcome { code, value: 0, extra: 0 }
+        Outcome {
+            code,
+            value: 0,
+            extra: 0,
+        }
     }
 
     pub const fn value(value: i64, extra: i64) -> Outcome {
-        Outcome { code: 0, value, extra }
+        Outcome {
+            code: 0,
+            value,
+            extra,
+        }
     }
 }
 
@@ -138,7 +161,9 @@ impl Module {
             && (0..=self.partitions.len() as i64).contains(&event.partition)
             && (0..=LAST_CALL).contains(&event.call)
             && (event.partition == 0) == (event.call == 0)
-            && event.fields[USED[event.call as usize]..].iter().all(|&field| field == 0)
+            && event.fields[USED[event.call as usize]..]
+                .iter()
+                .all(|&field| field == 0)
     }
 
     /// The running process shows only where the event's partition is 0 or

@@ -22,7 +22,13 @@ pub struct Lines<R> {
 
 impl<R: Read> Lines<R> {
     pub fn new(input: R) -> Lines<R> {
-        Lines { input, buffer: vec![0; BLOCK], start: 0, end: 0, finished: false }
+        Lines {
+            input,
+            buffer: vec![0; BLOCK],
+            start: 0,
+            end: 0,
+            finished: false,
+        }
     }
 
     fn unread(&self) -> &[u8] {
@@ -31,9 +37,7 @@ impl<R: Read> Lines<R> {
 
     /// True if the next line cannot be judged without reading on.
     pub fn needs_input(&self) -> bool {
-        !self.finished
-            && self.end - self.start < line::LENGTH
-            && !self.unread().contains(&b'\n')
+        !self.finished && self.end - self.start < line::LENGTH && !self.unread().contains(&b'\n')
     }
 
     /// The next line, `None` at the end of the input.
@@ -95,7 +99,11 @@ struct Block<W> {
 
 impl<W: Write> Block<W> {
     fn new(output: W) -> Block<W> {
-        Block { output, bytes: vec![0; BLOCK], at: 0 }
+        Block {
+            output,
+            bytes: vec![0; BLOCK],
+            at: 0,
+        }
     }
 
     /// Adds a line. Every answer is within a line's range.

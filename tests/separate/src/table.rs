@@ -49,7 +49,10 @@ impl<F: FnMut() -> Option<Line>> Counted<F> {
     }
 
     fn refusal(&self, code: i64) -> Refusal {
-        Refusal { code, line: self.line }
+        Refusal {
+            code,
+            line: self.line,
+        }
     }
 
     /// 12 for the line just read unless the rule holds.
@@ -73,7 +76,12 @@ pub fn read(next: impl FnMut() -> Option<Line>) -> Result<Module, Refusal> {
     if !every {
         return Err(Refusal { code: 12, line: 0 });
     }
-    Ok(Module::fresh(head.frame, head.partitions as usize, windows, channels))
+    Ok(Module::fresh(
+        head.frame,
+        head.partitions as usize,
+        windows,
+        channels,
+    ))
 }
 
 /// Line 1: M 1..10,000, P 1..8, windows 1..32, channels 0..16, 0, 0.
@@ -84,7 +92,12 @@ fn read_head<F: FnMut() -> Option<Line>>(lines: &mut Counted<F>) -> Result<Head,
     lines.rule((1..=MOST_WINDOWS).contains(&windows))?;
     lines.rule((0..=MOST_CHANNELS).contains(&channels))?;
     lines.rule(zero == 0 && other_zero == 0)?;
-    Ok(Head { frame, partitions, windows, channels })
+    Ok(Head {
+        frame,
+        partitions,
+        windows,
+        channels,
+    })
 }
 
 /// Window: start >= previous end (first >= 0), duration >= 1,
@@ -104,7 +117,12 @@ fn read_windows<F: FnMut() -> Option<Line>>(
         lines.rule(flag == 0 || flag == 1)?;
         lines.rule(zero == 0 && other_zero == 0)?;
         previous_end = start + duration;
-        windows.push(Window { start, duration, partition: partition as Id, flag: flag == 1 });
+        windows.push(Window {
+            start,
+            duration,
+            partition: partition as Id,
+            flag: flag == 1,
+        });
     }
     Ok(windows)
 }
@@ -134,5 +152,7 @@ fn read_channels<F: FnMut() -> Option<Line>>(
 }
 
 fn has_flag(windows: &[Window], partition: Id) -> bool {
-    windows.iter().any(|window| window.partition == partition && window.flag)
+    windows
+        .iter()
+        .any(|window| window.partition == partition && window.flag)
 }

@@ -34,7 +34,11 @@ fn pick_frame(rng: &mut Rng, windows: i64) -> i64 {
         2..=7 => windows + rng.range(0, 12),
         8..=12 => windows + rng.range(0, 60),
         13..=14 => windows + rng.range(0, 600),
-        _ => rng.pick(&[rng.clone().range(windows, MOST_FRAME), MOST_FRAME, MOST_FRAME - 1]),
+        _ => rng.pick(&[
+            rng.clone().range(windows, MOST_FRAME),
+            MOST_FRAME,
+            MOST_FRAME - 1,
+        ]),
     }
 }
 
@@ -59,7 +63,11 @@ fn spread(rng: &mut Rng, frame: i64, windows: i64) -> Vec<(i64, i64)> {
     // Weight of the gap before each window and of its own further ticks.
     let weights: Vec<(i64, i64)> = (0..windows)
         .map(|_| {
-            let gap = if gaps && rng.percent(50) { rng.range(0, 5) } else { 0 };
+            let gap = if gaps && rng.percent(50) {
+                rng.range(0, 5)
+            } else {
+                0
+            };
             (gap, rng.range(1, 8))
         })
         .collect();
@@ -106,21 +114,35 @@ pub type NumberDamage = fn(&mut Rng, &mut Vec<Six>) -> bool;
 
 /// Every reason for 12 with a line number, and the final check.
 pub const NUMBER_DAMAGES: [(&str, NumberDamage); 23] = [
-    ("line 1: M below 1", |rng, table| set(table, 0, 0, rng.pick(&[0, -1]))),
+    ("line 1: M below 1", |rng, table| {
+        set(table, 0, 0, rng.pick(&[0, -1]))
+    }),
     ("line 1: M above 10,000", |rng, table| {
         set(table, 0, 0, rng.pick(&[10_001, 20_000, 999_999_999]))
     }),
-    ("line 1: P below 1", |rng, table| set(table, 0, 1, rng.pick(&[0, -1]))),
-    ("line 1: P above 8", |rng, table| set(table, 0, 1, rng.pick(&[9, 10, 999_999_999]))),
-    ("line 1: windows below 1", |rng, table| set(table, 0, 2, rng.pick(&[0, -1]))),
-    ("line 1: windows above 32", |rng, table| set(table, 0, 2, rng.pick(&[33, 999_999_999]))),
+    ("line 1: P below 1", |rng, table| {
+        set(table, 0, 1, rng.pick(&[0, -1]))
+    }),
+    ("line 1: P above 8", |rng, table| {
+        set(table, 0, 1, rng.pick(&[9, 10, 999_999_999]))
+    }),
+    ("line 1: windows below 1", |rng, table| {
+        set(table, 0, 2, rng.pick(&[0, -1]))
+    }),
+    ("line 1: windows above 32", |rng, table| {
+        set(table, 0, 2, rng.pick(&[33, 999_999_999]))
+    }),
     ("line 1: channels below 0", |_, table| set(table, 0, 3, -1)),
-    ("line 1: channels above 16", |rng, table| set(table, 0, 3, rng.pick(&[17, 999_999_999]))),
+    ("line 1: channels above 16", |rng, table| {
+        set(table, 0, 3, rng.pick(&[17, 999_999_999]))
+    }),
     ("line 1: a last field not 0", |rng, table| {
         let field = 4 + rng.below(2);
         set(table, 0, field, rng.pick(&[1, -1, 999_999_999]))
     }),
-    ("window: first start below 0", |_, table| set(table, 1, 0, -1)),
+    ("window: first start below 0", |_, table| {
+        set(table, 1, 0, -1)
+    }),
     ("window: start below previous end", start_below_previous_end),
     ("window: duration below 1", |rng, table| {
         let at = any_window(rng, table);
@@ -153,13 +175,16 @@ pub const NUMBER_DAMAGES: [(&str, NumberDamage); 23] = [
         let value = rng.pick(&[0, -1, above, 999_999_999]);
         set_channel(rng, table, 1, value)
     }),
-    ("channel: destination is the source", |rng, table| match any_channel(rng, table) {
-        Some(at) => {
-            let source = table[at][0];
-            set(table, at, 1, source)
-        }
-        None => false,
-    }),
+    (
+        "channel: destination is the source",
+        |rng, table| match any_channel(rng, table) {
+            Some(at) => {
+                let source = table[at][0];
+                set(table, at, 1, source)
+            }
+            None => false,
+        },
+    ),
     ("channel: refresh below 1", |rng, table| {
         let value = rng.pick(&[0, -1]);
         set_channel(rng, table, 2, value)

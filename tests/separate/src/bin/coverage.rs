@@ -6,8 +6,10 @@ use std::io;
 use std::process::ExitCode;
 
 fn main() -> ExitCode {
-    let numbers: Option<Vec<u64>> =
-        std::env::args().skip(1).map(|argument| argument.parse().ok()).collect();
+    let numbers: Option<Vec<u64>> = std::env::args()
+        .skip(1)
+        .map(|argument| argument.parse().ok())
+        .collect();
     let Some([from, to, count]) = numbers.as_deref() else {
         eprintln!("coverage FROM TO COUNT");
         return ExitCode::FAILURE;

@@ -6,5 +6,7 @@ use std::io::{self, Write};
 fn main() {
     let module = replay::final_record(io::stdin().lock());
     // What cannot be written (a closed pipe) ends the program quietly.
-    let _ = io::stdout().lock().write_all(dump::text(&module).as_bytes());
+    let _ = io::stdout()
+        .lock()
+        .write_all(dump::text(&module).as_bytes());
 }

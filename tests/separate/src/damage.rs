@@ -23,7 +23,7 @@ pub const BAD_FIELDS: [(&str, &[u8; COLUMNS]); 32] = [
     ("a minus behind", b"        1-"),
     ("CR", b"        1\r"),
     ("NUL", b"        1\0"),
-    ("NUL before the number", b"\0\0\0\0\0\0\0\0\01"),
+    ("NUL before the number", b"\0\0\0\0\0\0\0\0\x001"),
     ("a byte of 128 and above", b"        1\xB2"),
     ("two bytes of one character", b"       \xC3\xA91"),
     ("a byte of 255", b"         \xFF"),

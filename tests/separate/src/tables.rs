@@ -110,7 +110,7 @@ pub fn module(lines: &[Six]) -> Result<Module, table::Refusal> {
 
 /// A change of an accepted table's numbers that breaks one rule. It tells
 /// whether the table had a place for it.
-pub type NumberDamage = fn(&mut Rng, &mut Vec<Six>) -> bool;
+pub type NumberDamage = fn(&mut Rng, &mut [Six]) -> bool;
 
 /// Every reason for 12 with a line number, and the final check.
 pub const NUMBER_DAMAGES: [(&str, NumberDamage); 23] = [
@@ -220,7 +220,7 @@ fn any_channel(rng: &mut Rng, table: &[Six]) -> Option<usize> {
 }
 
 /// A later window starts inside or before an earlier one.
-fn start_below_previous_end(rng: &mut Rng, table: &mut Vec<Six>) -> bool {
+fn start_below_previous_end(rng: &mut Rng, table: &mut [Six]) -> bool {
     let windows = table[0][2];
     if windows < 2 {
         return false;
@@ -233,7 +233,7 @@ fn start_below_previous_end(rng: &mut Rng, table: &mut Vec<Six>) -> bool {
 
 /// Takes every flag from one partition, be it the first, a middle or the
 /// last one.
-fn take_flags(rng: &mut Rng, table: &mut Vec<Six>) -> bool {
+fn take_flags(rng: &mut Rng, table: &mut [Six]) -> bool {
     let (partitions, windows) = (table[0][1], table[0][2] as usize);
     let partition = rng.range(1, partitions);
     for line in &mut table[1..=windows] {

@@ -137,7 +137,7 @@ pub struct Events {
 
 /// How often each call is made by a partition's main program: tick, 1, 2, ...
 const START_WEIGHTS: [usize; 23] = [
-    8, 6, 26, 14, 12, 2, 1, 4, 1, 1, 1, 4, 3, 3, 9, 1, 4, 7, 2, 2, 1, 4, 4,
+    8, 5, 26, 13, 11, 2, 1, 4, 1, 1, 1, 4, 3, 3, 11, 1, 4, 10, 2, 2, 1, 4, 4,
 ];
 
 /// How often each call is made by a running process.
@@ -330,7 +330,7 @@ impl Events {
     fn fields(&mut self, own: Id, call: i64) -> [i64; 4] {
         match call {
             1 => [self.mode(own), 0, 0, 0],
-            2 => self.new_process(),
+            2 => self.new_process(own),
             3 => [self.process(own, Process::dormant), 0, 0, 0],
             4 => self.delayed_start(own),
             5 => [self.process(own, |process| process.started), 0, 0, 0],
@@ -344,7 +344,7 @@ impl Events {
                 0,
             ],
             13 => [self.process(own, |_| true), 0, 0, 0],
-            14 => self.new_semaphore(),
+            14 => self.new_semaphore(own),
             15 => [
                 self.semaphore(own, |it| it.value == 0),
                 self.time_out(own),
@@ -352,7 +352,7 @@ impl Events {
                 0,
             ],
             16 => [self.semaphore(own, |it| !it.queue.is_empty()), 0, 0, 0],
-            17 => [self.name(), 0, 0, 0],
+            17 => [self.name(own, 17), 0, 0, 0],
             18 => [self.event(own, |it| !it.queue.is_empty()), 0, 0, 0],
             19 => [self.event(own, |it| it.up), 0, 0, 0],
             20 => [self.event(own, |it| !it.up), self.time_out(own), 0, 0],
@@ -378,13 +378,30 @@ impl Events {
         }
     }
 
-    fn name(&mut self) -> i64 {
+    /// A name for a creating call: mostly a new one, sometimes a known one or
+    /// one out of range.
+    fn name(&mut self, own: Id, call: i64) -> i64 {
+        if self.rng.percent(12) {
+            if let Some(name) = self.known_name(own, call) {
+                return name;
+            }
+        }
         match self.rng.below(20) {
             0 => self.rng.pick(&[0, -1, 256, FAR]),
             1 => self.rng.pick(&[1, 255]),
-            2..=5 => self.rng.range(1, 12),
             _ => self.rng.range(1, 255),
         }
+    }
+
+    /// A name that exists among the kind that the call creates.
+    fn known_name(&mut self, own: Id, call: i64) -> Option<i64> {
+        let partition = self.module.partition(own);
+        let names: Vec<i64> = match call {
+            2 => partition.processes.iter().map(|it| it.name).collect(),
+            14 => partition.semaphores.iter().map(|it| it.name).collect(),
+            _ => partition.events.iter().map(|it| it.name).collect(),
+        };
+        (!names.is_empty()).then(|| self.rng.pick(&names))
     }
 
     fn priority(&mut self) -> i64 {
@@ -395,14 +412,14 @@ impl Events {
         }
     }
 
-    fn new_process(&mut self) -> [i64; 4] {
+    fn new_process(&mut self, own: Id) -> [i64; 4] {
         let priority = if self.rng.percent(40) {
             self.priority()
         } else {
             self.rng.range(1, 5)
         };
         let period = self.period();
-        [self.name(), priority, period, self.capacity(period)]
+        [self.name(own, 2), priority, period, self.capacity(period)]
     }
 
     /// Aperiodic, multiples of M, and the edges of both rules.
@@ -452,7 +469,7 @@ impl Events {
         [id, delay, 0, 0]
     }
 
-    fn new_semaphore(&mut self) -> [i64; 4] {
+    fn new_semaphore(&mut self, own: Id) -> [i64; 4] {
         let max = match self.rng.below(12) {
             0 => self.rng.pick(&[0, -1, 32_768, FAR]),
             1 => 32_767,
@@ -463,7 +480,7 @@ impl Events {
             1..=2 => max,
             _ => self.rng.range(0, max.clamp(0, 3)),
         };
-        [self.name(), start.clamp(-1, FAR), max, 0]
+        [self.name(own, 14), start.clamp(-1, FAR), max, 0]
     }
 
     /// An id: mostly of a process of the wanted sort, sometimes unknown.

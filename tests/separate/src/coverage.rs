@@ -1,6 +1,7 @@
 //! Counts what made-up inputs reach: answers, waits, reasons, corners.
 
-use crate::generate::{self, Events};
+use crate::events::Events;
+use crate::generate;
 use crate::line::LENGTH;
 use crate::machine::{Answer, Event, LAST_CALL, USED};
 use crate::record::{Channel, Mode, Module, Partition, Process, Wait};
@@ -65,7 +66,7 @@ const NAMES: [&str; CALLS] = [
 ];
 
 /// The kinds of wait, and the suspended mark of a process without wait.
-pub const HOLDS: [&str; 7] = [
+pub const WAITS: [&str; 7] = [
     "normal",
     "delay",
     "timed",
@@ -76,7 +77,7 @@ pub const HOLDS: [&str; 7] = [
 ];
 
 /// What can happen to a wait.
-pub const FATES: [&str; 10] = [
+pub const CHANGES: [&str; 10] = [
     "began",
     "by signal",
     "by time",
@@ -143,7 +144,7 @@ pub const TABLES: [&str; 8] = [
 pub struct Coverage {
     /// How often a call got a code; a call out of range counts nowhere here.
     pub answers: [[u64; CODES]; CALLS],
-    pub holds: [[u64; FATES.len()]; HOLDS.len()],
+    pub waits: [[u64; CHANGES.len()]; WAITS.len()],
     pub reasons: [u64; REASONS.len()],
     pub corners: [u64; CORNERS.len()],
     pub tables: [u64; TABLES.len()],
@@ -154,7 +155,7 @@ impl Coverage {
     pub fn new() -> Coverage {
         Coverage {
             answers: [[0; CODES]; CALLS],
-            holds: [[0; FATES.len()]; HOLDS.len()],
+            waits: [[0; CHANGES.len()]; WAITS.len()],
             reasons: [0; REASONS.len()],
             corners: [0; CORNERS.len()],
             tables: [0; TABLES.len()],
@@ -203,36 +204,36 @@ impl Coverage {
         for (place, process) in old.processes.iter().enumerate() {
             match new.processes.get(place) {
                 Some(later) => self.take_process(event, process, later),
-                None => self.count_hold(process, "erased"),
+                None => self.count_wait(process, "erased"),
             }
         }
     }
 
     fn take_process(&mut self, event: &Event, old: &Process, new: &Process) {
         if old.wait != new.wait && old.wait != Wait::None {
-            self.count_hold(old, fate(event, old, new));
+            self.count_wait(old, ending(event, old, new));
         }
         if old.wait != new.wait && new.wait != Wait::None {
-            self.count_hold(new, "began");
+            self.count_wait(new, "began");
         }
         if !old.suspended && new.suspended {
-            let fate = if new.wait == Wait::None {
+            let change = if new.wait == Wait::None {
                 "began"
             } else {
                 "suspended"
             };
-            self.count_hold(new, fate);
+            self.count_wait(new, change);
         }
         if old.suspended && !new.suspended && new.started {
-            let fate = if event.call == 0 {
+            let change = if event.call == 0 {
                 "by time"
             } else {
                 "resumed"
             };
-            self.count_hold(old, fate);
+            self.count_wait(old, change);
         }
         if old.suspended && !new.started && old.wait == Wait::None {
-            self.count_hold(old, "by stop");
+            self.count_wait(old, "by stop");
         }
         self.count_corner("deadline missed", !old.missed && new.missed);
         let held = !new.ready() && new.started;
@@ -242,8 +243,8 @@ impl Coverage {
         );
     }
 
-    fn count_hold(&mut self, process: &Process, fate: &str) {
-        let hold = match process.wait {
+    fn count_wait(&mut self, process: &Process, change: &str) {
+        let wait = match process.wait {
             Wait::Normal => 0,
             Wait::Delay => 1,
             Wait::Timed => 2,
@@ -253,7 +254,7 @@ impl Coverage {
             Wait::None if process.suspended => 6,
             Wait::None => return,
         };
-        self.holds[hold][place(&FATES, fate)] += 1;
+        self.waits[wait][place(&CHANGES, change)] += 1;
     }
 
     fn count_corner(&mut self, corner: &str, holds: bool) {
@@ -270,42 +271,57 @@ impl Coverage {
         }
         let own = event.partition as usize;
         let (old, new) = (before.partition(own), after.partition(own));
+        match event.call {
+            1 => self.take_mode_corners(before, own, event.fields[0], after),
+            10 => {
+                let release = new.process(old.running()).release;
+                self.count_corner("PERIODIC_WAIT with r <= t", release <= Some(after.t()));
+            }
+            22 => {
+                let channel = &before.channels()[event.fields[0] as usize - 1];
+                self.take_read_corners(channel, after.t());
+            }
+            _ => self.take_call_corners(event, old),
+        }
+        self.take_running_corners(answer, old, new);
+    }
+
+    /// Corners that the partition's record before the call tells.
+    fn take_call_corners(&mut self, event: &Event, old: &Partition) {
         let [a, b, ..] = event.fields;
+        let id = a as usize;
         let another_ready = old.arrival.len() > 1;
         match event.call {
-            1 => self.take_mode_corners(before, own, a, after),
             2 => self.count_corner("priority 239 or name 255 taken", a == 255 || b == 239),
             5 => {
-                let wait = old.process(a as usize).wait;
+                let wait = old.process(id).wait;
                 let queued = matches!(wait, Wait::Semaphore(_) | Wait::Event(_));
                 self.count_corner("STOP of a queued process", queued);
             }
             8 => self.count_corner("SUSPEND_SELF 0", a == 0),
             9 => self.count_corner("TIMED_WAIT 0 with another READY", a == 0 && another_ready),
-            10 => {
-                let release = new.process(old.running()).release;
-                self.count_corner("PERIODIC_WAIT with r <= t", release <= Some(after.t()));
-            }
             12 => {
-                let id = a as usize;
                 self.count_corner("SET_PRIORITY of a READY process", old.process(id).ready());
                 self.count_corner("SET_PRIORITY of the caller", old.running() == id);
             }
             16 => {
-                let waiters = old.semaphores[a as usize - 1].queue.len();
+                let waiters = old.semaphores[id - 1].queue.len();
                 self.count_corner("SIGNAL with two waiters or more", waiters > 1);
             }
             18 => {
-                let waiters = old.events[a as usize - 1].queue.len();
+                let waiters = old.events[id - 1].queue.len();
                 self.count_corner("SET_EVENT with two waiters or more", waiters > 1);
             }
-            22 => self.take_read_corners(&before.channels()[a as usize - 1], after.t()),
             _ => {}
         }
+    }
+
+    fn take_running_corners(&mut self, answer: &Answer, old: &Partition, new: &Partition) {
+        let caller = old.running();
         let preempted = answer.code == 0
-            && old.running() != 0
-            && new.running() != old.running()
-            && new.arrival.contains(&old.running());
+            && caller != 0
+            && new.running() != caller
+            && new.arrival.contains(&caller);
         self.count_corner("caller preempted by its own call", preempted);
         let many = new.mode == Mode::Normal && new.processes.len() == 16;
         self.count_corner("16 processes in NORMAL", many);
@@ -371,7 +387,7 @@ impl Coverage {
     pub fn print(&self, out: &mut impl Write) -> io::Result<()> {
         writeln!(out, "events {}", self.events)?;
         self.print_answers(out)?;
-        self.print_holds(out)?;
+        self.print_waits(out)?;
         print_list(out, "reasons for 13", &REASONS, &self.reasons)?;
         print_list(out, "corners", &CORNERS, &self.corners)?;
         print_list(out, "tables", &TABLES, &self.tables)?;
@@ -398,16 +414,16 @@ impl Coverage {
         Ok(())
     }
 
-    fn print_holds(&self, out: &mut impl Write) -> io::Result<()> {
+    fn print_waits(&self, out: &mut impl Write) -> io::Result<()> {
         writeln!(out, "\nwaits")?;
-        for (hold, counts) in HOLDS.iter().zip(&self.holds) {
-            let counts: Vec<String> = FATES
+        for (wait, counts) in WAITS.iter().zip(&self.waits) {
+            let counts: Vec<String> = CHANGES
                 .iter()
                 .zip(counts)
                 .filter(|(_, &count)| count > 0)
-                .map(|(fate, count)| format!("{fate} {count}"))
+                .map(|(change, count)| format!("{change} {count}"))
                 .collect();
-            writeln!(out, "  {hold}: {}", counts.join("; "))?;
+            writeln!(out, "  {wait}: {}", counts.join("; "))?;
         }
         Ok(())
     }
@@ -420,7 +436,7 @@ impl Default for Coverage {
 }
 
 /// How a wait ended.
-fn fate(event: &Event, old: &Process, new: &Process) -> &'static str {
+fn ending(event: &Event, old: &Process, new: &Process) -> &'static str {
     match event.call {
         _ if !new.started => "by stop",
         0 if old.suspended => "by time, suspended",

@@ -8,6 +8,7 @@ pub mod calls;
 pub mod coverage;
 pub mod damage;
 pub mod dump;
+pub mod events;
 pub mod generate;
 pub mod line;
 pub mod machine;
@@ -16,6 +17,7 @@ pub mod replay;
 pub mod rng;
 pub mod table;
 pub mod tables;
+pub mod timing;
 pub mod waiting;
 
 pub use line::Six;

@@ -2,7 +2,7 @@
 //! ("Events" and "Numbers by place of check").
 
 use crate::line::Six;
-use crate::record::{Id, Mode, Module, Partition, Wait, LAST_TIME};
+use crate::record::{Id, Mode, Module, Partition, Process, Wait, LAST_TIME};
 
 /// The last call; calls are numbered from 1.
 pub const LAST_CALL: i64 = 22;
@@ -210,9 +210,13 @@ impl Partition {
         }
     }
 
-    /// What a tick does to the processes, by ascending id.
+    /// What a tick does to the processes, by ascending id; mostly nothing.
     fn pass_time(&mut self, t: i64) {
-        for id in 1..=self.processes.len() {
+        let is_due = |it: &Process| has_come(it.wake, t) | has_come(it.deadline, t);
+        let Some(first) = self.processes.iter().position(is_due) else {
+            return;
+        };
+        for id in first + 1..=self.processes.len() {
             if has_come(self.process(id).wake, t) {
                 self.wake_up(id);
             }

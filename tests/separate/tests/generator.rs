@@ -1,6 +1,6 @@
 //! The generator reaches what it is there to reach.
 
-use separate::coverage::{Coverage, CORNERS, HOLDS, REASONS, TABLES};
+use separate::coverage::{Coverage, CORNERS, REASONS, TABLES, WAITS};
 use separate::generate::{generate, Kind};
 use separate::line::{self, Line};
 use separate::replay::{final_record, read_table, replay, Lines};
@@ -70,8 +70,8 @@ fn every_wait_begins_and_ends_in_every_way_it_can() {
             true, false, true, true, false, true, false, true, false, false,
         ],
     ];
-    for ((hold, counts), possible) in HOLDS.iter().zip(coverage.holds).zip(possible) {
-        assert_eq!(counts.map(|count| count > 0), possible, "{hold}");
+    for ((wait, counts), possible) in WAITS.iter().zip(coverage.waits).zip(possible) {
+        assert_eq!(counts.map(|count| count > 0), possible, "{wait}");
     }
 }
 

@@ -1,6 +1,6 @@
 //! What holds of the record after any list of events.
 
-use separate::generate::Events;
+use separate::events::Events;
 use separate::line;
 use separate::record::{Mode, Module, Partition, Process, Wait};
 use std::collections::VecDeque;

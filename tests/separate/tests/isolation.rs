@@ -1,7 +1,7 @@
 //! "Left and Right": what partitions outside a closed set do leaves no trace
 //! inside it.
 
-use separate::generate::Events;
+use separate::events::Events;
 use separate::rng::Rng;
 use separate::{tables, Event, Module, Six};
 

@@ -254,25 +254,27 @@ fn time_ends_at_99_999_999_with_10() {
 
 #[test]
 fn the_latest_deadline_of_all_still_fits_an_answer_line() {
-    // The last time starts a frame; the first window with flag 1 is the last
-    // tick of the next one; the greatest delay and capacity come on top.
-    let mut world = World::new(&[
-        [9999, 1, 2, 0, 0, 0],
-        [0, 1, 1, 0, 0, 0],
-        [9998, 1, 1, 1, 0, 0],
-    ]);
+    // Of all M, 9990 gives the latest d: the next frame starts at 100,009,890,
+    // the first window with flag 1 is its last tick, and the greatest period
+    // gives the greatest delay and capacity.
+    let table = [
+        [9990, 1, 2, 0, 0, 0],
+        [0, 100, 1, 0, 0, 0],
+        [9989, 1, 1, 1, 0, 0],
+    ];
+    let mut world = World::new(&table);
     for _ in 0..99_999_999 {
         world.module.step(&Event::TICK);
     }
     assert_eq!(world.module.t(), 99_999_999);
-    assert_eq!(world.call(2, &[1, 1, 9_999_000, 9_999_000]), [0, 1, 0]);
+    assert_eq!(world.call(2, &[1, 1, 9_999_990, 9_999_990]), [0, 1, 0]);
     assert_eq!(world.call(2, &[2, 1, -1, -1]), [0, 2, 0]);
-    world.done(4, &[1, 9_998_999]);
+    world.done(4, &[1, 9_999_989]);
     world.done(3, &[2]);
     world.normal();
-    assert_eq!(world.process(1).release, Some(110_018_995));
+    assert_eq!(world.process(1).release, Some(110_019_868));
     let answer = world.event([1, 13, 1, 0, 0, 0]);
-    assert_eq!(answer, [0, 3, 120_017_995, 99_999_999, 1, 2]);
+    assert_eq!(answer, [0, 3, 120_019_858, 99_999_999, 1, 2]);
     assert!(separate::line::write(&answer, &mut [0; 61]).is_ok());
 }
 

@@ -23,3 +23,4 @@ pub mod Sound
 pub mod Running
 pub mod Kept
 pub mod Reached
+pub mod Answers

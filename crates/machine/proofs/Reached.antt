@@ -204,7 +204,7 @@ restarted-sound m s b k j h p v = by-test (λ (q : Module). SoundModule (withPar
     part-sound (erasedTo k channelLimit m) e j (rw same h) p (rw same v))
     (λ _. part-sound m s j h p v)
 
-abbrev SoundAfter : Done → Type 0
+abbrev pub SoundAfter : Done → Type 0
 SoundAfter d = SoundModule (d .state)
 
 module _ (m : Module) (s : SoundModule m) (k : ℕ) (some : k ≡ 0 → ⊥) (now : current m ≡ k) (calls : noCaller (part m (k - 1)) ≡ false) where
@@ -234,7 +234,7 @@ module _ (m : Module) (s : SoundModule m) (k : ℕ) (some : k ≡ 0 → ⊥) (no
       (λ _. restarted-sound m s (restarts n r) k (k - 1) place _ (call-valid (contextOf m k) n r (part m (k - 1)) (s .eachPartition (k - 1) place) context-sound))
       (λ _. s)))
 
-done-sound : (m : Module) → SoundModule m → (r : Request) → SoundAfter (done m r)
+pub done-sound : (m : Module) → SoundModule m → (r : Request) → SoundAfter (done m r)
 unfolding Passed
 done-sound m s r =
     let k = numberOf (r .partition) in

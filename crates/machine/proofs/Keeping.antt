@@ -191,23 +191,33 @@ module _ (f : Process → Process) (p : Partition) (v : ListedIn p) where
 
 -- ---------------------------------------------------------------- the end of the arrival list
 -- a READY process that goes there
-pub arrived-listed : (p : Partition) → ListedIn p → (id : ℕ) → ready (process id p) ≡ true → ListedIn (arrivedLast id p)
-unfolding arrivedLast
-arrived-listed p v id h =
-    let f : ℕ → Bool = λ y. ready (process y p) in
-    let g : ℕ → Bool = λ y. f y && other id y in
-    let r = process-ranged ready refl (p .processes) in
-    let none : g id ≡ false = rw (eq-eqb id id refl) (and-false (ready (process id p))) in
-    let away : Tracks g (removed id (p .arrival)) =
-    tracks-remove f (p .arrival) (v .arrivals) g id (λ y ne. rw (ne-eqb y id ne) (and-true (ready (process y p)))) none in
-    let b = r id h in
-    record {
-      numbered = v .numbered;
-      arrivals = tracks-append g (removed id (p .arrival)) away f id
-          (λ y ne. rw (ne-eqb y id ne) (sym (and-true (ready (process y p)))))
-          (tracks-room g (removed id (p .arrival)) away (λ y t. r y (and-true-parts (f y) (other id y) t .0)) id (b .0) (b .1) none) none h;
-      waitings = v .waitings;
-    }
+module _ (p : Partition) (v : ListedIn p) (id : ℕ) (h : ready (process id p) ≡ true) where
+  -- READY, and another
+  abbrev away : ℕ → Bool
+  away y = ready (process y p) && other id y
+
+  none-away : away id ≡ false
+  none-away = rw (eq-eqb id id refl) (and-false (ready (process id p)))
+
+  same-away : (y : ℕ) → (y ≡ id → ⊥) → away y ≡ ready (process y p)
+  same-away y ne = rw (ne-eqb y id ne) (and-true (ready (process y p)))
+
+  removed-tracks : Tracks away (removed id (p .arrival))
+  removed-tracks = tracks-remove (λ y. ready (process y p)) (p .arrival) (v .arrivals) away id same-away none-away
+
+  pub removed-room : length (members (removed id (p .arrival))) < processLimit
+  removed-room =
+      let r = process-ranged ready refl (p .processes) in
+      let b = r id h in
+      tracks-room away (removed id (p .arrival)) removed-tracks (λ y t. r y (and-true-parts (ready (process y p)) (other id y) t .0)) id (b .0) (b .1) none-away
+
+  pub arrived-listed : ListedIn (arrivedLast id p)
+  unfolding arrivedLast
+  arrived-listed = record {
+    numbered = v .numbered;
+    arrivals = tracks-append away (removed id (p .arrival)) removed-tracks (λ y. ready (process y p)) id (λ y ne. sym (same-away y ne)) removed-room none-away h;
+    waitings = v .waitings;
+  }
 
 -- ---------------------------------------------------------------- a valid partition, from its parts
 pub valid-of : (frame t : ℕ) (p q : Partition) → Rest p q → p .mode ≤ 3 → ObjectsIn p → ListedIn q → ((id : ℕ) → Between 1 (p .processCount) id → SoundProcess (settingOf frame t p) (process id q)) → Valid frame t q

@@ -24,3 +24,4 @@ pub mod Running
 pub mod Kept
 pub mod Reached
 pub mod Answers
+pub mod Plain

@@ -41,19 +41,19 @@ later-at-most m n k (At a) (At b) ha hb h = capped-at-most (a + b) k (omega arit
 pub ahead-later : (t n : ℕ) → t ≤ timeLimit → (n ≡ 0 → ⊥) → n ≤ durationLimit → Ahead t (later (At t) (At n))
 ahead-later t n h some short = rw (le-leb (t + n) greatestTime (omega arith)) (omega arith, omega arith)
 
-at-most-more : (m n : ℕ) (a : Time) → AtMost m a → m ≤ n → AtMost n a
+pub at-most-more : (m n : ℕ) (a : Time) → AtMost m a → m ≤ n → AtMost n a
 at-most-more m n Never h le = h
 at-most-more m n (At a) h le = omega arith
 
-at-most-not-after : (n : ℕ) (a : Time) → AtMost n a → NotAfter n a
+pub at-most-not-after : (n : ℕ) (a : Time) → AtMost n a → NotAfter n a
 at-most-not-after n Never h = tt
 at-most-not-after n (At a) h = h
 
-capacity-bound : (period c : Time) → SoundCapacity period c → NotAfter durationLimit c
+pub capacity-bound : (period c : Time) → SoundCapacity period c → NotAfter durationLimit c
 capacity-bound period Never h = tt
 capacity-bound period (At n) h = h .0 .1
 
-period-bound : (frame : ℕ) (p : Time) → SoundPeriod frame p → isNever p ≡ false → AtMost durationLimit p
+pub period-bound : (frame : ℕ) (p : Time) → SoundPeriod frame p → isNever p ≡ false → AtMost durationLimit p
 period-bound frame Never h e = not-both _ refl e
 period-bound frame (At n) h e = h .0 .1
 
@@ -102,7 +102,7 @@ released-at-most : (t : ℕ) (p r : Time) → isNever p ≡ false → AtMost t r
 released-at-most t Never r e h = not-both _ refl e
 released-at-most t (At n) r e h = h
 
-at-most-released : (t : ℕ) (p r : Time) → isNever p ≡ false → Released t p r → AtMost t r
+pub at-most-released : (t : ℕ) (p r : Time) → isNever p ≡ false → Released t p r → AtMost t r
 at-most-released t Never r e h = not-both _ refl e
 at-most-released t (At n) r e h = h
 

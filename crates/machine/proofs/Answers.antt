@@ -1,9 +1,9 @@
 -- Every answer of a reached record is in the line writer's range, and no event changes the table. Assumes nothing.
-use Prim.Native.Nat.{ℕ, zero, suc, _+_, _-_, _≤_, _<_}
-use mathlib.Core.Path.{_≡_, refl, ap, sym, _∙_}
-use mathlib.Core.Bool.{Bool, true, false, cond, not}
-use mathlib.Core.List.{List, [], _∷_}
-use mathlib.Core.Logic.{_⊎_, inl, inr}
+use Prim.Native.Nat.{ℕ, zero, suc, _+_, _-_, _≤_}
+use mathlib.Core.Path.{_≡_, refl, ap}
+use mathlib.Core.Bool.{Bool, true, cond}
+use mathlib.Core.List.{List}
+use mathlib.Core.Logic.{inl, inr}
 use native.Mathlib.Omega.{arith}
 use lib.Dec.{eqb, leb, ltb}
 use borrow.Author.Tests.{eqb-false, leb-true, leb-false, eqb-true, not-false}
@@ -21,15 +21,16 @@ use Rattle.machine.specs.declared.Event.{Event as EventT}
 use Rattle.machine.specs.Limits.{processLimit, semaphoreLimit, eventLimit, timeLimit, numberLimit, channelLimit}
 use Rattle.machine.specs.Field.{requestOf, isNumber, numberOf}
 use Rattle.machine.specs.Process.{ready}
-use Rattle.machine.specs.Partition.{normalMode, process, semaphore, event, running}
-use Rattle.machine.specs.Calls.{coded, valued, checked, refused, blocked, dormant, setMode, createProcess, start, stop, stopSelf, suspend, suspendSelf, timedWait, periodicWait, resume, setPriority, status, getStatus, createSemaphore, createEvent, queued, waitSemaphore, waitEvent, signal, setEvent, resetEvent, partitionCall}
-use Rattle.machine.specs.Module.{emptyTable, emptyModule, lookup, channel, part, message, current, runningIn, withMessage, noMessage, withTime, tickAt, tickTo, partitionCount, refuse, write, read, channelChecks, erasedTo, restarted, restarts, accepts, contextOf, callDone, noCaller, sees, done, answerTo, step}
-use Rattle.machine.specs.Valid.{Between, latestDeadline, NotAfter, Setting, SoundProcess, settingOf, Valid, SoundModule, ValidModule, ReplyInRange, AnswerInRange}
+use Rattle.machine.specs.Partition.{process, semaphore, event, running}
+use Rattle.machine.specs.Calls.{coded, checked, refused, blocked, dormant, setMode, createProcess, start, stop, stopSelf, suspend, suspendSelf, timedWait, periodicWait, resume, setPriority, status, getStatus, createSemaphore, createEvent, queued, waitSemaphore, waitEvent, signal, setEvent, resetEvent, partitionCall}
+use Rattle.machine.specs.Module.{emptyTable, emptyModule, lookup, part, message, current, runningIn, withTime, tickAt, tickTo, partitionCount, refuse, write, read, channelChecks, restarts, accepts, contextOf, sees, done, answerTo, step}
+use Rattle.machine.specs.Valid.{latestDeadline, NotAfter, Valid, SoundModule, ValidModule, Reached, ReplyInRange, AnswerInRange}
 use Rattle.machine.proofs.Tests.{by-test, by-checks, Passed, codesIn, by-codes}
 use Rattle.machine.proofs.Dispatch.{by-call}
 use Rattle.machine.proofs.Bounds.{either, known-id}
+use Rattle.machine.proofs.Sound.{times-bounded}
 use Rattle.machine.proofs.Kept.{running-caller}
-use Rattle.machine.proofs.Reached.{current-known, erased-around, done-sound}
+use Rattle.machine.proofs.Reached.{current-known, erased-around, done-sound, reached-valid}
 
 -- ---------------------------------------------------------------- the table stays
 tick-table : (n : ℕ) (m : Module) → tickTo n m .table ≡ m .table
@@ -73,14 +74,6 @@ upTo n = leb n 13
 in-checks : (p : Partition) (l : List (Bool × ℕ)) (q : Called) → codesIn upTo l ≡ true → (Passed l → InRange q) → InRange (checked (refused p) l q)
 in-checks p l q h f = by-codes InRange upTo (refused p) l q h (λ n e. coded-range n (leb-true n 13 e)) f
 
--- d is −1 or at most 120,019,995
-pub deadline-bound : (s : Setting) (x : Process) → SoundProcess s x → NotAfter latestDeadline (x .times .deadline)
-deadline-bound s x h = either (x .started)
-    (λ e. either (s .normal)
-    (λ n. h .going e n .deadline)
-    (λ n. rw (h .early e n .times .deadline) tt))
-    (λ e. rw (h .dormant e .times .deadline) tt)
-
 more-room : (m n : ℕ) (t : Time) → m ≤ n → NotAfter m t → NotAfter n t
 more-room m n Never h k = tt
 more-room m n (At a) h k = omega arith
@@ -88,9 +81,9 @@ more-room m n (At a) h k = omega arith
 status-small : (c : Context) (id : ℕ) (x : Process) → status c id x ≤ 3
 status-small c id x = by-test (λ (n : ℕ). n ≤ 3) (dormant x) (λ _. omega arith) (λ _. by-test (λ (n : ℕ). n ≤ 3) (eqb id (c .caller)) (λ _. omega arith) (λ _. by-test (λ (n : ℕ). n ≤ 3) (ready x) (λ _. omega arith) (λ _. omega arith)))
 
-call-range : (c : Context) (n : ℕ) (r : Request) (p : Partition) → Valid (c .frame) (c .time) p → InRange (partitionCall c n r p)
+call-range : (c : Context) (n : ℕ) (r : Request) (p : Partition) → Valid (c .frame) (c .time) p → c .time ≤ timeLimit → InRange (partitionCall c n r p)
 unfolding setMode createProcess start stop stopSelf suspend suspendSelf timedWait periodicWait resume setPriority getStatus createSemaphore createEvent queued blocked waitSemaphore waitEvent signal setEvent resetEvent Passed
-call-range c n r p v =
+call-range c n r p v ends =
     let ok = coded-range 0 (omega arith) in
     let waits = coded-range 7 (omega arith) in
     by-call c n r p InRange
@@ -111,7 +104,7 @@ call-range c n r p v =
     record {
       code = omega arith;
       value = omega (arith, status-small c id (process id p));
-      extra = more-room latestDeadline numberLimit (process id p .times .deadline) (omega arith) (deadline-bound (settingOf (c .frame) (c .time) p) (process id p) (v .eachProcess id (known-id id (p .processCount) (h .0))));
+      extra = more-room latestDeadline numberLimit (process id p .times .deadline) (omega arith) (times-bounded _ (process id p) (v .eachProcess id (known-id id (p .processCount) (h .0))) ends .deadline);
     }))
     (in-checks p _ _ refl (λ h. record { code = omega arith; value = omega (arith, leb-false semaphoreLimit (p .semaphoreCount) (h .0)); extra = omega arith }))
     (in-checks p _ _ refl (λ _. by-test InRange (ltb 0 (semaphore (numberOf (r .a)) p .value)) (λ _. ok) (λ _. in-checks p _ _ refl (λ _. waits))))
@@ -153,7 +146,7 @@ done-range m s r =
     by-test DoneInRange (eqb n 22) (λ _. read-range m s k r) (λ _.
     let ne = eqb-false k 0 z in
     let now = eqb-true (current m) k (not-false _ (h .0)) in
-    call-range (contextOf m k) n r (part m (k - 1)) (s .eachPartition (k - 1) (omega (arith, current-known (m .table) (s .table) (m .t)))))))))
+    call-range (contextOf m k) n r (part m (k - 1)) (s .eachPartition (k - 1) (omega (arith, current-known (m .table) (s .table) (m .t)))) (s .time))))))
 
 -- ---------------------------------------------------------------- the whole answer
 pub running-bound : (frame t : ℕ) (p : Partition) → Valid frame t p → running p ≤ processLimit
@@ -195,3 +188,6 @@ answer-range m e (inl h) = rw h (empty-range e)
 answer-range m e (inr s) =
     let r = requestOf e in
     answered-range (m .table .size) r (done m r) (done-sound m s r) (ap (λ (T : Table). T .size) (done-table m r)) (done-range m s r)
+
+pub reached-range : (m : Module) (e : EventT) → Reached m → AnswerInRange (m .table .size) (step m e .answer)
+reached-range m e h = answer-range m e (reached-valid m h)

@@ -1,23 +1,23 @@
 -- What storing processes, semaphores and events does to a partition's lists, one at a time or over a list of ids. Assumes nothing.
 use Prim.Native.Nat.{ℕ, zero, suc, _+_, _-_, _≤_, _<_}
 use mathlib.Core.Path.{_≡_, refl, ap, sym, _∙_}
-use mathlib.Core.Bool.{Bool, true, false, cond, not, _&&_, _||_, and-true, and-false, or-true}
-use mathlib.Core.List.{List, [], _∷_, _++_}
-use mathlib.Core.Logic.{_⊎_, ⊎-elim, inl, inr}
+use mathlib.Core.Bool.{Bool, true, false, cond, _&&_, and-true, and-false, or-true}
+use mathlib.Core.List.{List, [], _∷_}
+use mathlib.Core.Logic.{⊎-elim}
 use native.Mathlib.Omega.{arith}
 use lib.ListN.{length, getD, set, length-set}
-use lib.Dec.{eqb, ltb, leb}
-use borrow.Author.Tests.{eq-eqb, ne-eqb, lt-ltb, le-ltb, lt-leb, eqb-true, eqb-false, ltb-true, ltb-false}
+use lib.Dec.{eqb, ltb}
+use borrow.Author.Tests.{eq-eqb, ne-eqb, eqb-true, eqb-false, ltb-true, ltb-false}
 use Rattle.machine.specs.declared.Ids.{Ids}
 use Rattle.machine.specs.declared.Process.{Process}
 use Rattle.machine.specs.declared.Partition.{Partition}
-use Rattle.machine.specs.Limits.{processLimit, semaphoreLimit, eventLimit}
+use Rattle.machine.specs.Limits.{processLimit}
 use Rattle.machine.specs.Ids.{members, other, removed, follow}
 use Rattle.machine.specs.Process.{blankProcess, ready, onObject, waitEnded}
 use Rattle.machine.specs.Partition.{within, named, process, withProcesses, stored, arrivedLast, ended, endedAll, eachFrom, each}
-use Rattle.machine.specs.Valid.{Between, contains, Distinct, Tracks, Numbered, Listed, ListedIn, ObjectsIn, SoundProcess, settingOf, Valid}
+use Rattle.machine.specs.Valid.{Between, contains, Distinct, Tracks, Numbered, ListedIn, ObjectsIn, SoundProcess, settingOf, Valid}
 use Rattle.machine.proofs.Tests.{by-test, not-both}
-use Rattle.machine.proofs.Bounds.{not-so, same-or-not, or-false-parts, and-true-parts, within-in, within-out, named-in, named-same, named-other, stored-in, stored-out, either}
+use Rattle.machine.proofs.Bounds.{not-so, same-or-not, and-true-parts, within-in, within-out, named-in, named-same, named-other, stored-in, stored-out, either}
 use Rattle.machine.proofs.Tracking.{Ranged, tracks-room, tracks-append, tracks-remove, tracks-follow}
 
 -- ---------------------------------------------------------------- one of a list replaced, or the next one created

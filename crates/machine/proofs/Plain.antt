@@ -1,14 +1,13 @@
 -- On a valid record no bound and no cap acts: the definitions are document 01's plain ones there. Assumes nothing.
 use Prim.Native.Nat.{ℕ, zero, suc, _+_, _-_, _%_, _≤_, _<_}
 use mathlib.Core.Path.{_≡_, refl, ap, sym, _∙_}
-use mathlib.Core.Bool.{Bool, true, false, cond, not, _&&_, and-false}
+use mathlib.Core.Bool.{Bool, true, false, _&&_, and-false}
 use mathlib.Core.List.{List, [], _∷_, _++_}
 use native.Mathlib.Omega.{arith}
-use native.Mathlib.Numerals.{add-one}
 use lib.ListN.{length, getD, set}
-use lib.Dec.{eqb, leb, ltb}
+use lib.Dec.{eqb, leb}
 use lib.IntN.{ℤ, pos, negsuc}
-use borrow.Author.Tests.{lt-ltb, le-leb, lt-leb, leb-false, ne-eqb, not-true}
+use borrow.Author.Tests.{lt-ltb, lt-leb, leb-false, ne-eqb, not-true}
 use Rattle.machine.specs.declared.Ids.{Ids}
 use Rattle.machine.specs.declared.Process.{Process}
 use Rattle.machine.specs.declared.Partition.{Partition}
@@ -20,16 +19,16 @@ use Rattle.machine.specs.declared.Time.{Time}
 use Rattle.machine.specs.declared.Time.the-variants.{Never, At}
 use Rattle.machine.specs.Limits.{processLimit, semaphoreLimit, eventLimit, durationLimit, timeLimit, greatestTime, greatestValue}
 use Rattle.machine.specs.Field.{field, isNumber, between, isMinusOne, isTimeout, timeOf}
-use Rattle.machine.specs.Ids.{members, idsOf, kept, other, appended, removed, follow}
-use Rattle.machine.specs.Process.{blankProcess, capped, later, isNever, periodic, ready, onObject}
-use Rattle.machine.specs.Partition.{noSemaphore, noEvent, process, semaphore, event, normalMode, within, replaced, withProcesses, withSemaphores, withEvents, stored, arrivedLast}
+use Rattle.machine.specs.Ids.{members, idsOf, kept, other, removed, follow}
+use Rattle.machine.specs.Process.{blankProcess, later, isNever, periodic, ready, onObject}
+use Rattle.machine.specs.Partition.{noSemaphore, noEvent, process, semaphore, event, within, replaced, withProcesses, withSemaphores, withEvents, stored, arrivedLast}
 use Rattle.machine.specs.Calls.{withValue, withUp, oneMore}
 use Rattle.machine.specs.Module.{windows, owner, lookup}
-use Rattle.machine.specs.Valid.{Between, Tracks, NotAfter, latestWake, settingOf, Released, Setting, LastingIn, SoundProcess, Numbered, ListedIn, Valid, SoundContext, SoundTable, plainLater}
-use Rattle.machine.proofs.Tests.{by-test, not-both}
+use Rattle.machine.specs.Valid.{Between, Tracks, NotAfter, latestWake, Setting, LastingIn, SoundProcess, Numbered, ListedIn, Valid, SoundContext, SoundTable, plainLater}
+use Rattle.machine.proofs.Tests.{by-test}
 use Rattle.machine.proofs.Fields.{in-limits}
 use Rattle.machine.proofs.Bounds.{within-in, named-in, replaced-in, stored-in, value-in, up-in}
-use Rattle.machine.proofs.Tracking.{tracks-room, tracks-remove, appended-plain}
+use Rattle.machine.proofs.Tracking.{tracks-room, appended-plain}
 use Rattle.machine.proofs.Lists.{members-idsOf, appended-idsOf}
 use Rattle.machine.proofs.Keeping.{process-ranged, removed-room}
 use Rattle.machine.proofs.Sound.{later-plain, later-not-after, at-most-more, at-most-not-after, capacity-bound, period-bound, at-most-released, ready-released}

@@ -121,6 +121,12 @@ pub record Timeless (s : Times) : Type 0 where
   pub deadline : s .deadline ≡ Never
   pub wake : s .wake ≡ Never
 
+-- no time comes after the latest
+pub record Bounded (s : Times) : Type 0 where
+  pub release : NotAfter latestWake (s .release)
+  pub deadline : NotAfter latestDeadline (s .deadline)
+  pub wake : NotAfter latestWake (s .wake)
+
 -- DORMANT
 pub record Dormant (v : Wait) (mark : Bool) (s : Times) : Type 0 where
   pub wait : v ≡ None

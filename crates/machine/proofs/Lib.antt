@@ -7,8 +7,8 @@ pub mod Dispatch
 pub mod Bodies
 pub mod Refusals
 pub mod Worked
+pub mod Corners
 pub mod Starred
-pub mod Mistakes
 pub mod Run
 pub mod TextField
 pub mod TextLine

@@ -13,7 +13,7 @@ use lib.Dec.{leb, eqb}
 use lib.IntN.{ℤ, pos, negsuc}
 use borrow.Author.Tests.{leb-true, eqb-true, eq-eqb, ne-eqb}
 use Rattle.machine.specs.Limits.{numberLimit}
-use Rattle.machine.specs.Text.{space, minus, zeroDigit, base, fieldWidth, inRange, column, markAfter, columns, lastColumn, numberText, fieldText, sameBytes, spelled, candidate, readField}
+use Rattle.machine.specs.Text.{space, minus, zeroDigit, base, fieldWidth, inRange, column, markAfter, columns, lastDigit, numberText, fieldText, sameBytes, spelled, candidate, readField}
 
 -- by the two cases of a test
 pub byTest : {A : Type 0} (b : Bool) → (b ≡ true → A) → (b ≡ false → A) → A
@@ -35,7 +35,20 @@ same-true (a ∷ l) (b ∷ m) h =
     let t = and-eq-true-iff (eqb a b) (sameBytes l m) .0 h in
     cc (eqb-true a b (t .0), same-true l m (t .1))
 
--- ---------------------------------------------------------------- lengths
+-- ---------------------------------------------------------------- columns
+-- the columns by a number that code counts down
+pub columns-more : (n rest mark : ℕ) → 0 < n → columns n rest mark ≡ columns (n - 1) (rest / base) (markAfter rest mark) ++ (column rest mark ∷ [])
+unfolding columns
+columns-more zero rest mark h = absurd (omega arith)
+columns-more (suc n) rest mark h =
+    let e : suc n - 1 ≡ n = omega arith in
+    rw e
+
+pub columns-none : (n rest mark : ℕ) → n ≤ 0 → columns n rest mark ≡ []
+unfolding columns
+columns-none zero rest mark h = refl
+columns-none (suc n) rest mark h = absurd (omega arith)
+
 pub columns-length : (n rest mark : ℕ) → length (columns n rest mark) ≡ n
 unfolding columns
 columns-length zero rest mark = refl

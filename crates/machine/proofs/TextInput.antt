@@ -14,7 +14,7 @@ use Rattle.machine.specs.declared.Numbers.{Numbers}
 use Rattle.machine.specs.declared.Line.{Line}
 use Rattle.machine.specs.declared.Line.the-variants.{Six, Bad}
 use Rattle.machine.specs.Limits.{lineLength}
-use Rattle.machine.specs.Text.{lineFeed, space, minus, zeroDigit, base, fieldWidth, column, markAfter, columns, lastColumn, numberText, fieldText, lineText, numberList, readLine, inFirst, lines, firstLength, lineEnd, readAt}
+use Rattle.machine.specs.Text.{lineFeed, space, minus, zeroDigit, base, fieldWidth, column, markAfter, columns, lastDigit, numberText, fieldText, lineText, numberList, readLine, inFirst, lines, firstLength, lineEnd, readAt}
 use Rattle.machine.proofs.TextField.{byTest}
 use Rattle.machine.proofs.TextLine.{line-length, six-length, read-six}
 
@@ -122,14 +122,14 @@ columns-unfed zero rest mark h = refl
 columns-unfed (suc n) rest mark h =
     byTest (eqb rest 0)
     (λ e. rw e (unfed-append (columns n (rest / base) space) (mark ∷ []) (columns-unfed n (rest / base) space refl) (rw h)))
-    (λ e. rw e (unfed-append (columns n (rest / base) mark) (lastColumn rest ∷ []) (columns-unfed n (rest / base) mark h) (rw (ne-eqb (lastColumn rest) lineFeed (λ q. omega arith)))))
+    (λ e. rw e (unfed-append (columns n (rest / base) mark) (lastDigit rest ∷ []) (columns-unfed n (rest / base) mark h) (rw (ne-eqb (lastDigit rest) lineFeed (λ q. omega arith)))))
 
 number-unfed : (magnitude mark : ℕ) → eqb mark lineFeed ≡ false → noFeed (numberText magnitude mark) ≡ true
 unfolding numberText noFeed
 number-unfed magnitude mark h =
-    unfed-append (columns (fieldWidth - 1) (magnitude / base) mark) (lastColumn magnitude ∷ [])
+    unfed-append (columns (fieldWidth - 1) (magnitude / base) mark) (lastDigit magnitude ∷ [])
     (columns-unfed (fieldWidth - 1) (magnitude / base) mark h)
-    (rw (ne-eqb (lastColumn magnitude) lineFeed (λ q. omega arith)))
+    (rw (ne-eqb (lastDigit magnitude) lineFeed (λ q. omega arith)))
 
 field-unfed : (z : ℤ) → noFeed (fieldText z) ≡ true
 unfolding fieldText

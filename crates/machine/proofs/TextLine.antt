@@ -1,6 +1,6 @@
 -- The text of a line of numbers, as many as there are: reading it gives the numbers back, and a line that reads as numbers
 -- is their text. Assumes nothing.
-use Prim.Native.Nat.{ℕ, zero, suc, _+_, _*_, _≤_, _<_}
+use Prim.Native.Nat.{ℕ, zero, suc, _+_, _-_, _*_, _≤_, _<_}
 use mathlib.Core.Path.{_≡_, refl, sym, _∙_, ap}
 use mathlib.Core.Bool.{Bool, true, false, cond, _&&_, and-eq-true-iff}
 use mathlib.Core.List.{List, [], _∷_, _++_}
@@ -22,6 +22,19 @@ pub line-length : (ns : List ℤ) → length (lineText ns) ≡ length ns * field
 unfolding lineText
 line-length [] = refl
 line-length (z ∷ ns) = simp (length-append, field-length, line-length ns) (omega arith)
+
+-- reading by a number of fields that code counts down
+pub reads-more : (n : ℕ) (bs : List ℕ) → 0 < n → readNumbers n bs ≡ joined (readField (take fieldWidth bs)) (readNumbers (n - 1) (drop fieldWidth bs))
+unfolding readNumbers
+reads-more zero bs h = absurd (omega arith)
+reads-more (suc n) bs h =
+    let e : suc n - 1 ≡ n = omega arith in
+    rw e
+
+pub reads-none : (n : ℕ) (bs : List ℕ) → n ≤ 0 → readNumbers n bs ≡ cond (sameBytes bs (lineFeed ∷ [])) (some []) none
+unfolding readNumbers
+reads-none zero bs h = refl
+reads-none (suc n) bs h = absurd (omega arith)
 
 -- the line of numbers in range reads as them
 pub line-read : (ns : List ℤ) → allInRange ns ≡ true → readNumbers (length ns) (lineText ns) ≡ some ns

@@ -43,9 +43,12 @@ unfoldable pub inRange : ℤ → Bool
 inRange (pos n) = leb n numberLimit
 inRange (negsuc n) = eqb n 0
 
+abbrev pub lastDigit : ℕ → ℕ
+lastDigit n = zeroDigit + n % base
+
 -- a column left of the last: a digit of what is left of the number, or the mark where nothing is left; no leading zero
 unfoldable pub column : ℕ → ℕ → ℕ
-column rest mark = cond (eqb rest 0) mark (zeroDigit + rest % base)
+column rest mark = cond (eqb rest 0) mark (lastDigit rest)
 
 -- the mark of the columns further left: a minus stands once, then spaces
 unfoldable pub markAfter : ℕ → ℕ → ℕ
@@ -56,13 +59,9 @@ unfoldable pub columns : ℕ → ℕ → ℕ → List ℕ
 columns zero rest mark = []
 columns (suc n) rest mark = columns n (rest / base) (markAfter rest mark) ++ (column rest mark ∷ [])
 
--- the last column, which always has a digit
-abbrev pub lastColumn : ℕ → ℕ
-lastColumn magnitude = zeroDigit + magnitude % base
-
--- a number by its magnitude and the byte that stands before its first digit: right-justified with spaces
+-- a number by its magnitude and the byte that stands before its first digit: right-justified with spaces, at least one digit
 unfoldable pub numberText : ℕ → ℕ → List ℕ
-numberText magnitude mark = columns (fieldWidth - 1) (magnitude / base) mark ++ (lastColumn magnitude ∷ [])
+numberText magnitude mark = columns (fieldWidth - 1) (magnitude / base) mark ++ (lastDigit magnitude ∷ [])
 
 unfoldable pub fieldText : ℤ → List ℕ
 fieldText (pos n) = numberText n space

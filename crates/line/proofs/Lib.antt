@@ -1,0 +1,4 @@
+pub mod Signed
+pub mod Reading
+pub mod Writing
+pub mod Parts

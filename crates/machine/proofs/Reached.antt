@@ -284,3 +284,24 @@ empty-tick = refl
 pub tick-module-plain : (m : Module) → ValidModule m → tickModule m ≡ plainTick m
 tick-module-plain m (inl h) = rw h empty-tick
 tick-module-plain m (inr s) = tick-plain m s
+
+-- ---------------------------------------------------------------- what holds of both kinds of valid record
+pub record Sized (m : Module) : Type 0 where
+  pub partitions : length (m .partitions) ≡ partitionLimit
+  pub messages : length (m .messages) ≡ channelLimit
+  pub time : m .t ≤ timeLimit
+  pub size : m .table .size ≤ partitionLimit
+
+empty-sized : Sized emptyModule
+unfolding emptyModule emptyTable
+empty-sized = record { partitions = refl; messages = refl; time = omega arith; size = omega arith }
+
+pub valid-sized : (m : Module) → ValidModule m → Sized m
+valid-sized m (inl h) = rw h empty-sized
+valid-sized m (inr s) = record { partitions = s .partitionsSize; messages = s .messagesSize; time = s .time; size = s .table .size .1 }
+
+-- a record that has a partition has a sound table
+pub valid-sound : (m : Module) → ValidModule m → (i : ℕ) → i < m .table .size → SoundModule m
+unfolding emptyModule emptyTable
+valid-sound m (inl h) i l = absurd (omega (arith, ap (λ (q : Module). q .table .size) h))
+valid-sound m (inr s) i l = s

@@ -23,3 +23,5 @@ pub mod Sound
 pub mod Running
 pub mod Kept
 pub mod Reached
+pub mod Answers
+pub mod Plain

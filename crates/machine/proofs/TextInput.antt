@@ -1,20 +1,20 @@
 -- The lines of an input: they are the input, each ends at its LF or at the input's end, and a line of numbers is one of them,
 -- so that a reader may look at 61 bytes. Assumes nothing.
-use Prim.Native.Nat.{ℕ, zero, suc, _+_, _-_, _/_, _%_, _≤_, _<_}
+use Prim.Native.Nat.{ℕ, zero, suc, _+_, _-_, _/_, _≤_, _<_}
 use mathlib.Core.Path.{_≡_, refl, sym, _∙_, ap}
-use mathlib.Core.Bool.{Bool, true, false, cond, not, _&&_, _||_, and-eq-true-iff, or-true}
+use mathlib.Core.Bool.{Bool, true, false, not, _&&_, _||_, and-eq-true-iff, or-true}
 use mathlib.Core.List.{List, [], _∷_, _++_, flatten, append-assoc}
 use native.Mathlib.Omega.{arith}
 use lib.ListN.{length, take, drop, length-append, length-drop, take-append-drop}
 use lib.Seq.{take-append-seam, drop-append-seam, drop-drop}
 use lib.Dec.{leb, eqb}
 use lib.IntN.{ℤ, pos, negsuc}
-use borrow.Author.Tests.{not-true, ne-eqb, le-leb, lt-leb}
+use borrow.Author.Tests.{not-true, ne-eqb, le-leb}
 use Rattle.machine.specs.declared.Numbers.{Numbers}
 use Rattle.machine.specs.declared.Line.{Line}
 use Rattle.machine.specs.declared.Line.the-variants.{Six, Bad}
 use Rattle.machine.specs.Limits.{lineLength}
-use Rattle.machine.specs.Text.{lineFeed, space, minus, zeroDigit, base, fieldWidth, column, markAfter, columns, lastDigit, numberText, fieldText, lineText, numberList, readLine, inFirst, lines, firstLength, lineEnd, readAt}
+use Rattle.machine.specs.Text.{lineFeed, space, minus, base, fieldWidth, column, markAfter, columns, lastDigit, numberText, fieldText, lineText, numberList, readLine, inFirst, lines, firstLength, lineEnd, readAt}
 use Rattle.machine.proofs.TextField.{byTest}
 use Rattle.machine.proofs.TextLine.{line-length, six-length, read-six}
 

@@ -2,8 +2,8 @@
 -- is their text. Assumes nothing.
 use Prim.Native.Nat.{ℕ, zero, suc, _+_, _-_, _*_, _≤_, _<_}
 use mathlib.Core.Path.{_≡_, refl, sym, _∙_, ap}
-use mathlib.Core.Bool.{Bool, true, false, cond, _&&_, and-eq-true-iff}
-use mathlib.Core.List.{List, [], _∷_, _++_}
+use mathlib.Core.Bool.{true, cond, and-eq-true-iff}
+use mathlib.Core.List.{List, [], _∷_}
 use mathlib.Core.Option.{Option, none, some}
 use native.Mathlib.Omega.{arith}
 use lib.ListN.{length, take, drop, length-append, length-drop, take-append-drop}
@@ -12,10 +12,9 @@ use lib.Dec.{leb}
 use lib.IntN.{ℤ}
 use borrow.Author.Tests.{leb-true}
 use Rattle.machine.specs.declared.Numbers.{Numbers}
-use Rattle.machine.specs.declared.Line.{Line}
 use Rattle.machine.specs.declared.Line.the-variants.{Six, Bad}
 use Rattle.machine.specs.Limits.{lineLength}
-use Rattle.machine.specs.Text.{lineFeed, fieldWidth, fieldCount, inRange, fieldText, lineText, sameBytes, readField, joined, readNumbers, numberList, numbersOf, lineOf, readLine, allInRange, canWrite, written}
+use Rattle.machine.specs.Text.{lineFeed, fieldWidth, fieldCount, inRange, fieldText, lineText, sameBytes, readField, joined, readNumbers, numberList, numbersOf, readLine, allInRange, canWrite, written}
 use Rattle.machine.proofs.TextField.{byTest, same-refl, same-true, field-length, field-read, read-field}
 
 pub line-length : (ns : List ℤ) → length (lineText ns) ≡ length ns * fieldWidth + 1

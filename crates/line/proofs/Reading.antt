@@ -7,7 +7,7 @@ use mathlib.Core.List.{List, [], _∷_, _++_, append-assoc, append-nil}
 use native.Mathlib.Omega.{arith}
 use native.Mathlib.Nat.{pow-succ', pow-le-pow-right}
 use native.Mathlib.Numerals.{add-one}
-use lib.ListN.{length, getD, take, drop, set, length-take, length-drop, drop-of-length-le}
+use lib.ListN.{length, getD, take, drop, set, drop-of-length-le}
 use lib.Seq.{take-suc, take-suc-set, take-all, drop-cons, drop-drop, length-take-le}
 use lib.Dec.{eqb, leb, lit<}
 use borrow.Author.Tests.{eq-eqb, ne-eqb, le-leb, lt-leb, leb-true}
@@ -16,12 +16,11 @@ use lib.IntN.{ℤ, pos, negsuc}
 use mir.Syntax.{w64}
 use mir.Val.{toZ, ofZ}
 use mir.ValLaws.{toZ-pos}
-use Rattle.machine.specs.declared.Line.{Line}
 use Rattle.machine.specs.declared.Line.the-variants.{Six, Bad}
 use Rattle.machine.specs.Limits.{numberLimit, lineLength}
-use Rattle.machine.specs.Text.{lineFeed, space, minus, zeroDigit, base, fieldWidth, inRange, column, markAfter, columns, lastDigit, numberText, fieldText, sameBytes, spelled, candidate, readField, joined, fieldCount, readNumbers, readLine, readAt, firstLength, lineEnd}
+use Rattle.machine.specs.Text.{lineFeed, space, minus, zeroDigit, base, fieldWidth, inRange, column, markAfter, columns, lastDigit, numberText, fieldText, sameBytes, spelled, candidate, readField, joined, fieldCount, readNumbers, readLine, firstLength, lineEnd}
 use Rattle.machine.proofs.TextField.{byTest, columns-length, columns-more, columns-none, read-field}
-use Rattle.machine.proofs.TextLine.{reads-more, reads-none, six-length, read-line, read-six}
+use Rattle.machine.proofs.TextLine.{reads-more, reads-none, read-line}
 use Rattle.line.proofs.Signed.{range-back, ranges-back}
 use Rattle.line.specs.declared.Found.{Found}
 use Rattle.line.specs.declared.Found.the-variants.{Number, Nothing}
@@ -172,13 +171,6 @@ bad-line : (s : List ℕ) → readNumbers fieldCount s ≡ none → Bad ≡ read
 unfolding readLine
 bad-line s e = rw e
 
-pub long-line : (s : List ℕ) → (length s ≡ lineLength → ⊥) → Bad ≡ readLine s
-long-line s h = go (readLine s) refl
-  where
-    go : (r : Line) → readLine s ≡ r → Bad ≡ readLine s
-    go Bad e = sym e
-    go (Six n) e = absurd (h (ap length (read-six s n e .0) ∙ six-length n))
-
 -- what is left to read after i numbers gives the whole
 module _ (s : List ℕ) (ns : List ℤ) (i : ℕ) (l : length ns ≡ fieldCount) (q : ahead (take i ns) (readNumbers (fieldCount - i) (drop (i * fieldWidth) s)) ≡ readNumbers fieldCount s) where
   module _ (h : i < fieldCount) (f : Found) (e : f ≡ foundOf (readField (take fieldWidth (drop (i * fieldWidth) s)))) where
@@ -230,8 +222,3 @@ module _ (s : List ℕ) (ns : List ℤ) (i : ℕ) (l : length ns ≡ fieldCount)
         sym (closed true (eq-eqb (getD s (lineLength - 1) 0) lineFeed g)) ∙ rw append-nil
         in
         rw r (simp (ranges-back ns (read-line fieldCount s ns r .range)))
-
--- ---------------------------------------------------------------- a line in the middle of the input
-pub few-left : (input : List ℕ) (at : ℕ) → length input < at + lineLength → Bad ≡ readAt input at
-few-left input at h =
-    long-line (take lineLength (drop at input)) (λ e. omega (arith, length-take lineLength (drop at input), length-drop at input))

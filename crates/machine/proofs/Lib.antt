@@ -1,3 +1,4 @@
 pub mod TextField
 pub mod TextLine
 pub mod TextInput
+pub mod TextCases

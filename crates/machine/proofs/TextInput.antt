@@ -5,7 +5,7 @@ use mathlib.Core.Path.{_≡_, refl, sym, _∙_, ap}
 use mathlib.Core.Bool.{Bool, true, false, not, _&&_, _||_, and-eq-true-iff, or-true}
 use mathlib.Core.List.{List, [], _∷_, _++_, flatten, append-assoc}
 use native.Mathlib.Omega.{arith}
-use lib.ListN.{length, take, drop, length-append, length-drop, take-append-drop}
+use lib.ListN.{length, take, drop, length-append, length-take, length-drop, take-append-drop, drop-of-length-le}
 use lib.Seq.{take-append-seam, drop-append-seam, drop-drop}
 use lib.Dec.{leb, eqb}
 use lib.IntN.{ℤ, pos, negsuc}
@@ -16,7 +16,7 @@ use Rattle.machine.specs.declared.Line.the-variants.{Six, Bad}
 use Rattle.machine.specs.Limits.{lineLength}
 use Rattle.machine.specs.Text.{lineFeed, space, minus, base, fieldWidth, column, markAfter, columns, lastDigit, numberText, fieldText, lineText, numberList, readLine, inFirst, lines, firstLength, lineEnd, readAt}
 use Rattle.machine.proofs.TextField.{byTest}
-use Rattle.machine.proofs.TextLine.{line-length, six-length, read-six}
+use Rattle.machine.proofs.TextLine.{line-length, six-length, read-six, read-other}
 
 -- ---------------------------------------------------------------- what a line is
 -- no LF among these bytes
@@ -191,6 +191,17 @@ line-at input at h =
       after = rw e (omega (arith, first-some (drop at input) (omega arith)));
       within = rw e (omega (arith, first-within (drop at input)));
     }
+
+-- no line from the input's end on
+pub lines-end : (input : List ℕ) (at : ℕ) → length input ≤ at → lines (drop at input) ≡ []
+unfolding lines
+lines-end input at h = rw (drop-of-length-le input {i = at} h)
+
+-- where fewer than 61 bytes are left, no six numbers are
+pub few-left : (input : List ℕ) (at : ℕ) → length input < at + lineLength → Bad ≡ readAt input at
+few-left input at h =
+    read-other (take lineLength (drop at input))
+    (λ e. omega (arith, length-take lineLength (drop at input), length-drop at input))
 
 -- the line of six numbers at a position is 61 bytes long
 pub six-end : (input : List ℕ) (at : ℕ) (n : Numbers) → readAt input at ≡ Six n → lineEnd input at ≡ at + lineLength

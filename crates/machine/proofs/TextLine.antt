@@ -12,6 +12,7 @@ use lib.Dec.{leb}
 use lib.IntN.{ℤ}
 use borrow.Author.Tests.{leb-true}
 use Rattle.machine.specs.declared.Numbers.{Numbers}
+use Rattle.machine.specs.declared.Line.{Line}
 use Rattle.machine.specs.declared.Line.the-variants.{Six, Bad}
 use Rattle.machine.specs.Limits.{lineLength}
 use Rattle.machine.specs.Text.{lineFeed, fieldWidth, fieldCount, inRange, fieldText, lineText, sameBytes, readField, joined, readNumbers, numberList, numbersOf, readLine, allInRange, canWrite, written}
@@ -113,6 +114,14 @@ read-six bs n h = go (readNumbers fieldCount bs) refl
         let m : numbersOf zs ≡ n = cc in
         let l : numberList n ≡ zs = ap numberList (sym m) ∙ six-list zs (t .count) in
         (rw l (t .text), rw l (t .range))
+
+-- a line of another length is refused
+pub read-other : (bs : List ℕ) → (length bs ≡ lineLength → ⊥) → Bad ≡ readLine bs
+read-other bs h = go (readLine bs) refl
+  where
+    go : (r : Line) → readLine bs ≡ r → Bad ≡ readLine bs
+    go Bad e = sym e
+    go (Six n) e = absurd (h (ap length (read-six bs n e .0) ∙ six-length n))
 
 -- ---------------------------------------------------------------- writing
 pub written-length : (out : List ℕ) (ns : List ℤ) → length (written out ns) ≡ length out

@@ -27,7 +27,13 @@ in-range-requires : tie.Need-in-range-requires Inv-loop μ-loop
 in-range-requires c κs = search needs
 
 returns : tie.Need-returns Inv-loop μ-loop
-returns c = range-out (numberList (c .before .before .before .before .before .args .n)) (c .before .before .before .before .loop .i) (omega arith) _ (c .before .before .number .ensures) _ (c .before .in-range .ensures ∙ ap inRange (toZ-ofZ w64 (c .before .before .number .result) (omega (arith, c .before .before .number .ok)))) (c .if1 .taken) _ (c .before .before .before .before .loop .inv .1)
+returns c =
+    let start = c .before .before .before .before .before in
+    let loop = c .before .before .before .before .loop in
+    let number = c .before .before .number in
+    range-out (numberList (start .args .n)) (loop .i) (omega arith) _ (number .ensures) _
+    (c .before .in-range .ensures ∙ ap inRange (toZ-ofZ w64 (number .result) (omega (arith, number .ok)))) (c .if1 .taken) _
+    (loop .inv .1)
 
 add-i : tie.Need-add-i Inv-loop μ-loop
 add-i c = search needs
@@ -36,7 +42,15 @@ loop-less : tie.Need-loop-less Inv-loop μ-loop
 loop-less c = search needs
 
 loop-again : tie.Need-loop-again Inv-loop μ-loop
-loop-again c = (omega arith, range-in (numberList (c .before .before .before .before .before .args .n)) (c .before .before .before .before .loop .i) (omega arith) _ (c .before .before .number .ensures) _ (c .before .in-range .ensures ∙ ap inRange (toZ-ofZ w64 (c .before .before .number .result) (omega (arith, c .before .before .number .ok)))) (c .if1 .left) _ (c .before .before .before .before .loop .inv .1))
+loop-again c =
+    let start = c .before .before .before .before .before in
+    let loop = c .before .before .before .before .loop in
+    let number = c .before .before .number in (
+      omega arith,
+      range-in (numberList (start .args .n)) (loop .i) (omega arith) _ (number .ensures) _
+          (c .before .in-range .ensures ∙ ap inRange (toZ-ofZ w64 (number .result) (omega (arith, number .ok)))) (c .if1 .left) _
+          (loop .inv .1),
+    )
 
 returns-2 : tie.Need-returns-2 Inv-loop μ-loop
 returns-2 c = range-end (numberList (c .before .before .args .n)) (c .before .loop .i) _ (omega arith) (c .before .loop .inv .1)

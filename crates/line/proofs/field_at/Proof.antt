@@ -25,7 +25,10 @@ field-requires : tie.Need-field-requires
 field-requires c κs = search needs
 
 returns : tie.Need-returns
-returns c = let e : c .before .before .before .args .at + fieldWidth - c .before .before .before .args .at ≡ fieldWidth = omega arith in c .field .ensures ∙ ap (λ (k : ℕ). foundOf (readField (take k (drop (c .before .before .before .args .at) (c .before .before .before .args .s .now))))) e
+returns c =
+    let start = c .before .before .before in
+    let e : start .args .at + fieldWidth - start .args .at ≡ fieldWidth = omega arith in c .field .ensures ∙ ap
+    (λ (k : ℕ). foundOf (readField (take k (drop (start .args .at) (start .args .s .now))))) e
 
 pub field-at-spec : {M : Type 1} → statement M
 field-at-spec =

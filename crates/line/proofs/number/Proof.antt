@@ -28,7 +28,8 @@ returns-6 : tie.Need-returns-6
 returns-6 c = rw (c .before .match .keys6) (toZ-ofZ w64 _ (omega (arith, c .struct-told6 .given)))
 
 returns-7 : tie.Need-returns-7
-returns-7 c = let h : fieldCount ≤ c .before .args .i = omega arith in sym (List·getD-eq-default (numberList (c .before .args .n)) _ h)
+returns-7 c =
+    let h : fieldCount ≤ c .before .args .i = omega arith in sym (List·getD-eq-default (numberList (c .before .args .n)) _ h)
 
 pub number-spec : {M : Type 1} → statement M
 number-spec =

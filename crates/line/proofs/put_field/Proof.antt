@@ -10,7 +10,9 @@ put-number-requires : tie.Need-put-number-requires
 put-number-requires c κs = search needs
 
 cast-put-number : tie.Need-cast-put-number
-cast-put-number c = magnitude-fits _ (c .before .before .before .fits .x) (c .before .before .before .pre .1) (c .before .if1 .left)
+cast-put-number c =
+    let start = c .before .before .before in
+    magnitude-fits _ (start .fits .x) (start .pre .1) (c .before .if1 .left)
 
 put-number-requires-2 : tie.Need-put-number-requires-2
 put-number-requires-2 c κs = search needs
@@ -19,13 +21,19 @@ same-length : tie.Need-same-length
 same-length c = search needs
 
 returns : tie.Need-returns
-returns c = c .before .before .put-number .ensures ∙ ap (sets _ _) (minus-one-text _ (c .before .before .before .before .before .before .fits .x) (c .before .before .before .before .if1 .taken))
+returns c =
+    let start = c .before .before .before .before .before .before in
+    let if1 = c .before .before .before .before .if1 in
+    c .before .before .put-number .ensures ∙ ap (sets _ _) (minus-one-text _ (start .fits .x) (if1 .taken))
 
 same-length-2 : tie.Need-same-length-2
 same-length-2 c = search needs
 
 returns-2 : tie.Need-returns-2
-returns-2 c = c .before .before .put-number2 .ensures ∙ ap (sets _ _) (magnitude-text _ (c .before .before .before .before .before .before .fits .x) (c .before .before .before .before .before .before .pre .1) (c .before .before .before .before .if1 .left))
+returns-2 c =
+    let start = c .before .before .before .before .before .before in
+    let if1 = c .before .before .before .before .if1 in
+    c .before .before .put-number2 .ensures ∙ ap (sets _ _) (magnitude-text _ (start .fits .x) (start .pre .1) (if1 .left))
 
 pub put-field-spec : {M : Type 1} → statement M
 put-field-spec =

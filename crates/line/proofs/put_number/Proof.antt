@@ -11,7 +11,11 @@ use Rattle.line.proofs.put_number.Statement.{statement}
 use Rattle.line.proofs.put_number.Tie as tie
 
 abbrev Inv-loop : tie.InvT-loop
-Inv-loop out₀ at magnitude sign j₀ rest₀ mark₀ out j rest mark = (j ≤ fieldWidth - 1) × (at + fieldWidth ≤ length out) × (length out ≡ length out₀) × (sets out at (columns j rest mark) ≡ sets out₀ at (columns j₀ rest₀ mark₀))
+Inv-loop out₀ at magnitude sign j₀ rest₀ mark₀ out j rest mark =
+    (j ≤ fieldWidth - 1)
+    × (at + fieldWidth ≤ length out)
+    × (length out ≡ length out₀)
+    × (sets out at (columns j rest mark) ≡ sets out₀ at (columns j₀ rest₀ mark₀))
 
 abbrev μ-loop : tie.MeasureT-loop
 μ-loop out₀ at magnitude sign j₀ rest₀ mark₀ out j rest mark = j
@@ -50,13 +54,22 @@ loop-less : tie.Need-loop-less Inv-loop μ-loop
 loop-less c = search needs
 
 loop-again : tie.Need-loop-again Inv-loop μ-loop
-loop-again c = (omega arith, simp length-set (omega arith), length-set (c .before .before .before .loop .out) _ _ ∙ c .before .before .before .loop .inv .2, column-stored _ _ _ _ _ _ _ _ (c .before .before .loop-test .taken) (c .before .column-of .ensures) (c .mark-after .ensures) (c .before .before .before .loop .inv .3))
+loop-again c =
+    let loop = c .before .before .before .loop in (
+      omega arith,
+      simp length-set (omega arith),
+      length-set (loop .out) _ _ ∙ loop .inv .2,
+      column-stored _ _ _ _ _ _ _ _ (c .before .before .loop-test .taken) (c .before .column-of .ensures)
+          (c .mark-after .ensures) (loop .inv .3),
+    )
 
 same-length : tie.Need-same-length Inv-loop μ-loop
 same-length c = c .before .loop .inv .2 ∙ simp length-set
 
 returns : tie.Need-returns Inv-loop μ-loop
-returns c = columns-stored _ _ _ _ _ _ (c .loop-test .left) (c .before .loop .inv .3 ∙ number-stored _ _ _ _ _ (c .before .before .last-digit .ensures))
+returns c =
+    columns-stored _ _ _ _ _ _ (c .loop-test .left)
+    (c .before .loop .inv .3 ∙ number-stored _ _ _ _ _ (c .before .before .last-digit .ensures))
 
 pub put-number-spec : {M : Type 1} → statement M
 put-number-spec =

@@ -1,22 +1,26 @@
 -- `read` meets its contract. The loop: the numbers so far, ahead of what is left to read, are what the line reads as.
 use lib.ListN.{length, take, drop, length-set}
-use Rattle.line.proofs.Reading.{ahead, ahead-nil, long-line, number-more, number-none, feed-none, feed-found}
+use Rattle.line.proofs.Reading.{ahead, ahead-nil, number-more, number-none, feed-none, feed-found}
 use Prim.Native.Nat.{_≤_, _*_, _-_}
 use mathlib.Core.Path.{_≡_, refl}
 use native.Mathlib.Omega.{arith}
 use borrow.Author.Needs.{needs}
 use Rattle.machine.specs.Text.{fieldWidth, fieldCount, readNumbers}
+use Rattle.machine.proofs.TextLine.{read-other}
 use Rattle.line.proofs.read.Statement.{statement}
 use Rattle.line.proofs.read.Tie as tie
 
 abbrev Inv-loop : tie.InvT-loop
-Inv-loop s ns₀ i₀ ns i = (i ≤ fieldCount) × (length ns ≡ fieldCount) × (ahead (take i ns) (readNumbers (fieldCount - i) (drop (i * fieldWidth) s)) ≡ readNumbers fieldCount s)
+Inv-loop s ns₀ i₀ ns i =
+    (i ≤ fieldCount)
+    × (length ns ≡ fieldCount)
+    × (ahead (take i ns) (readNumbers (fieldCount - i) (drop (i * fieldWidth) s)) ≡ readNumbers fieldCount s)
 
 abbrev μ-loop : tie.MeasureT-loop
 μ-loop s ns₀ i₀ ns i = fieldCount - i
 
 returns : tie.Need-returns Inv-loop μ-loop
-returns c = long-line (c .before .before .args .s .now) (λ e. omega arith)
+returns c = read-other (c .before .before .args .s .now) (λ e. omega arith)
 
 loop-holds : tie.Need-loop-holds Inv-loop μ-loop
 loop-holds c = (omega arith, refl, ahead-nil _)
@@ -34,7 +38,12 @@ enum-told : tie.Need-enum-told Inv-loop μ-loop
 enum-told c = search needs
 
 returns-2 : tie.Need-returns-2 Inv-loop μ-loop
-returns-2 c = number-none (c .before .before .before .before .before .before .before .args .s .now) (c .before .before .before .before .loop .ns) (c .before .before .before .before .loop .i) (c .before .before .before .before .loop .inv .1) (c .before .before .before .before .loop .inv .2) (c .before .before .before .loop-test .taken) _ (c .before .before .field-at .ensures) (c .enum-told .given .1)
+returns-2 c =
+    let start = c .before .before .before .before .before .before .before in
+    let loop = c .before .before .before .before .loop in
+    let loop-test = c .before .before .before .loop-test in
+    number-none (start .args .s .now) (loop .ns) (loop .i) (loop .inv .1) (loop .inv .2) (loop-test .taken) _
+    (c .before .before .field-at .ensures) (c .enum-told .given .1)
 
 mul-ns : tie.Need-mul-ns Inv-loop μ-loop
 mul-ns c = search needs
@@ -49,7 +58,16 @@ loop-less : tie.Need-loop-less Inv-loop μ-loop
 loop-less c = search needs
 
 loop-again : tie.Need-loop-again Inv-loop μ-loop
-loop-again c = (omega arith, simp length-set (c .before .before .before .before .before .loop .inv .1), number-more (c .before .before .before .before .before .before .before .before .args .s .now) (c .before .before .before .before .before .loop .ns) (c .before .before .before .before .before .loop .i) (c .before .before .before .before .before .loop .inv .1) (c .before .before .before .before .before .loop .inv .2) (c .before .before .before .before .loop-test .taken) _ (c .before .before .before .field-at .ensures) _ (c .before .x .given .1))
+loop-again c =
+    let start = c .before .before .before .before .before .before .before .before in
+    let loop = c .before .before .before .before .before .loop in
+    let loop-test = c .before .before .before .before .loop-test in
+    let field-at = c .before .before .before .field-at in (
+      omega arith,
+      simp length-set (loop .inv .1),
+      number-more (start .args .s .now) (loop .ns) (loop .i) (loop .inv .1) (loop .inv .2) (loop-test .taken) _
+          (field-at .ensures) _ (c .before .x .given .1),
+    )
 
 sub-if2 : tie.Need-sub-if2 Inv-loop μ-loop
 sub-if2 c = search needs
@@ -58,7 +76,11 @@ shared-slice-read-if2 : tie.Need-shared-slice-read-if2 Inv-loop μ-loop
 shared-slice-read-if2 c = search needs
 
 returns-3 : tie.Need-returns-3 Inv-loop μ-loop
-returns-3 c = feed-none (c .before .before .before .before .before .before .args .s .now) (c .before .before .before .loop .ns) (c .before .before .before .loop .i) (c .before .before .before .loop .inv .1) (c .before .before .before .loop .inv .2) (c .before .before .loop-test .left) (c .before .before .before .loop .inv .0) (omega arith) (c .if2 .taken)
+returns-3 c =
+    let start = c .before .before .before .before .before .before in
+    let loop = c .before .before .before .loop in
+    feed-none (start .args .s .now) (loop .ns) (loop .i) (loop .inv .1) (loop .inv .2) (c .before .before .loop-test .left)
+    (loop .inv .0) (omega arith) (c .if2 .taken)
 
 array-copy-out-t16 : tie.Need-array-copy-out-t16 Inv-loop μ-loop
 array-copy-out-t16 c = search needs
@@ -79,7 +101,13 @@ array-copy-out-t31 : tie.Need-array-copy-out-t31 Inv-loop μ-loop
 array-copy-out-t31 c = search needs
 
 returns-4 : tie.Need-returns-4 Inv-loop μ-loop
-returns-4 c = feed-found (c .before .before .before .before .before .before .before .before .before .before .before .before .args .s .now) (c .before .before .before .before .before .before .before .before .before .loop .ns) (c .before .before .before .before .before .before .before .before .before .loop .i) (c .before .before .before .before .before .before .before .before .before .loop .inv .1) (c .before .before .before .before .before .before .before .before .before .loop .inv .2) (c .before .before .before .before .before .before .before .before .loop-test .left) (c .before .before .before .before .before .before .before .before .before .loop .inv .0) (omega arith) (c .before .before .before .before .before .before .if2 .left)
+returns-4 c =
+    let start = c .before .before .before .before .before .before .before .before .before .before .before .before in
+    let loop = c .before .before .before .before .before .before .before .before .before .loop in
+    let loop-test = c .before .before .before .before .before .before .before .before .loop-test in
+    let if2 = c .before .before .before .before .before .before .if2 in
+    feed-found (start .args .s .now) (loop .ns) (loop .i) (loop .inv .1) (loop .inv .2) (loop-test .left) (loop .inv .0)
+    (omega arith) (if2 .left)
 
 pub read-spec : {M : Type 1} → statement M
 read-spec =

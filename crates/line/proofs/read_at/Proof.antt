@@ -4,7 +4,7 @@ use native.Mathlib.Omega.{arith}
 use Rattle.machine.specs.Limits.{lineLength}
 use Rattle.machine.specs.Text.{readLine}
 use Rattle.line.proofs.Parts.{part-is}
-use Rattle.line.proofs.Reading.{few-left}
+use Rattle.machine.proofs.TextInput.{few-left}
 use borrow.Author.Needs.{needs}
 use Rattle.line.proofs.read_at.Statement.{statement}
 use Rattle.line.proofs.read_at.Tie as tie
@@ -34,7 +34,9 @@ read-requires : tie.Need-read-requires
 read-requires c κs = search needs
 
 returns-3 : tie.Need-returns-3
-returns-3 c = c .read .ensures ∙ ap readLine (part-is (c .before .before .before .before .before .args .at) lineLength (c .before .before .before .before .before .args .input .now))
+returns-3 c =
+    let start = c .before .before .before .before .before in
+    c .read .ensures ∙ ap readLine (part-is (start .args .at) lineLength (start .args .input .now))
 
 pub read-at-spec : {M : Type 1} → statement M
 read-at-spec =

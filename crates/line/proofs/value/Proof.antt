@@ -28,7 +28,10 @@ digit-requires : tie.Need-digit-requires Inv-loop μ-loop
 digit-requires c κs = search needs
 
 add-v : tie.Need-add-v Inv-loop μ-loop
-add-v c = omega (arith, spelled-fits _ _ (c .before .before .loop-test .taken) (c .before .before .before .loop .inv .1), c .before .shared-slice-known2 .given (c .before .before .before .loop .i))
+add-v c =
+    let loop = c .before .before .before .loop in
+    omega
+    (arith, spelled-fits _ _ (c .before .before .loop-test .taken) (loop .inv .1), c .before .shared-slice-known2 .given (loop .i))
 
 add-i : tie.Need-add-i Inv-loop μ-loop
 add-i c = search needs
@@ -37,10 +40,18 @@ loop-less : tie.Need-loop-less Inv-loop μ-loop
 loop-less c = search needs
 
 loop-again : tie.Need-loop-again Inv-loop μ-loop
-loop-again c = (omega arith, spelled-bound _ _ _ (omega (arith, c .before .shared-slice-known2 .given (c .before .before .before .loop .i))) (c .before .before .before .loop .inv .1), spelled-more (c .before .before .before .before .before .args .s .now) (c .before .before .before .loop .i) _ _ _ (omega arith) (c .digit .ensures) (c .before .before .before .loop .inv .2))
+loop-again c =
+    let start = c .before .before .before .before .before in
+    let loop = c .before .before .before .loop in (
+      omega arith,
+      spelled-bound _ _ _ (omega (arith, c .before .shared-slice-known2 .given (loop .i))) (loop .inv .1),
+      spelled-more (start .args .s .now) (loop .i) _ _ _ (omega arith) (c .digit .ensures) (loop .inv .2),
+    )
 
 returns : tie.Need-returns Inv-loop μ-loop
-returns c = spelled-end (c .before .before .before .args .s .now) (c .before .loop .i) _ _ (omega arith) (c .before .loop .inv .2)
+returns c =
+    let loop = c .before .loop in
+    spelled-end (c .before .before .before .args .s .now) (loop .i) _ _ (omega arith) (loop .inv .2)
 
 pub value-spec : {M : Type 1} → statement M
 value-spec =

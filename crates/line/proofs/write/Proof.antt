@@ -14,7 +14,9 @@ all-in-range-requires : tie.Need-all-in-range-requires
 all-in-range-requires c κs = search needs
 
 returns-2 : tie.Need-returns-2
-returns-2 c = range-refused (c .before .before .before .before .args .out .now) (c .before .before .before .before .args .n) _ (c .before .all-in-range .ensures) (c .if2 .taken)
+returns-2 c =
+    let start = c .before .before .before .before in
+    range-refused (start .args .out .now) (start .args .n) _ (c .before .all-in-range .ensures) (c .if2 .taken)
 
 put-line-requires : tie.Need-put-line-requires
 put-line-requires c κs = (omega arith, sym (c .before .before .all-in-range .ensures) ∙ not-false _ (c .before .if2 .left))
@@ -23,7 +25,12 @@ same-length : tie.Need-same-length
 same-length c = search needs
 
 returns-3 : tie.Need-returns-3
-returns-3 c = line-written (c .before .before .before .before .before .before .before .before .args .out .now) (c .before .before .before .before .before .before .before .before .args .n) (omega arith) (sym (c .before .before .before .before .before .all-in-range .ensures) ∙ not-false _ (c .before .before .before .before .if2 .left)) _ (c .before .before .put-line .ensures)
+returns-3 c =
+    let start = c .before .before .before .before .before .before .before .before in
+    let all-in-range = c .before .before .before .before .before .all-in-range in
+    let if2 = c .before .before .before .before .if2 in
+    line-written (start .args .out .now) (start .args .n) (omega arith) (sym (all-in-range .ensures) ∙ not-false _ (if2 .left))
+    _ (c .before .before .put-line .ensures)
 
 pub write-spec : {M : Type 1} → statement M
 write-spec =

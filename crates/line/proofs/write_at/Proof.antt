@@ -6,7 +6,9 @@ use Rattle.line.proofs.write_at.Statement.{statement}
 use Rattle.line.proofs.write_at.Tie as tie
 
 returns : tie.Need-returns
-returns c = past-refused (c .before .before .args .out .now) (c .before .before .args .at) (c .before .before .args .n) (omega arith)
+returns c =
+    let start = c .before .before in
+    past-refused (start .args .out .now) (start .args .at) (start .args .n) (omega arith)
 
 sub-write : tie.Need-sub-write
 sub-write c = search needs
@@ -24,7 +26,9 @@ same-length : tie.Need-same-length
 same-length c = search needs
 
 returns-2 : tie.Need-returns-2
-returns-2 c = tail-written (c .before .before .before .before .before .before .args .out .now) (c .before .before .before .before .before .before .args .at) (c .before .before .before .before .before .before .args .n) _ _ (c .before .before .write .ensures)
+returns-2 c =
+    let start = c .before .before .before .before .before .before in
+    tail-written (start .args .out .now) (start .args .at) (start .args .n) _ _ (c .before .before .write .ensures)
 
 pub write-at-spec : {M : Type 1} → statement M
 write-at-spec =

@@ -135,6 +135,15 @@ written-length out ns =
     rw t (simp (length-append, length-drop) (omega arith)))
     (λ t. rw t)
 
+-- past the line's bytes nothing changes
+pub written-after : (out : List ℕ) (n : Numbers) → drop lineLength (written out (numberList n)) ≡ drop lineLength out
+unfolding written
+written-after out n =
+    byTest (canWrite (length out) (numberList n))
+    (λ t.
+    rw (t, drop-at (lineText (numberList n)) (drop (length (lineText (numberList n))) out) lineLength (six-length n), six-length n))
+    (λ t. rw t)
+
 -- what was written reads as the numbers
 pub written-read : (out : List ℕ) (n : Numbers) → canWrite (length out) (numberList n) ≡ true
     → readLine (take lineLength (written out (numberList n))) ≡ Six n

@@ -6,3 +6,11 @@ pub mod Partition
 pub mod Calls
 pub mod Module
 pub mod Text
+pub mod Table
+pub mod Replay
+pub mod Waiting
+pub mod Examples
+pub mod TwoRuns
+pub mod LeftRight
+pub mod Valid
+pub mod Starred

@@ -284,3 +284,7 @@ answerTo r d =
 
 unfoldable pub step : Module → Event → Stepped
 step m e = let r = requestOf e in let d = done m r in record { state = d .state; answer = answerTo r d }
+
+-- the numbers of the table "Numbers by place of check" that an event can get: each leaves the module same
+unfoldable pub refusal : ℕ → Bool
+refusal n = (leb 1 n && leb n 5) || (eqb n 8 || (eqb n 9 || (eqb n 10 || eqb n 13)))

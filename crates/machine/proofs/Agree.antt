@@ -1,0 +1,127 @@
+-- Two modules that agree on a set of partitions, and what each way of changing a module keeps of that. Assumes nothing.
+use Prim.Native.Nat.{ℕ, zero, suc, _+_, _-_}
+use mathlib.Core.Path.{_≡_, refl, sym, ap, ap₂, _∙_}
+use mathlib.Core.Bool.{Bool, true, false, cond}
+use lib.ListN.{length, length-set}
+use lib.Seq.{getD-set-other}
+use lib.Dec.{eqb, leb}
+use borrow.Author.Tests.{eqb-true}
+use Rattle.machine.specs.declared.Partition.{Partition}
+use Rattle.machine.specs.declared.Table.{Table}
+use Rattle.machine.specs.declared.Message.{Message}
+use Rattle.machine.specs.declared.Module.{Module}
+use Rattle.machine.specs.Partition.{noted, tickPartition}
+use Rattle.machine.specs.Module.{part, message, channel, withPart, withMessage, withTime, tickAt, tickTo, erasedTo, noMessage}
+use Rattle.machine.proofs.Tests.{by-test, by-tests, set-both, not-both}
+
+pub record Agree (T : Table) (S : ℕ → Bool) (m n : Module) : Type 0 where
+  pub left : m .table ≡ T
+  pub right : n .table ≡ T
+  pub time : m .t ≡ n .t
+  pub slots : length (m .partitions) ≡ length (n .partitions)
+  pub places : length (m .messages) ≡ length (n .messages)
+  pub parts : (i : ℕ) → S (suc i) ≡ true → part m i ≡ part n i
+  pub inbound : (i : ℕ) → S (channel T i .destination) ≡ true → message m i ≡ message n i
+
+module _ (T : Table) (S : ℕ → Bool) where
+  pub agree-same : (m : Module) → m .table ≡ T → Agree T S m m
+  agree-same m q = record { left = q; right = q; time = refl; slots = refl; places = refl; parts = λ i s. refl; inbound = λ i s. refl }
+
+  pub agree-back : (m n : Module) → Agree T S m n → Agree T S n m
+  agree-back m n a = record { left = a .right; right = a .left; time = sym (a .time); slots = sym (a .slots); places = sym (a .places); parts = λ i s. sym (a .parts i s); inbound = λ i s. sym (a .inbound i s) }
+
+  pub agree-along : (m n o : Module) → Agree T S m n → Agree T S n o → Agree T S m o
+  agree-along m n o a b = record { left = a .left; right = b .right; time = a .time ∙ b .time; slots = a .slots ∙ b .slots; places = a .places ∙ b .places; parts = λ i s. a .parts i s ∙ b .parts i s; inbound = λ i s. a .inbound i s ∙ b .inbound i s }
+
+  -- changes on both sides: equal where they can be seen
+  pub part-both : (m n : Module) (i : ℕ) (p q : Partition) → Agree T S m n → (S (suc i) ≡ true → p ≡ q) → Agree T S (withPart i p m) (withPart i q n)
+  part-both m n i p q a h = record {
+    left = a .left;
+    right = a .right;
+    time = a .time;
+    places = a .places;
+    inbound = a .inbound;
+    slots = length-set (m .partitions) i (noted p) ∙ a .slots ∙ sym (length-set (n .partitions) i (noted q));
+    parts = λ j s. set-both (λ (x y : Partition). x ≡ y) (m .partitions) (n .partitions) i j (noted p) (noted q) _ (a .slots) (λ e. ap noted (h (ap (λ (x : ℕ). S (suc x)) (sym e) ∙ s))) (a .parts j s);
+  }
+
+  pub message-both : (m n : Module) (i : ℕ) (x y : Message) → Agree T S m n → (S (channel T i .destination) ≡ true → x ≡ y) → Agree T S (withMessage i x m) (withMessage i y n)
+  message-both m n i x y a h = record {
+    left = a .left;
+    right = a .right;
+    time = a .time;
+    slots = a .slots;
+    parts = a .parts;
+    places = length-set (m .messages) i x ∙ a .places ∙ sym (length-set (n .messages) i y);
+    inbound = λ j s. set-both (λ (x y : Message). x ≡ y) (m .messages) (n .messages) i j x y _ (a .places) (λ e. h (ap (λ (k : ℕ). S (channel T k .destination)) (sym e) ∙ s)) (a .inbound j s);
+  }
+
+  pub time-both : (m n : Module) (t u : ℕ) → Agree T S m n → t ≡ u → Agree T S (withTime t m) (withTime u n)
+  time-both m n t u a q = record { left = a .left; right = a .right; time = q; slots = a .slots; places = a .places; parts = a .parts; inbound = a .inbound }
+
+  -- a change on one side that cannot be seen
+  pub part-free : (m n : Module) (i : ℕ) (p : Partition) → Agree T S m n → S (suc i) ≡ false → Agree T S (withPart i p m) n
+  part-free m n i p a f = record {
+    left = a .left;
+    right = a .right;
+    time = a .time;
+    places = a .places;
+    inbound = a .inbound;
+    slots = length-set (m .partitions) i (noted p) ∙ a .slots;
+    parts = λ j s. getD-set-other (m .partitions) i j (noted p) _ (λ e. not-both (S (suc j)) s (ap (λ (x : ℕ). S (suc x)) e ∙ f)) ∙ a .parts j s;
+  }
+
+  pub message-free : (m n : Module) (i : ℕ) (x : Message) → Agree T S m n → S (channel T i .destination) ≡ false → Agree T S (withMessage i x m) n
+  message-free m n i x a f = record {
+    left = a .left;
+    right = a .right;
+    time = a .time;
+    slots = a .slots;
+    parts = a .parts;
+    places = length-set (m .messages) i x ∙ a .places;
+    inbound = λ j s. getD-set-other (m .messages) i j x _ (λ e. not-both (S (channel T j .destination)) s (ap (λ (k : ℕ). S (channel T k .destination)) e ∙ f)) ∙ a .inbound j s;
+  }
+
+  -- one partition at a tick: in S it is equal on both sides, outside S nothing of it is seen
+  tick-at-both : (i : ℕ) (m n : Module) → Agree T S m n → Agree T S (tickAt i m) (tickAt i n)
+  unfolding tickAt
+  tick-at-both i m n a = go (S (suc i)) refl
+    where
+      free-left : S (suc i) ≡ false → (o : Module) → Agree T S m o → Agree T S (cond (leb (part m i .soonest) (m .t)) (withPart i (tickPartition (m .t) (part m i)) m) m) o
+      free-left f o b = by-test (λ (x : Module). Agree T S x o) (leb (part m i .soonest) (m .t)) (λ q. part-free m o i _ b f) (λ q. b)
+
+      free-right : S (suc i) ≡ false → Agree T S (cond (leb (part n i .soonest) (n .t)) (withPart i (tickPartition (n .t) (part n i)) n) n) m
+      free-right f = by-test (λ (x : Module). Agree T S x m) (leb (part n i .soonest) (n .t)) (λ q. part-free n m i _ (agree-back m n a) f) (λ q. agree-back m n a)
+
+      go : (b : Bool) → S (suc i) ≡ b
+          → Agree T S (cond (leb (part m i .soonest) (m .t)) (withPart i (tickPartition (m .t) (part m i)) m) m) (cond (leb (part n i .soonest) (n .t)) (withPart i (tickPartition (n .t) (part n i)) n) n)
+      go true s =
+          let p = a .parts i s in
+          by-tests (Agree T S) _ _ (ap₂ (λ (x : Partition) (t : ℕ). leb (x .soonest) t) p (a .time))
+          (λ q. part-both m n i _ _ a (λ _. ap₂ tickPartition (a .time) p))
+          (λ q. a)
+      go false f = free-left f _ (agree-back _ m (free-right f))
+
+  -- the two folds: a tick of all partitions, and the messages into one partition erased
+  pub tick-both : (k : ℕ) (m n : Module) → Agree T S m n → Agree T S (tickTo k m) (tickTo k n)
+  unfolding tickTo
+  tick-both zero m n a = a
+  tick-both (suc k) m n a = tick-at-both k (tickTo k m) (tickTo k n) (tick-both k m n a)
+
+  pub erase-both : (k c : ℕ) (m n : Module) → Agree T S m n → Agree T S (erasedTo k c m) (erasedTo k c n)
+  unfolding erasedTo
+  erase-both k zero m n a = a
+  erase-both k (suc c) m n a =
+      let h = erase-both k c m n a in
+      by-tests (Agree T S) _ _ (ap (λ (x : Table). eqb (channel x c .destination) k) (a .left ∙ sym (a .right)))
+      (λ q. message-both (erasedTo k c m) (erasedTo k c n) c noMessage noMessage h (λ s. refl))
+      (λ q. h)
+
+  pub erase-free : (k c : ℕ) (m n : Module) → Agree T S m n → S k ≡ false → Agree T S (erasedTo k c m) n
+  unfolding erasedTo
+  erase-free k zero m n a f = a
+  erase-free k (suc c) m n a f =
+      let h = erase-free k c m n a f in
+      by-test (λ (x : Module). Agree T S x n) (eqb (channel (m .table) c .destination) k)
+      (λ q. message-free (erasedTo k c m) n c noMessage h (ap (λ (x : Table). S (channel x c .destination)) (sym (a .left)) ∙ ap S (eqb-true _ _ q) ∙ f))
+      (λ q. h)

@@ -1,0 +1,145 @@
+-- What a test settles, and what an id inside its limit names, and one outside. Assumes nothing.
+use Prim.Native.Nat.{ℕ, zero, suc, _+_, _-_, _≤_, _<_}
+use mathlib.Core.Path.{_≡_, refl, ap, sym, _∙_}
+use mathlib.Core.Bool.{Bool, true, false, cond, not, _&&_, _||_, and-false}
+use mathlib.Core.List.{List, [], _∷_}
+use mathlib.Core.Logic.{_⊎_, inl, inr}
+use native.Mathlib.Omega.{arith}
+use lib.ListN.{length, getD, set, replicate, List·getD-eq-default, getD-replicate, length-replicate}
+use lib.Seq.{getD-set-same, getD-set-other, set-getD}
+use lib.Dec.{eqb, ltb, leb}
+use borrow.Author.Tests.{lt-ltb, le-ltb, le-leb, lt-leb, ltb-true, ltb-false, leb-true, eqb-true, eqb-false}
+use Rattle.machine.specs.declared.Process.{Process}
+use Rattle.machine.specs.declared.Partition.{Partition}
+use Rattle.machine.specs.Limits.{processLimit, semaphoreLimit, eventLimit}
+use Rattle.machine.specs.Ids.{follow}
+use Rattle.machine.specs.Process.{blankProcess, ready, onObject}
+use Rattle.machine.specs.Partition.{within, named, replaced, noSemaphore, noEvent, withSemaphores, withEvents, withProcesses, stored}
+use Rattle.machine.specs.Calls.{unknown, withValue, withUp}
+use Rattle.machine.proofs.Tests.{by-test, or-left, or-right, and-left, and-right}
+
+-- ---------------------------------------------------------------- tests
+pub not-so : (b : Bool) → (b ≡ true → ⊥) → b ≡ false
+not-so true h = absurd (h refl)
+not-so false h = refl
+
+pub so : (b : Bool) → (b ≡ false → ⊥) → b ≡ true
+so true h = refl
+so false h = absurd (h refl)
+
+pub same-or-not : (a b : ℕ) → (a ≡ b) ⊎ (a ≡ b → ⊥)
+same-or-not a b = go (eqb a b) refl
+  where
+    go : (t : Bool) → eqb a b ≡ t → (a ≡ b) ⊎ (a ≡ b → ⊥)
+    go true e = inl (eqb-true a b e)
+    go false e = inr (eqb-false a b e)
+
+-- the value of a test, with what it tells
+pub either : {P : Type 0} (b : Bool) → (b ≡ true → P) → (b ≡ false → P) → P
+either true f g = f refl
+either false f g = g refl
+
+pub or-false-parts : (a b : Bool) → (a || b) ≡ false → (a ≡ false) × (b ≡ false)
+or-false-parts a b h = (or-left a b h, or-right a b h)
+
+pub and-true-parts : (a b : Bool) → (a && b) ≡ true → (a ≡ true) × (b ≡ true)
+and-true-parts a b h = (and-left a b h, and-right a b h)
+
+-- an id that is known
+pub known-id : (id count : ℕ) → unknown id count ≡ false → (1 ≤ id) × (id ≤ count)
+known-id id count h =
+    let r = or-false-parts (eqb id 0) (ltb count id) h in
+    let some = eqb-false id 0 (r .0) in
+    (omega arith, ltb-false count id (r .1))
+
+-- ---------------------------------------------------------------- what an id names
+module _ (limit id : ℕ) where
+  pub inside : (id ≡ 0 → ⊥) → id - 1 < limit → within limit id ≡ true
+  inside some low = rw (lt-ltb 0 id (omega arith), le-leb id limit (omega arith))
+
+  pub outside-zero : id ≡ 0 → within limit id ≡ false
+  outside-zero none = rw (le-ltb 0 id (omega arith))
+
+  pub outside-high : (id ≡ 0 → ⊥) → limit ≤ id - 1 → within limit id ≡ false
+  outside-high some high = rw (lt-leb id limit (omega arith)) (and-false (ltb 0 id))
+
+  pub within-in : 1 ≤ id → id ≤ limit → within limit id ≡ true
+  within-in lo hi = rw (lt-ltb 0 id lo, le-leb id limit hi)
+
+  pub within-out : within limit id ≡ true → (1 ≤ id) × (id ≤ limit)
+  within-out h = let r = and-true-parts (ltb 0 id) (leb id limit) h in (ltb-true 0 id (r .0), leb-true id limit (r .1))
+
+  module _ {A : Type 0} (d : A) (l : List A) where
+    pub named-in : within limit id ≡ true → named limit d id l ≡ getD l (id - 1) d
+    unfolding named
+    named-in h = rw h
+
+    pub named-out : within limit id ≡ false → named limit d id l ≡ d
+    unfolding named
+    named-out h = rw h
+
+    pub replaced-in : within limit id ≡ true → replaced limit id d l ≡ set l (id - 1) d
+    unfolding replaced
+    replaced-in h = rw h
+
+    pub replaced-out : within limit id ≡ false → replaced limit id d l ≡ l
+    unfolding replaced
+    replaced-out h = rw h
+
+    -- replacing what is there by itself changes nothing
+    pub replaced-same : replaced limit id (named limit d id l) l ≡ l
+    unfolding replaced named
+    replaced-same = go (within limit id)
+      where
+        go : (b : Bool) → cond b (set l (id - 1) (cond b (getD l (id - 1) d) d)) l ≡ l
+        go true = set-getD l (id - 1) d
+        go false = refl
+
+pub getD-replicate-any : {A : Type 0} (n i : ℕ) (a : A) → getD (replicate n a) i a ≡ a
+getD-replicate-any n i a = either (ltb i n)
+    (λ e. getD-replicate n i a a (ltb-true i n e))
+    (λ e. List·getD-eq-default (replicate n a) a (rw (length-replicate n a) (ltb-false i n e)))
+
+pub named-replicate : {A : Type 0} (limit n id : ℕ) (a : A) → named limit a id (replicate n a) ≡ a
+unfolding named
+named-replicate limit n id a = by-test (λ (y : _). y ≡ a) (within limit id) (λ _. getD-replicate-any n (id - 1) a) (λ _. refl)
+
+-- what an id names after another, or the same, has been replaced
+module _ {A : Type 0} (limit : ℕ) (d : A) (id : ℕ) (a : A) (l : List A) (lo : 1 ≤ id) where
+  pub named-same : id ≤ limit → id ≤ length l → named limit d id (set l (id - 1) a) ≡ a
+  named-same hi long = named-in limit id d (set l (id - 1) a) (within-in limit id lo hi) ∙ getD-set-same l (id - 1) a d (omega arith)
+
+  pub named-other : (y : ℕ) → (y ≡ id → ⊥) → named limit d y (set l (id - 1) a) ≡ named limit d y l
+  unfolding named
+  named-other y ne = go (within limit y) refl
+    where
+      go : (b : Bool) → within limit y ≡ b → cond b (getD (set l (id - 1) a) (y - 1) d) d ≡ cond b (getD l (y - 1) d) d
+      go true e = let k = within-out limit y e in getD-set-other l (id - 1) (y - 1) a d (λ s. ne (omega arith))
+      go false e = refl
+
+-- ---------------------------------------------------------------- what a partition's stores do
+module _ (id : ℕ) (x : Process) (p : Partition) where
+  pub stored-in : within processLimit id ≡ true → stored id x p ≡ (let old = getD (p .processes) (id - 1) blankProcess in withProcesses (set (p .processes) (id - 1) x) (p .processCount) (follow (ready old) (ready x) id (p .arrival)) (follow (onObject old) (onObject x) id (p .waiting)) p)
+  unfolding stored
+  stored-in h = rw (replaced-in processLimit id x (p .processes) h, named-in processLimit id blankProcess (p .processes) h, h)
+
+  pub stored-out : within processLimit id ≡ false → stored id x p ≡ p
+  unfolding stored
+  stored-out h = rw h
+
+module _ (k : ℕ) (p : Partition) where
+  pub value-in : (n : ℕ) → within semaphoreLimit k ≡ true → withValue k n p ≡ (let s = getD (p .semaphores) (k - 1) noSemaphore in withSemaphores (set (p .semaphores) (k - 1) (record { name = s .name; value = n; max = s .max })) (p .semaphoreCount) p)
+  unfolding withValue named replaced
+  value-in n h = rw h
+
+  pub value-out : (n : ℕ) → within semaphoreLimit k ≡ false → withValue k n p ≡ p
+  unfolding withValue named replaced
+  value-out n h = rw h
+
+  pub up-in : (b : Bool) → within eventLimit k ≡ true → withUp k b p ≡ withEvents (set (p .events) (k - 1) (record { name = getD (p .events) (k - 1) noEvent .name; up = b })) (p .eventCount) p
+  unfolding withUp named replaced
+  up-in b h = rw h
+
+  pub up-out : (b : Bool) → within eventLimit k ≡ false → withUp k b p ≡ p
+  unfolding withUp named replaced
+  up-out b h = rw h

@@ -1,0 +1,78 @@
+-- Folds over a list of ids, over the ids of a partition and over the partitions of a module, as a loop goes through them: what is left from
+-- a place on, or what is done up to it. Assumes nothing.
+use Prim.Native.Nat.{ℕ, zero, suc, _+_, _-_, _≤_, _<_}
+use mathlib.Core.Path.{_≡_, refl}
+use mathlib.Core.Bool.{cond}
+use mathlib.Core.List.{List, [], _∷_}
+use native.Mathlib.Omega.{arith}
+use native.Mathlib.Numerals.{add-one}
+use lib.ListN.{length, getD, drop}
+use lib.Dec.{eqb}
+use Rattle.machine.specs.declared.Ids.{Ids}
+use Rattle.machine.specs.declared.Choice.{Choice}
+use Rattle.machine.specs.declared.Process.{Process}
+use Rattle.machine.specs.declared.Partition.{Partition}
+use Rattle.machine.specs.declared.Module.{Module}
+use Rattle.machine.specs.Limits.{greatestTime}
+use Rattle.machine.specs.Ids.{members}
+use Rattle.machine.specs.Partition.{process, stored, preferred, chosen, ended, endedAll, eachFrom, sooner, soonestFrom}
+use Rattle.machine.specs.Module.{channel, withMessage, noMessage, tickAt, tickTo, erasedTo}
+use Rattle.machine.proofs.Lists.{next-member, no-member}
+
+-- a list of ids, from place i on
+module _ (q : Ids) (i : ℕ) (p : Partition) where
+  pub ended-more : i < length (members q) → endedAll (drop i (members q)) p ≡ endedAll (drop (i + 1) (members q)) (ended (getD (q .items) i 0) p)
+  unfolding endedAll
+  ended-more h = rw (next-member q i h)
+
+  pub ended-done : length (members q) ≤ i → endedAll (drop i (members q)) p ≡ p
+  unfolding endedAll
+  ended-done h = rw (no-member q i h)
+
+  pub chosen-more : (c : Choice) → i < length (members q) → chosen p c (drop i (members q)) ≡ chosen p (preferred c (getD (q .items) i 0) (process (getD (q .items) i 0) p .current)) (drop (i + 1) (members q))
+  unfolding chosen
+  chosen-more c h = rw (next-member q i h)
+
+  pub chosen-done : (c : Choice) → length (members q) ≤ i → chosen p c (drop i (members q)) ≡ c
+  unfolding chosen
+  chosen-done c h = rw (no-member q i h)
+
+-- the ids 1 to n, after id
+less-one : (n id : ℕ) → id < n → n - id ≡ suc (n - (id + 1))
+less-one n id h = omega arith
+
+module _ (n id : ℕ) (p : Partition) where
+  pub each-more : (f : Process → Process) → id < n → eachFrom f (n - id) (id + 1) p ≡ eachFrom f (n - (id + 1)) (id + 1 + 1) (stored (id + 1) (f (process (id + 1) p)) p)
+  unfolding eachFrom
+  each-more f h = rw (less-one n id h)
+
+  pub each-done : (f : Process → Process) → n ≤ id → eachFrom f (n - id) (id + 1) p ≡ p
+  unfolding eachFrom
+  each-done f h = let e : n - id ≡ 0 = omega arith in rw e
+
+  pub soonest-more : id < n → soonestFrom (n - id) (id + 1) p ≡ sooner (process (id + 1) p .times .wake) (sooner (process (id + 1) p .times .deadline) (soonestFrom (n - (id + 1)) (id + 1 + 1) p))
+  unfolding soonestFrom
+  soonest-more h = rw (less-one n id h)
+
+  pub soonest-done : n ≤ id → soonestFrom (n - id) (id + 1) p ≡ greatestTime
+  unfolding soonestFrom
+  soonest-done h = let e : n - id ≡ 0 = omega arith in rw e
+
+-- the first partitions, the first channels
+module _ (n : ℕ) (m : Module) where
+  pub tick-to-more : tickTo (n + 1) m ≡ tickAt n (tickTo n m)
+  unfolding tickTo
+  tick-to-more = rw (add-one n)
+
+  pub erased-more : (k : ℕ) → erasedTo k (n + 1) m ≡ cond (eqb (channel (m .table) n .destination) k) (withMessage n noMessage (erasedTo k n m)) (erasedTo k n m)
+  unfolding erasedTo
+  erased-more k = rw (add-one n)
+
+module _ (m : Module) where
+  pub tick-to-none : tickTo 0 m ≡ m
+  unfolding tickTo
+  tick-to-none = refl
+
+  pub erased-none : (k : ℕ) → erasedTo k 0 m ≡ m
+  unfolding erasedTo
+  erased-none k = refl

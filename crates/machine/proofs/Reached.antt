@@ -1,0 +1,288 @@
+-- Every record that a run reaches is valid, and a tick that passes over partitions is the plain one there. Assumes nothing.
+use Prim.Native.Nat.{ℕ, zero, suc, _+_, _-_, _*_, _/_, _%_, _≤_, _<_}
+use mathlib.Core.Path.{_≡_, refl, ap, sym, _∙_}
+use mathlib.Core.Bool.{Bool, true, false, cond, not, _&&_, _||_}
+use mathlib.Core.List.{List, [], _∷_}
+use mathlib.Core.Logic.{_⊎_, ⊎-elim, inl, inr}
+use native.Mathlib.Omega.{arith}
+use native.Mathlib.Nat.{lt-div-mul-add, div-mul-le-self}
+use lib.ListN.{length, getD, set, replicate, length-set, getD-replicate}
+use lib.Seq.{getD-set-same, getD-set-other}
+use lib.Dec.{eqb, ltb, leb}
+use borrow.Author.Tests.{le-leb, ne-eqb, eqb-true, eqb-false, leb-false, not-false}
+use Rattle.machine.specs.declared.Window.{Window}
+use Rattle.machine.specs.declared.Table.{Table}
+use Rattle.machine.specs.declared.Message.{Message}
+use Rattle.machine.specs.declared.Partition.{Partition}
+use Rattle.machine.specs.declared.Module.{Module}
+use Rattle.machine.specs.declared.Request.{Request}
+use Rattle.machine.specs.declared.Called.{Called}
+use Rattle.machine.specs.declared.Done.{Done}
+use Rattle.machine.specs.declared.Event.{Event as EventT}
+use Rattle.machine.specs.Limits.{durationLimit, timeLimit, frameLimit, partitionLimit, channelLimit, greatestTime}
+use Rattle.machine.specs.Field.{requestOf, numberOf, isDuration, between}
+use Rattle.machine.specs.Process.{capped}
+use Rattle.machine.specs.Partition.{process, tickPartition, sooner, soonestFrom, soonestOf, withSoonest, noted, freshPartition}
+use Rattle.machine.specs.Calls.{checked, partitionCall}
+use Rattle.machine.specs.Module.{noPartition, noMessage, emptyTable, emptyModule, freshModule, windows, channel, flaggedFor, covers, owner, lookup, firstFlagged, releasePoint, part, message, current, withPart, withMessage, withTime, tickTo, partitionCount, tickModule, refuse, channelChecks, write, read, erasedTo, restarts, restarted, accepts, storedCall, contextOf, callDone, malformed, noCaller, done, step}
+use Rattle.machine.specs.Table.{readTable}
+use Rattle.machine.specs.Valid.Reached.{stepped}
+use Rattle.machine.specs.Valid.{Between, Valid, SoundContext, SoundWindows, SoundTable, SoundMessage, Noted, SoundModule, ValidModule, Reached, plainTickTo, plainTick}
+use Rattle.machine.proofs.Tests.{by-test, not-both, by-checks, Passed}
+use Rattle.machine.proofs.Fields.{in-limits}
+use Rattle.machine.proofs.Bounds.{either, same-or-not, and-true-parts, or-false-parts, getD-replicate-any}
+use Rattle.machine.proofs.Kept.{tick-valid, fresh-valid, call-valid}
+use Rattle.machine.proofs.Quiet.{tick-to-plain}
+use Rattle.machine.proofs.Tables.{table-read}
+
+-- ---------------------------------------------------------------- windows
+-- the first window with flag 1 starts before the frame ends
+flagged-inside : (k previous frame size : ℕ) (ws : List Window) → 1 ≤ frame → SoundWindows previous frame size ws → firstFlagged k ws < frame
+unfolding firstFlagged SoundWindows
+flagged-inside k previous frame size [] h s = h
+flagged-inside k previous frame size (w ∷ ws) h s = by-test (λ (n : ℕ). n < frame) (flaggedFor k w)
+    (λ _. omega (arith, s .0 .long, s .0 .inside))
+    (λ _. flagged-inside k (w .start + w .duration) frame size ws h (s .1))
+
+-- a window's owner is a partition
+owner-known : (previous frame size : ℕ) (ws : List Window) (x : ℕ) → SoundWindows previous frame size ws → owner ws x ≤ size
+unfolding owner SoundWindows
+owner-known previous frame size [] x s = omega arith
+owner-known previous frame size (w ∷ ws) x s = by-test (λ (n : ℕ). n ≤ size) (covers w x) (λ _. s .0 .owner .1) (λ _. owner-known (w .start + w .duration) frame size ws x (s .1))
+
+module _ (T : Table) (s : SoundTable T) (t : ℕ) where
+  -- M is not 0
+  pub frame-some : eqb (T .frame) 0 ≡ false
+  frame-some = ne-eqb (T .frame) 0 (λ z. omega (arith, s .frame .0))
+
+  pub current-known : lookup T t .partition ≤ T .size
+  unfolding lookup
+  current-known = rw frame-some (owner-known 0 (T .frame) (T .size) (windows T) (t % T .frame) (s .eachWindow))
+
+  -- the next release point lies ahead, by less than two frames
+  release-ahead : (k : ℕ) → let r = (t / T .frame + 1) * T .frame + firstFlagged k (windows T) in (t < r) × (r < t + T .frame + T .frame)
+  release-ahead k =
+      let low : t < t / T .frame * T .frame + T .frame = lt-div-mul-add (s .frame .0) in
+      let high = div-mul-le-self t (T .frame) in
+      let first = flagged-inside k 0 (T .frame) (T .size) (windows T) (s .frame .0) (s .eachWindow) in
+      (omega arith, omega arith)
+
+  pub release-plain : t ≤ timeLimit → (k : ℕ) → releasePoint T t k ≡ (t / T .frame + 1) * T .frame + firstFlagged k (windows T)
+  unfolding releasePoint
+  release-plain ends k = rw (frame-some, le-leb ((t / T .frame + 1) * T .frame + firstFlagged k (windows T)) greatestTime (omega (arith, release-ahead k .1, s .frame .1)))
+
+  pub release-bounds : t ≤ timeLimit → (k : ℕ) → (t < releasePoint T t k) × (releasePoint T t k < t + T .frame + T .frame)
+  release-bounds ends k = rw (release-plain ends k) (release-ahead k)
+
+-- ---------------------------------------------------------------- a partition stored, a message stored
+noted-valid : (frame t : ℕ) (p : Partition) → Valid frame t p → Valid frame t (noted p)
+noted-valid frame t p v = record { mode = v .mode; lists = v .lists; objects = v .objects; eachProcess = v .eachProcess }
+
+soonest-noted : (k n id : ℕ) (p : Partition) → soonestFrom n id p ≡ soonestFrom n id (withSoonest k p)
+unfolding soonestFrom
+soonest-noted k zero id p = refl
+soonest-noted k (suc n) id p = ap (λ s. sooner (process id p .times .wake) (sooner (process id p .times .deadline) s)) (soonest-noted k n (id + 1) p)
+
+pub noted-noted : (p : Partition) → Noted (noted p)
+noted-noted p = soonest-noted (soonestOf p) (p .processCount) 1 p
+
+-- what stands at place i of a list after place j has been set
+module _ {A : Type 0} (P : ℕ → A → Type 0) (l : List A) (j : ℕ) (a d : A) where
+  at-set : j < length l → (i : ℕ) → P j a → ((i ≡ j → ⊥) → P i (getD l i d)) → P i (getD (set l j a) i d)
+  at-set inside i new old = ⊎-elim
+      (λ (e : i ≡ j). rw (e, getD-set-same l j a d inside) new)
+      (λ (ne : i ≡ j → ⊥). rw (getD-set-other l j i a d ne) (old ne))
+      (same-or-not i j)
+
+module _ (m : Module) (s : SoundModule m) where
+  pub part-sound : (j : ℕ) → j < m .table .size → (p : Partition) → Valid (m .table .frame) (m .t) p → SoundModule (withPart j p m)
+  part-sound j h p v =
+      let inside : j < length (m .partitions) = omega (arith, s .partitionsSize, s .table .size .1) in
+      record {
+        table = s .table;
+        partitionsSize = simp length-set (s .partitionsSize);
+        messagesSize = s .messagesSize;
+        time = s .time;
+        eachPartition = λ i l. at-set (λ _ q. Valid (m .table .frame) (m .t) q) (m .partitions) j (noted p) noPartition inside i (noted-valid (m .table .frame) (m .t) p v) (λ _. s .eachPartition i l);
+        noted = λ i l. at-set (λ _ q. Noted q) (m .partitions) j (noted p) noPartition inside i (noted-noted p) (λ _. s .noted i l);
+        eachMessage = s .eachMessage;
+      }
+
+  pub message-sound : (j : ℕ) → j < channelLimit → (x : Message) → SoundMessage (m .t) x → SoundModule (withMessage j x m)
+  message-sound j h x v = record {
+    table = s .table;
+    partitionsSize = s .partitionsSize;
+    messagesSize = simp length-set (s .messagesSize);
+    time = s .time;
+    eachPartition = s .eachPartition;
+    noted = s .noted;
+    eachMessage = λ i. at-set (λ _ q. SoundMessage (m .t) q) (m .messages) j x noMessage (omega (arith, s .messagesSize)) i v (λ _. s .eachMessage i);
+  }
+
+no-message : (t : ℕ) → SoundMessage t noMessage
+no-message t = record { value = omega arith; written = omega arith }
+
+-- ---------------------------------------------------------------- the tick
+-- all but the partitions is as it was
+abbrev pub Around : Module → Module → Type 0
+Around m q = q ≡ record { table = m .table; t = m .t; messages = m .messages; partitions = q .partitions }
+
+pub plain-around : (n : ℕ) (m : Module) → Around m (plainTickTo n m)
+unfolding plainTickTo
+plain-around zero m = refl
+plain-around (suc n) m = ap (withPart n (tickPartition (plainTickTo n m .t) (part (plainTickTo n m) n))) (plain-around n m)
+
+plain-size : (n : ℕ) (m : Module) → length (plainTickTo n m .partitions) ≡ length (m .partitions)
+unfolding plainTickTo
+plain-size zero m = refl
+plain-size (suc n) m = simp length-set (plain-size n m)
+
+plain-other : (n i : ℕ) (m : Module) → n ≤ i → part (plainTickTo n m) i ≡ part m i
+unfolding plainTickTo
+plain-other zero i m h = refl
+plain-other (suc n) i m h = getD-set-other (plainTickTo n m .partitions) n i _ noPartition (λ e. omega arith) ∙ plain-other n i m (omega arith)
+
+-- each of the first n partitions has been ticked
+pub plain-part : (n : ℕ) (m : Module) → n ≤ length (m .partitions) → (i : ℕ) → i < n → part (plainTickTo n m) i ≡ noted (tickPartition (m .t) (part m i))
+unfolding plainTickTo
+plain-part zero m long i h = absurd (omega arith)
+plain-part (suc n) m long i h =
+    let q = plainTickTo n m in
+    at-set (λ i p. p ≡ noted (tickPartition (m .t) (part m i))) (q .partitions) n _ noPartition (omega (arith, plain-size n m)) i
+    (rw (ap (λ (r : Module). r .t) (plain-around n m), plain-other n n m (omega arith)))
+    (λ ne. plain-part n m (omega arith) i (omega arith))
+
+module _ (m : Module) (s : SoundModule m) where
+  pub count-plain : partitionCount (m .table) ≡ m .table .size
+  count-plain = rw (le-leb (m .table .size) partitionLimit (s .table .size .1))
+
+  tick-plain : tickModule m ≡ plainTick m
+  unfolding plainTick
+  tick-plain = rw count-plain (tick-to-plain (m .table .size) (withTime (m .t + 1) m) (s .noted))
+
+  tick-sound : m .t < timeLimit → SoundModule (tickModule m)
+  unfolding plainTick
+  tick-sound room =
+      let n = m .table .size in
+      let q = withTime (m .t + 1) m in
+      let long : n ≤ length (m .partitions) = omega (arith, s .partitionsSize, s .table .size .1) in
+      rw (tick-plain, plain-around n q) (record {
+        table = s .table;
+        partitionsSize = plain-size n q ∙ s .partitionsSize;
+        messagesSize = s .messagesSize;
+        time = omega arith;
+        eachPartition = λ i h. rw (plain-part n q long i h) (noted-valid (m .table .frame) (m .t + 1) _ (tick-valid (m .table .frame) (m .t) (part m i) (s .eachPartition i h)));
+        noted = λ i h. rw (plain-part n q long i h) (noted-noted (tickPartition (m .t + 1) (part m i)));
+        eachMessage = λ i. let x = s .eachMessage i in record { value = x .value; written = omega (arith, x .written) };
+      })
+
+-- ---------------------------------------------------------------- calls
+-- erasing messages leaves all else
+pub erased-around : (k n : ℕ) (m : Module) → erasedTo k n m ≡ record { table = m .table; t = m .t; messages = erasedTo k n m .messages; partitions = m .partitions }
+unfolding erasedTo
+erased-around k zero m = refl
+erased-around k (suc n) m =
+    by-test (λ (q : Module). q ≡ record { table = m .table; t = m .t; messages = q .messages; partitions = m .partitions }) (eqb (channel (m .table) n .destination) k)
+    (λ _. ap (withMessage n noMessage) (erased-around k n m))
+    (λ _. erased-around k n m)
+
+erased-sound : (k n : ℕ) (m : Module) → n ≤ channelLimit → SoundModule m → SoundModule (erasedTo k n m)
+unfolding erasedTo
+erased-sound k zero m h s = s
+erased-sound k (suc n) m h s =
+    let e = erased-sound k n m (omega arith) s in
+    by-test SoundModule (eqb (channel (m .table) n .destination) k)
+    (λ _. message-sound (erasedTo k n m) e n (omega arith) noMessage (no-message (erasedTo k n m .t)))
+    (λ _. e)
+
+-- a partition stored, with the messages into it erased or not
+restarted-sound : (m : Module) → SoundModule m → (b : Bool) (k j : ℕ) → j < m .table .size → (p : Partition) → Valid (m .table .frame) (m .t) p → SoundModule (withPart j p (restarted b k m))
+restarted-sound m s b k j h p v = by-test (λ (q : Module). SoundModule (withPart j p q)) b
+    (λ _.
+    let e = erased-sound k channelLimit m (omega arith) s in
+    let same = erased-around k channelLimit m in
+    part-sound (erasedTo k channelLimit m) e j (rw same h) p (rw same v))
+    (λ _. part-sound m s j h p v)
+
+abbrev SoundAfter : Done → Type 0
+SoundAfter d = SoundModule (d .state)
+
+module _ (m : Module) (s : SoundModule m) (k : ℕ) (some : k ≡ 0 → ⊥) (now : current m ≡ k) (calls : noCaller (part m (k - 1)) ≡ false) where
+  place : k - 1 < m .table .size
+  place = omega (arith, current-known (m .table) (s .table) (m .t))
+
+  pub context-sound : SoundContext (contextOf m k) (part m (k - 1))
+  context-sound =
+      let r = release-bounds (m .table) (s .table) (m .t) (s .time) k in
+      record { time = s .time; frame = s .table .frame; ahead = r .0; near = r .1; caller = refl; calls = calls }
+
+  write-sound : (r : Request) → SoundAfter (write m k r)
+  unfolding write channelChecks Passed
+  write-sound r = by-checks SoundAfter (refuse m) _ _ (λ n. s) (λ h. by-checks SoundAfter (refuse m) _ _ (λ n. s) (λ g.
+      let b = in-limits 1 (m .table .channelCount) (r .a) (not-false _ (h .0)) in
+      message-sound m s (numberOf (r .a) - 1) (omega (arith, b .0, b .1, s .table .channelCount)) _ (record { value = in-limits 0 durationLimit (r .b) (not-false _ (g .0)) .1; written = omega arith })))
+
+  read-sound : (r : Request) → SoundAfter (read m k r)
+  unfolding read Passed
+  read-sound r = by-checks SoundAfter (refuse m) _ _ (λ n. s) (λ _. by-checks SoundAfter (refuse m) _ _ (λ n. s) (λ _. s))
+
+  call-sound : (n : ℕ) (r : Request) → SoundAfter (callDone m k n r)
+  call-sound n r =
+      by-test SoundAfter (eqb n 21) (λ _. write-sound r) (λ _.
+      by-test SoundAfter (eqb n 22) (λ _. read-sound r) (λ _.
+      by-test SoundModule (accepts (partitionCall (contextOf m k) n r (part m (k - 1)) .reply))
+      (λ _. restarted-sound m s (restarts n r) k (k - 1) place _ (call-valid (contextOf m k) n r (part m (k - 1)) (s .eachPartition (k - 1) place) context-sound))
+      (λ _. s)))
+
+done-sound : (m : Module) → SoundModule m → (r : Request) → SoundAfter (done m r)
+unfolding Passed
+done-sound m s r =
+    let k = numberOf (r .partition) in
+    by-checks SoundAfter (refuse m) _ _ (λ n. s) (λ h.
+    by-test SoundAfter (eqb k 0)
+    (λ _. by-checks SoundAfter (refuse m) _ _ (λ n. s) (λ g. tick-sound m s (leb-false timeLimit (m .t) (g .0))))
+    (λ z. by-checks SoundAfter (refuse m) _ _ (λ n. s) (λ g.
+    call-sound m s k (eqb-false k 0 z) (eqb-true (current m) k (not-false _ (g .0))) (g .1 .0) (numberOf (r .call)) r)))
+
+-- ---------------------------------------------------------------- every reached record
+empty-step : (e : EventT) → step emptyModule e .state ≡ emptyModule
+unfolding step checked emptyModule emptyTable
+empty-step e = refl
+
+pub step-valid : (m : Module) (e : EventT) → ValidModule m → ValidModule (step m e .state)
+unfolding step
+step-valid m e (inl h) = inl (rw h (empty-step e))
+step-valid m e (inr s) = inr (done-sound m s (requestOf e))
+
+fresh-noted : Noted freshPartition
+unfolding freshPartition soonestFrom
+fresh-noted = refl
+
+pub fresh-sound : (T : Table) → SoundTable T → SoundModule (freshModule T)
+unfolding freshModule
+fresh-sound T s = record {
+  table = s;
+  partitionsSize = refl;
+  messagesSize = refl;
+  time = omega arith;
+  eachPartition = λ i h. rw (getD-replicate partitionLimit i freshPartition noPartition (omega (arith, s .size .1))) (fresh-valid (T .frame) 0);
+  noted = λ i h. rw (getD-replicate partitionLimit i freshPartition noPartition (omega (arith, s .size .1))) fresh-noted;
+  eachMessage = λ i. rw (getD-replicate-any channelLimit i noMessage) (no-message 0);
+}
+
+pub reached-valid : (m : Module) → Reached m → ValidModule m
+reached-valid m (Reached.read input) =
+    let t = table-read input in
+    either (eqb (readTable input .code) 0)
+    (λ e. let a = t .accepted (eqb-true _ 0 e) in inr (rw (a .1) (fresh-sound (readTable input .state .table) (a .0))))
+    (λ e. inl (t .refused (eqb-false _ 0 e)))
+reached-valid _ (stepped m e h) = step-valid m e (reached-valid m h)
+
+empty-tick : tickModule emptyModule ≡ plainTick emptyModule
+unfolding plainTick plainTickTo tickTo emptyModule emptyTable
+empty-tick = refl
+
+-- the tick of a reached record is the plain one: every partition is ticked and stored
+pub tick-module-plain : (m : Module) → ValidModule m → tickModule m ≡ plainTick m
+tick-module-plain m (inl h) = rw h empty-tick
+tick-module-plain m (inr s) = tick-plain m s

@@ -1,0 +1,415 @@
+-- A process by itself: what each rule makes of a sound process is sound, and every time stays within its bound. Assumes nothing.
+use Prim.Native.Nat.{ℕ, zero, suc, _+_, _-_, _≤_, _<_}
+use mathlib.Core.Path.{_≡_, refl, ap, sym, _∙_}
+use mathlib.Core.Bool.{Bool, true, false, cond, not, _&&_, _||_, and-false}
+use mathlib.Core.Logic.{_⊎_, inl, inr}
+use native.Mathlib.Omega.{arith}
+use lib.Dec.{eqb, ltb, leb}
+use borrow.Author.Tests.{le-leb, lt-leb, leb-true, leb-false, eqb-true, eqb-false, ne-eqb, not-true, not-false}
+use Rattle.machine.specs.declared.Given.{Given}
+use Rattle.machine.specs.declared.Times.{Times}
+use Rattle.machine.specs.declared.Process.{Process}
+use Rattle.machine.specs.declared.Context.{Context}
+use Rattle.machine.specs.declared.Wait.{Wait}
+use Rattle.machine.specs.declared.Wait.the-variants.{None, Normal, Delay, Timed, Period, Semaphore, Event}
+use Rattle.machine.specs.declared.Time.{Time}
+use Rattle.machine.specs.declared.Time.the-variants.{Never, At}
+use Rattle.machine.specs.Limits.{priorityLimit, durationLimit, timeLimit, frameLimit, greatestTime}
+use Rattle.machine.specs.Process.{createdProcess, capped, later, due, isNever, periodic, onObject, object, waitsForNothing, waitsForNormal, ready, releasedAt, withWake, withDeadline, withDelay, waitEnded, withSuspended, withCurrent, waitingFor, suspendedUntil, woken, deadlineMissed, expired, ticked, begun, startedAperiodic, startedPeriodic, startRule, startedEarly, entered, stopped, resumed, nextRelease}
+use Rattle.machine.specs.Valid.{Between, latestWake, latestDeadline, AtMost, NotAfter, Ahead, Timeout, SoundPeriod, NotAbove, Below, SoundCapacity, SoundGiven, Timeless, Dormant, Early, KnownWait, SoundWake, Released, SoundRelease, Setting, setting, Going, Lasting, LastingIn, SoundCode, SoundMark, SoundProcess}
+use Rattle.machine.proofs.Tests.{by-test, not-both}
+use Rattle.machine.proofs.Bounds.{not-so, so, and-true-parts}
+
+-- ---------------------------------------------------------------- sums of times
+pub later-plain : (m n : ℕ) → m + n ≤ greatestTime → later (At m) (At n) ≡ At (m + n)
+later-plain m n h = rw (le-leb (m + n) greatestTime h)
+
+capped-at-most : (n k : ℕ) → n ≤ k → capped n ≤ k
+capped-at-most n k h = by-test (λ (c : ℕ). c ≤ k) (leb n greatestTime) (λ _. h) (λ e. omega (arith, leb-false n greatestTime e))
+
+pub later-not-after : (m n k : ℕ) (a b : Time) → NotAfter m a → NotAfter n b → m + n ≤ k → NotAfter k (later a b)
+later-not-after m n k Never b ha hb h = tt
+later-not-after m n k (At a) Never ha hb h = tt
+later-not-after m n k (At a) (At b) ha hb h = capped-at-most (a + b) k (omega arith)
+
+pub later-at-most : (m n k : ℕ) (a b : Time) → AtMost m a → AtMost n b → m + n ≤ k → AtMost k (later a b)
+later-at-most m n k Never b ha hb h = ha
+later-at-most m n k (At a) Never ha hb h = hb
+later-at-most m n k (At a) (At b) ha hb h = capped-at-most (a + b) k (omega arith)
+
+-- a number of D after t, but 0
+pub ahead-later : (t n : ℕ) → t ≤ timeLimit → (n ≡ 0 → ⊥) → n ≤ durationLimit → Ahead t (later (At t) (At n))
+ahead-later t n h some short = rw (le-leb (t + n) greatestTime (omega arith)) (omega arith, omega arith)
+
+at-most-more : (m n : ℕ) (a : Time) → AtMost m a → m ≤ n → AtMost n a
+at-most-more m n Never h le = h
+at-most-more m n (At a) h le = omega arith
+
+at-most-not-after : (n : ℕ) (a : Time) → AtMost n a → NotAfter n a
+at-most-not-after n Never h = tt
+at-most-not-after n (At a) h = h
+
+capacity-bound : (period c : Time) → SoundCapacity period c → NotAfter durationLimit c
+capacity-bound period Never h = tt
+capacity-bound period (At n) h = h .0 .1
+
+period-bound : (frame : ℕ) (p : Time) → SoundPeriod frame p → isNever p ≡ false → AtMost durationLimit p
+period-bound frame Never h e = not-both _ refl e
+period-bound frame (At n) h e = h .0 .1
+
+-- ---------------------------------------------------------------- a sound process by what it is
+module _ (s : Setting) (x : Process) (l : LastingIn (s .frame) x) (c : SoundCode (x .code)) (m : SoundMark x) where
+  pub as-dormant : x .started ≡ false → Dormant (x .wait) (x .suspended) (x .times) → SoundProcess s x
+  as-dormant e d = record { lasting = l; code = c; mark = m; dormant = λ _. d; early = λ a b. not-both _ a e; going = λ a b. not-both _ a e }
+
+  pub as-early : x .started ≡ true → s .normal ≡ false → Early (x .wait) (x .times) → SoundProcess s x
+  as-early e n d = record { lasting = l; code = c; mark = m; dormant = λ a. not-both _ e a; early = λ _ _. d; going = λ a b. not-both _ b n }
+
+  pub as-going : x .started ≡ true → s .normal ≡ true → Going s (x .given .period) (x .suspended) (x .wait) (x .times) → SoundProcess s x
+  as-going e n d = record { lasting = l; code = c; mark = m; dormant = λ a. not-both _ e a; early = λ a b. not-both _ n b; going = λ _ _. d }
+
+-- outside NORMAL neither the time nor the objects matter
+pub outside-normal : (s s′ : Setting) (x : Process) → s .normal ≡ false → s′ .normal ≡ false → s′ .frame ≡ s .frame → SoundProcess s x → SoundProcess s′ x
+outside-normal s s′ x n n′ e h = record {
+  lasting = rw e (h .lasting);
+  code = h .code;
+  mark = h .mark;
+  dormant = h .dormant;
+  early = λ a _. h .early a n;
+  going = λ a b. not-both _ b n′;
+}
+
+-- ---------------------------------------------------------------- lemmas on the parts, by their variables
+zero-below : (frame : ℕ) (p : Time) → SoundPeriod frame p → Below p 0
+zero-below frame Never h = tt
+zero-below frame (At n) h = h .0 .0
+
+-- a delay below a period
+delay-below : (frame delay : ℕ) (p : Time) → SoundPeriod frame p → isNever p ≡ false → Below p delay → delay < durationLimit
+delay-below frame delay Never h e b = not-both _ refl e
+delay-below frame delay (At n) h e b = omega (arith, h .0)
+
+-- no wait and no wake time, whatever the mark
+none-wake : (t : ℕ) (mark : Bool) (r : Time) → SoundWake t mark r None Never
+none-wake t true r = tt
+none-wake t false r = refl
+
+released-never : (t : ℕ) (p r : Time) → isNever p ≡ true → r ≡ Never → Released t p r
+released-never t Never r e h = h
+released-never t (At n) r e h = not-both _ e refl
+
+released-at-most : (t : ℕ) (p r : Time) → isNever p ≡ false → AtMost t r → Released t p r
+released-at-most t Never r e h = not-both _ refl e
+released-at-most t (At n) r e h = h
+
+at-most-released : (t : ℕ) (p r : Time) → isNever p ≡ false → Released t p r → AtMost t r
+at-most-released t Never r e h = not-both _ refl e
+at-most-released t (At n) r e h = h
+
+released-more : (t : ℕ) (p r : Time) → Released t p r → Released (t + 1) p r
+released-more t Never r h = h
+released-more t (At n) r h = at-most-more t (t + 1) r h (omega arith)
+
+-- one tick later, where w has not come
+timeout-on : (t : ℕ) (w : Time) → Timeout t w → due (t + 1) w ≡ false → Timeout (t + 1) w
+timeout-on t Never h e = tt
+timeout-on t (At n) h e = let l = leb-false n (t + 1) e in (l, omega (arith, h .1))
+
+ahead-on : (t : ℕ) (w : Time) → Ahead t w → due (t + 1) w ≡ false → Ahead (t + 1) w
+ahead-on t Never h e = h
+ahead-on t (At n) h e = let l = leb-false n (t + 1) e in (l, omega (arith, h .1))
+
+wake-on : (t : ℕ) (mark : Bool) (r : Time) (v : Wait) (w : Time) → SoundWake t mark r v w → due (t + 1) w ≡ false → SoundWake (t + 1) mark r v w
+wake-on t true r None w h e = timeout-on t w h e
+wake-on t false r None w h e = h
+wake-on t mark r Normal w h e = h
+wake-on t mark r Delay w h e = ahead-on t w h e
+wake-on t mark r Timed w h e = ahead-on t w h e
+wake-on t mark r Period w h e = h
+wake-on t mark r (Semaphore k) w h e = timeout-on t w h e
+wake-on t mark r (Event k) w h e = timeout-on t w h e
+
+release-on : (t : ℕ) (p : Time) (v : Wait) (r : Time) → SoundRelease t p v r → SoundRelease (t + 1) p v r
+release-on t p None r h = released-more t p r h
+release-on t p Normal r h = h
+release-on t p Delay r h = h
+release-on t p Timed r h = released-more t p r h
+release-on t p Period r h = h
+release-on t p (Semaphore k) r h = released-more t p r h
+release-on t p (Event k) r h = released-more t p r h
+
+due-at-most : (t : ℕ) (w : Time) → due t w ≡ true → AtMost t w
+due-at-most t Never e = not-both _ e refl
+due-at-most t (At n) e = leb-true n t e
+
+-- one tick later, where w has come and the wait ends
+release-ended : (t : ℕ) (p : Time) (mark : Bool) (v : Wait) (r w : Time) → SoundRelease t p v r → SoundWake t mark r v w → due (t + 1) w ≡ true → Released (t + 1) p r
+release-ended t p mark None r w h k e = released-more t p r h
+release-ended t p mark Normal r w h k e = absurd h
+release-ended t p mark Delay r w h k e = released-never (t + 1) p r (h .0) (h .1)
+release-ended t p mark Timed r w h k e = released-more t p r h
+release-ended t p mark Period r w h k e = released-at-most (t + 1) p r (h .0) (due-at-most (t + 1) r (rw k at e))
+release-ended t p mark (Semaphore j) r w h k e = released-more t p r h
+release-ended t p mark (Event j) r w h k e = released-more t p r h
+
+-- a wait on an object, ended before its time
+release-object : (t : ℕ) (p : Time) (v : Wait) (r : Time) → not (eqb (object v) 0) ≡ true → SoundRelease t p v r → Released t p r
+release-object t p None r e h = h
+release-object t p Normal r e h = absurd h
+release-object t p Delay r e h = not-both _ e refl
+release-object t p Timed r e h = h
+release-object t p Period r e h = not-both _ e refl
+release-object t p (Semaphore k) r e h = h
+release-object t p (Event k) r e h = h
+
+-- the mark set, and the mark taken away where there is a wait
+wake-suspended : (t : ℕ) (mark : Bool) (r : Time) (v : Wait) (w : Time) → SoundWake t mark r v w → SoundWake t true r v w
+wake-suspended t true r None w h = h
+wake-suspended t false r None w h = rw h tt
+wake-suspended t mark r Normal w h = h
+wake-suspended t mark r Delay w h = h
+wake-suspended t mark r Timed w h = h
+wake-suspended t mark r Period w h = h
+wake-suspended t mark r (Semaphore k) w h = h
+wake-suspended t mark r (Event k) w h = h
+
+wake-resumed : (t : ℕ) (mark : Bool) (r : Time) (v : Wait) (w : Time) → waitsForNothing v ≡ false → SoundWake t mark r v w → SoundWake t false r v w
+wake-resumed t mark r None w e h = not-both _ refl e
+wake-resumed t mark r Normal w e h = h
+wake-resumed t mark r Delay w e h = h
+wake-resumed t mark r Timed w e h = h
+wake-resumed t mark r Period w e h = h
+wake-resumed t mark r (Semaphore k) w e h = h
+wake-resumed t mark r (Event k) w e h = h
+
+for-nothing : (v : Wait) → waitsForNothing v ≡ true → v ≡ None
+for-nothing None e = refl
+for-nothing Normal e = not-both _ e refl
+for-nothing Delay e = not-both _ e refl
+for-nothing Timed e = not-both _ e refl
+for-nothing Period e = not-both _ e refl
+for-nothing (Semaphore k) e = not-both _ e refl
+for-nothing (Event k) e = not-both _ e refl
+
+-- ---------------------------------------------------------------- creating and starting
+no-times : (delay : ℕ) → Timeless (record { release = Never; deadline = Never; wake = Never; delay = delay })
+no-times delay = record { release = refl; deadline = refl; wake = refl }
+
+pub created-sound : (s : Setting) (g : Given) → SoundGiven (s .frame) g → SoundProcess s (createdProcess g)
+created-sound s g h = as-dormant s (createdProcess g)
+    (record { given = h; current = omega arith; priority = λ e. not-both _ e refl; delay = omega arith; early = zero-below (s .frame) (g .period) (h .period) })
+    (inl refl) (and-false (not (isNever (g .period)))) refl
+    (record { wait = refl; unmarked = refl; times = no-times 0 })
+
+-- with current priority n
+with-current : (frame : ℕ) (x : Process) → LastingIn frame x → (n : ℕ) → Between 1 priorityLimit n → (started : Bool) → Lasting frame (x .given) n started (x .times .delay)
+with-current frame x l n b started = record { given = l .given; current = b .1; priority = λ _. b .0; delay = l .delay; early = l .early }
+
+-- the start rule, with any mark that the process may have and any priority
+module _ (c : Context) (ends : c .time ≤ timeLimit) (frame : c .frame ≤ frameLimit) (near : c .release < c .time + c .frame + c .frame) (normal : Bool) (e : normal ≡ true) (a b : ℕ) where
+  module _ (delay : ℕ) (x : Process) (l : LastingIn (c .frame) x) (none : x .times .release ≡ Never) (short : delay ≤ durationLimit) (below : Below (x .given .period) delay) where
+    start-release : isNever (x .given .period) ≡ false → AtMost latestWake (later (At (c .release)) (At delay))
+    start-release k = later-at-most (c .release) delay latestWake (At (c .release)) (At delay) (omega arith) (omega arith) (omega (arith, delay-below (c .frame) delay (x .given .period) (l .given .period) k below))
+
+    cap : NotAfter durationLimit (x .given .capacity)
+    cap = capacity-bound (x .given .period) (x .given .capacity) (l .given .capacity)
+
+    start-deadline : NotAfter latestDeadline (later (later (At (c .time)) (At delay)) (x .given .capacity))
+    start-deadline = later-not-after (timeLimit + durationLimit) durationLimit latestDeadline (later (At (c .time)) (At delay)) (x .given .capacity) (later-not-after timeLimit durationLimit (timeLimit + durationLimit) (At (c .time)) (At delay) ends short (omega arith)) cap (omega arith)
+
+    pub start-any : (mark : Bool) → (periodic x && mark) ≡ false → (n : ℕ) → Between 1 priorityLimit n → SoundProcess (setting (c .frame) (c .time) normal a b) (withSuspended mark (withCurrent n (startRule c delay x)))
+    unfolding startRule
+    start-any mark clear n priority =
+        let s = setting (c .frame) (c .time) normal a b in
+        let l′ = with-current (c .frame) x l n priority true in
+        by-test (λ (y : Process). SoundProcess s (withSuspended mark (withCurrent n y))) (periodic x)
+        (λ k.
+        let some = not-true (isNever (x .given .period)) k in
+        as-going s _ l′ (inl refl) clear refl e (record {
+          wait = tt;
+          wake = refl;
+          release = (some, start-release some);
+          deadline = later-not-after latestWake durationLimit latestDeadline (later (At (c .release)) (At delay)) (x .given .capacity) (at-most-not-after latestWake (later (At (c .release)) (At delay)) (start-release some)) cap (omega arith);
+        }))
+        (λ k.
+        let never = not-false (isNever (x .given .period)) k in
+        by-test (λ (y : Process). SoundProcess s (withSuspended mark (withCurrent n y))) (eqb delay 0)
+        (λ _. as-going s _ l′ (inl refl) clear refl e (record {
+          wait = tt;
+          wake = none-wake (c .time) mark (x .times .release);
+          release = released-never (c .time) (x .given .period) (x .times .release) never none;
+          deadline = start-deadline;
+        }))
+        (λ k. as-going s _ l′ (inl refl) clear refl e (record {
+          wait = tt;
+          wake = ahead-later (c .time) delay ends (eqb-false delay 0 k) short;
+          release = (never, none);
+          deadline = start-deadline;
+        })))
+
+    start-same : withSuspended false (withCurrent (x .given .base) (startRule c delay x)) ≡ startRule c delay x
+    unfolding startRule
+    start-same = by-test (λ (y : Process). withSuspended false (withCurrent (x .given .base) y) ≡ y) (periodic x) (λ _. refl) (λ _. by-test (λ (y : Process). withSuspended false (withCurrent (x .given .base) y) ≡ y) (eqb delay 0) (λ _. refl) (λ _. refl))
+
+    pub start-sound : SoundProcess (setting (c .frame) (c .time) normal a b) (startRule c delay x)
+    start-sound = rw start-same at (start-any false (and-false (periodic x)) (x .given .base) (l .given .base))
+
+  -- entering NORMAL
+  pub entered-sound : (t : ℕ) (before : Bool) → before ≡ false → (x : Process) → SoundProcess (setting (c .frame) t before a b) x → SoundProcess (setting (c .frame) (c .time) normal a b) (entered c x)
+  unfolding entered
+  entered-sound t before out x h =
+      let s = setting (c .frame) (c .time) normal a b in
+      by-test (SoundProcess s) (waitsForNormal (x .wait))
+      (λ k.
+      let begun = so (x .started) (λ d. not-both _ k (ap waitsForNormal (h .dormant d .wait))) in
+      start-any (x .times .delay) x (h .lasting) (h .early begun out .times .release) (h .lasting .delay) (h .lasting .early) (x .suspended) (h .mark) (x .current) (h .lasting .priority begun, h .lasting .current))
+      (λ k.
+      let idle = not-so (x .started) (λ d. not-both _ (ap waitsForNormal (h .early d out .wait)) k) in
+      as-dormant s x (h .lasting) (h .code) (h .mark) idle (h .dormant idle))
+
+-- ---------------------------------------------------------------- the other rules
+module _ (s : Setting) (x : Process) where
+  -- started outside NORMAL
+  pub early-sound : LastingIn (s .frame) x → Timeless (x .times) → s .normal ≡ false → (delay : ℕ) → delay ≤ durationLimit → Below (x .given .period) delay → SoundProcess s (startedEarly delay x)
+  early-sound l h n delay short below =
+      as-early s (startedEarly delay x)
+      (record { given = l .given; current = l .given .base .1; priority = λ _. l .given .base .0; delay = short; early = below })
+      (inl refl) (and-false (periodic x)) refl n
+      (record { wait = refl; times = record { release = h .release; deadline = h .deadline; wake = h .wake } })
+
+  module _ (h : SoundProcess s x) where
+    pub stopped-sound : SoundProcess s (stopped x)
+    stopped-sound =
+        let l = h .lasting in
+        as-dormant s (stopped x)
+        (record { given = l .given; current = l .current; priority = λ e. not-both _ e refl; delay = l .delay; early = l .early })
+        (h .code) (and-false (periodic x)) refl
+        (record { wait = refl; unmarked = refl; times = no-times (x .times .delay) })
+
+    module _ (e : x .started ≡ true) where
+      pub suspended-sound : periodic x ≡ false → SoundProcess s (withSuspended true x)
+      suspended-sound k = record {
+        lasting = h .lasting;
+        code = h .code;
+        mark = rw k;
+        dormant = λ d. not-both _ e d;
+        early = h .early;
+        going = λ d n. let g = h .going d n in record { wait = g .wait; wake = wake-suspended (s .time) (x .suspended) (x .times .release) (x .wait) (x .times .wake) (g .wake); release = g .release; deadline = g .deadline };
+      }
+
+      pub priority-sound : (n : ℕ) → Between 1 priorityLimit n → SoundProcess s (withCurrent n x)
+      priority-sound n b = record {
+        lasting = with-current (s .frame) x (h .lasting) n b (x .started);
+        code = h .code;
+        mark = h .mark;
+        dormant = h .dormant;
+        early = h .early;
+        going = h .going;
+      }
+
+      pub resumed-sound : SoundProcess s (resumed x)
+      resumed-sound = by-test (SoundProcess s) (waitsForNothing (x .wait))
+          (λ k. record {
+            lasting = h .lasting;
+            code = inl refl;
+            mark = and-false (periodic x);
+            dormant = λ d. not-both _ e d;
+            early = λ d n. not-both _ k (ap waitsForNothing (h .early d n .wait));
+            going = λ d n. let g = h .going d n in record { wait = tt; wake = refl; release = rw (for-nothing (x .wait) k) at (g .release); deadline = g .deadline };
+          })
+          (λ k. record {
+            lasting = h .lasting;
+            code = h .code;
+            mark = and-false (periodic x);
+            dormant = λ d. not-both _ e d;
+            early = h .early;
+            going = λ d n. let g = h .going d n in record { wait = g .wait; wake = wake-resumed (s .time) (x .suspended) (x .times .release) (x .wait) (x .times .wake) k (g .wake); release = g .release; deadline = g .deadline };
+          })
+
+    -- a wait on an object ends before its time
+    pub ended-sound : onObject x ≡ true → SoundProcess s (waitEnded 0 x)
+    ended-sound k = record {
+      lasting = h .lasting;
+      code = inl refl;
+      mark = h .mark;
+      dormant = λ d. not-both _ k (ap (λ (v : Wait). not (eqb (object v) 0)) (h .dormant d .wait));
+      early = λ d n. not-both _ k (ap (λ (v : Wait). not (eqb (object v) 0)) (h .early d n .wait));
+      going = λ d n. let g = h .going d n in record { wait = tt; wake = none-wake (s .time) (x .suspended) (x .times .release); release = release-object (s .time) (x .given .period) (x .wait) (x .times .release) k (g .release); deadline = g .deadline };
+    }
+
+-- what is READY
+pub ready-parts : (x : Process) → ready x ≡ true → (x .started ≡ true) × (x .suspended ≡ false) × (x .wait ≡ None)
+ready-parts x h =
+    let a = and-true-parts (x .started) _ h in
+    let b = and-true-parts (not (x .suspended)) _ (a .1) in
+    (a .0, not-true (x .suspended) (b .0), for-nothing (x .wait) (b .1))
+
+-- a READY process that begins to wait, in NORMAL
+module _ (s : Setting) (x : Process) (h : SoundProcess s x) (n : s .normal ≡ true) (k : ready x ≡ true) where
+  started : x .started ≡ true
+  started = ready-parts x k .0
+
+  pub ready-released : Released (s .time) (x .given .period) (x .times .release)
+  ready-released = rw (ready-parts x k .2) at (h .going started n .release)
+
+  pub waiting-sound : (v : Wait) → KnownWait (s .semaphores) (s .events) v → (until : Time) → SoundWake (s .time) (x .suspended) (x .times .release) v until → SoundRelease (s .time) (x .given .period) v (x .times .release) → SoundProcess s (waitingFor v until x)
+  waiting-sound v known until w r = as-going s (waitingFor v until x) (h .lasting) (h .code) (h .mark) started n (record { wait = known; wake = w; release = r; deadline = h .going started n .deadline })
+
+  pub suspends-sound : periodic x ≡ false → (until : Time) → Timeout (s .time) until → SoundProcess s (suspendedUntil until x)
+  suspends-sound p until w = as-going s (suspendedUntil until x) (h .lasting) (h .code) (rw p) started n (rw (ready-parts x k .2) (record { wait = tt; wake = w; release = ready-released; deadline = h .going started n .deadline }))
+
+  -- PERIODIC_WAIT: r was at most t
+  pub next-sound : s .time ≤ timeLimit → periodic x ≡ true → SoundProcess s (nextRelease x)
+  next-sound ends p =
+      let some = not-true (isNever (x .given .period)) p in
+      let at = later (x .times .release) (x .given .period) in
+      let r : AtMost latestWake at =
+      later-at-most (s .time) durationLimit latestWake (x .times .release) (x .given .period) (at-most-released (s .time) (x .given .period) (x .times .release) some ready-released) (period-bound (s .frame) (x .given .period) (h .lasting .given .period) some) (omega arith) in
+      as-going s (nextRelease x) (h .lasting) (h .code) (h .mark) started n (record {
+        wait = tt;
+        wake = refl;
+        release = (some, r);
+        deadline = later-not-after latestWake durationLimit latestDeadline at (x .given .capacity) (at-most-not-after latestWake at r) (capacity-bound (x .given .period) (x .given .capacity) (h .lasting .given .capacity)) (omega arith);
+      })
+
+-- ---------------------------------------------------------------- the tick
+woken-sound : (frame t a b : ℕ) (normal : Bool) → normal ≡ true → (x : Process) → SoundProcess (setting frame t normal a b) x → SoundProcess (setting frame (t + 1) normal a b) (woken (t + 1) x)
+unfolding woken
+woken-sound frame t a b normal n x h =
+    let s = setting frame (t + 1) normal a b in
+    by-test (SoundProcess s) (due (t + 1) (x .times .wake))
+    (λ k.
+    let e = so (x .started) (λ d. not-both _ k (ap (due (t + 1)) (h .dormant d .times .wake))) in
+    let g = h .going e n in
+    let r = release-ended t (x .given .period) (x .suspended) (x .wait) (x .times .release) (x .times .wake) (g .release) (g .wake) k in
+    by-test (SoundProcess s) (waitsForNothing (x .wait))
+    (λ _. as-going s _ (h .lasting) (inr refl) (and-false (periodic x)) e n (record { wait = tt; wake = refl; release = r; deadline = g .deadline }))
+    (λ _. as-going s _ (h .lasting) (by-test SoundCode (onObject x) (λ _. inr refl) (λ _. inl refl)) (h .mark) e n (record { wait = tt; wake = none-wake (t + 1) (x .suspended) (x .times .release); release = r; deadline = g .deadline })))
+    (λ k. record {
+      lasting = h .lasting;
+      code = h .code;
+      mark = h .mark;
+      dormant = h .dormant;
+      early = h .early;
+      going = λ e _. let g = h .going e n in record { wait = g .wait; wake = wake-on t (x .suspended) (x .times .release) (x .wait) (x .times .wake) (g .wake) k; release = release-on t (x .given .period) (x .wait) (x .times .release) (g .release); deadline = g .deadline };
+    })
+
+expired-sound : (s : Setting) (t : ℕ) (x : Process) → SoundProcess s x → SoundProcess s (expired t x)
+unfolding expired
+expired-sound s t x h =
+    by-test (SoundProcess s) (due t (x .times .deadline))
+    (λ k. record {
+      lasting = h .lasting;
+      code = h .code;
+      mark = h .mark;
+      dormant = λ e. let d = h .dormant e in record { wait = d .wait; unmarked = d .unmarked; times = no-deadline (d .times) };
+      early = λ e n. let d = h .early e n in record { wait = d .wait; times = no-deadline (d .times) };
+      going = λ e n. let g = h .going e n in record { wait = g .wait; wake = g .wake; release = g .release; deadline = tt };
+    })
+    (λ _. h)
+  where
+    no-deadline : Timeless (x .times) → Timeless (withDeadline Never (x .times))
+    no-deadline d = record { release = d .release; deadline = refl; wake = d .wake }
+
+pub ticked-sound : (frame t a b : ℕ) (normal : Bool) → normal ≡ true → (x : Process) → SoundProcess (setting frame t normal a b) x → SoundProcess (setting frame (t + 1) normal a b) (ticked (t + 1) x)
+ticked-sound frame t a b normal n x h = expired-sound _ (t + 1) _ (woken-sound frame t a b normal n x h)

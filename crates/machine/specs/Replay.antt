@@ -1,0 +1,64 @@
+-- The replay of a whole input, as the program prints it.
+use Prim.Native.Nat.{ℕ}
+use mathlib.Core.Bool.{Bool, true, false, cond}
+use mathlib.Core.List.{List, [], _∷_, _++_, map}
+use lib.ListN.{drop}
+use lib.Dec.{eqb}
+use lib.IntN.{ℤ, pos, negsuc}
+use Rattle.machine.specs.declared.Module.{Module}
+use Rattle.machine.specs.declared.Event.{Event}
+use Rattle.machine.specs.declared.Answer.{Answer}
+use Rattle.machine.specs.declared.Numbers.{Numbers}
+use Rattle.machine.specs.declared.Reading.{Reading}
+use Rattle.machine.specs.declared.Line.{Line}
+use Rattle.machine.specs.declared.Line.the-variants.{Six, Bad}
+use Rattle.machine.specs.declared.Time.{Time}
+use Rattle.machine.specs.declared.Time.the-variants.{Never, At}
+use Rattle.machine.specs.Text.{readLine, lines, lineText, lineRefusal}
+use Rattle.machine.specs.Module.{step, current}
+use Rattle.machine.specs.Table.{readTable}
+use Rattle.machine.specs.TwoRuns.{final, replies}
+
+-- An event is partition, call, a, b, c, e.
+abbrev pub eventOf : Numbers → Event
+eventOf n = record { partition = n .n1; call = n .n2; a = n .n3; b = n .n4; c = n .n5; e = n .n6 }
+
+-- −1 meaning never
+abbrev pub timeNumber : Time → ℤ
+timeNumber Never = negsuc 0
+timeNumber (At t) = pos t
+
+-- Fields: code, value, extra, t, current, running.
+abbrev pub answerNumbers : Answer → List ℤ
+answerNumbers a = pos (a .code) ∷ pos (a .value) ∷ timeNumber (a .extra) ∷ pos (a .t) ∷ pos (a .current) ∷ pos (a .running) ∷ []
+
+-- one answer line per event, 11 too (value, extra and running 0)
+abbrev pub lineAnswer : Module → Line → List ℤ
+lineAnswer m (Six n) = answerNumbers (step m (eventOf n) .answer)
+lineAnswer m Bad = pos lineRefusal ∷ pos 0 ∷ pos 0 ∷ pos (m .t) ∷ pos (current m) ∷ pos 0 ∷ []
+
+abbrev pub lineNext : Module → Line → Module
+lineNext m (Six n) = step m (eventOf n) .state
+lineNext m Bad = m
+
+unfoldable pub texts : List (List ℤ) → List ℕ
+texts [] = []
+texts (zs ∷ l) = lineText zs ++ texts l
+
+-- A bad table prints one line: code, line number, four 0, and ends there.
+abbrev pub badTableLine : Reading → List ℕ
+badTableLine r = lineText (pos (r .code) ∷ pos (r .value) ∷ pos 0 ∷ pos 0 ∷ pos 0 ∷ pos 0 ∷ [])
+
+-- the event lines of an input whose table takes so many lines
+abbrev pub eventLines : Reading → List ℕ → List Line
+eventLines r input = drop (r .lines) (map readLine (lines input))
+
+-- The replay program reads table, then event lines; it prints one answer line per event.
+unfoldable pub replayed : List ℕ → List ℕ
+replayed input =
+    let r = readTable input in
+    cond (eqb (r .code) 0) (texts (replies lineNext lineAnswer (r .state) (eventLines r input))) (badTableLine r)
+
+-- the record at the end
+unfoldable pub replayedRecord : List ℕ → Module
+replayedRecord input = let r = readTable input in final lineNext lineAnswer (r .state) (eventLines r input)

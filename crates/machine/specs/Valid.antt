@@ -1,0 +1,348 @@
+-- What holds of every record that a run reaches, said once, and the plain definitions that such records meet. Nothing of the machine
+-- rests on it.
+use Prim.Native.Nat.{ℕ, zero, suc, _+_, _-_, _%_, _≤_, _<_}
+use mathlib.Core.Path.{_≡_}
+use mathlib.Core.Bool.{Bool, true, false, cond, _&&_, _||_}
+use mathlib.Core.List.{List, [], _∷_, _++_}
+use mathlib.Core.Logic.{_⊎_}
+use lib.ListN.{length}
+use lib.Dec.{eqb}
+use Rattle.machine.specs.declared.Time.{Time}
+use Rattle.machine.specs.declared.Time.the-variants.{Never, At}
+use Rattle.machine.specs.declared.Wait.{Wait}
+use Rattle.machine.specs.declared.Wait.the-variants.{None, Normal, Delay, Timed, Period, Semaphore, Event}
+use Rattle.machine.specs.declared.Ids.{Ids}
+use Rattle.machine.specs.declared.Given.{Given}
+use Rattle.machine.specs.declared.Times.{Times}
+use Rattle.machine.specs.declared.Process.{Process}
+use Rattle.machine.specs.declared.Semaphore.{Semaphore as SemaphoreT}
+use Rattle.machine.specs.declared.EventState.{EventState}
+use Rattle.machine.specs.declared.Partition.{Partition}
+use Rattle.machine.specs.declared.Context.{Context}
+use Rattle.machine.specs.declared.Reply.{Reply}
+use Rattle.machine.specs.declared.Window.{Window}
+use Rattle.machine.specs.declared.Channel.{Channel}
+use Rattle.machine.specs.declared.Table.{Table}
+use Rattle.machine.specs.declared.Message.{Message}
+use Rattle.machine.specs.declared.Module.{Module}
+use Rattle.machine.specs.declared.Event.{Event as EventT}
+use Rattle.machine.specs.declared.Answer.{Answer}
+use Rattle.machine.specs.Limits.{processLimit, semaphoreLimit, eventLimit, nameLimit, priorityLimit, valueLimit, durationLimit, timeLimit, frameLimit, partitionLimit, windowLimit, channelLimit, numberLimit}
+use Rattle.machine.specs.Ids.{members, idsOf}
+use Rattle.machine.specs.Process.{blankProcess, isNever, periodic, ready, onObject}
+use Rattle.machine.specs.Partition.{normalMode, named, noSemaphore, noEvent, process, running, tickPartition, soonestOf}
+use Rattle.machine.specs.Table.{hasFlagged, readTable}
+use Rattle.machine.specs.Module.{windows, channel, part, message, withPart, withTime, noCaller, emptyModule, step}
+
+-- low..high
+abbrev pub Between : ℕ → ℕ → ℕ → Type 0
+Between low high n = (low ≤ n) × (n ≤ high)
+
+-- ---------------------------------------------------------------- lists of ids
+unfoldable pub contains : ℕ → List ℕ → Bool
+contains id [] = false
+contains id (x ∷ l) = eqb x id || contains id l
+
+unfoldable pub Distinct : List ℕ → Type 0
+Distinct [] = Unit {0}
+Distinct (x ∷ l) = (contains x l ≡ false) × Distinct l
+
+-- a list holds just the ids of which f says true, each once
+pub record Tracks (f : ℕ → Bool) (q : Ids) : Type 0 where
+  pub canonical : q ≡ idsOf (members q)
+  pub distinct : Distinct (members q)
+  pub exact : (id : ℕ) → contains id (members q) ≡ f id
+
+-- ---------------------------------------------------------------- times
+-- no release point and no wake time comes after this one: 110,019,996
+abbrev pub latestWake : ℕ
+latestWake = timeLimit + frameLimit + frameLimit + durationLimit - 2
+
+-- no deadline comes after this one: 120,019,995
+abbrev pub latestDeadline : ℕ
+latestDeadline = latestWake + durationLimit
+
+-- it is not −1 and ≤ n
+abbrev pub AtMost : ℕ → Time → Type 0
+AtMost n Never = ⊥
+AtMost n (At m) = m ≤ n
+
+-- it is −1 or ≤ n
+abbrev pub NotAfter : ℕ → Time → Type 0
+NotAfter n Never = Unit {0}
+NotAfter n (At m) = m ≤ n
+
+-- after t, by a number of D
+abbrev pub Ahead : ℕ → Time → Type 0
+Ahead t Never = ⊥
+Ahead t (At n) = (t < n) × (n ≤ t + durationLimit)
+
+-- −1, or after t by a number of D
+abbrev pub Timeout : ℕ → Time → Type 0
+Timeout t Never = Unit {0}
+Timeout t (At n) = (t < n) × (n ≤ t + durationLimit)
+
+-- ---------------------------------------------------------------- a process by itself
+-- −1 or a multiple of M in 1..9,999,999
+abbrev pub SoundPeriod : ℕ → Time → Type 0
+SoundPeriod frame Never = Unit {0}
+SoundPeriod frame (At n) = Between 1 durationLimit n × (n % frame ≡ 0)
+
+-- a number is not above a period that isn't −1, or it is below it
+abbrev pub NotAbove : Time → ℕ → Type 0
+NotAbove Never n = Unit {0}
+NotAbove (At period) n = n ≤ period
+
+abbrev pub Below : Time → ℕ → Type 0
+Below Never n = Unit {0}
+Below (At period) n = n < period
+
+-- −1 or 1..9,999,999, and not above a period that isn't −1
+abbrev pub SoundCapacity : Time → Time → Type 0
+SoundCapacity period Never = Unit {0}
+SoundCapacity period (At n) = Between 1 durationLimit n × NotAbove period n
+
+-- what CREATE_PROCESS admits
+pub record SoundGiven (frame : ℕ) (g : Given) : Type 0 where
+  pub name : Between 1 nameLimit (g .name)
+  pub base : Between 1 priorityLimit (g .base)
+  pub period : SoundPeriod frame (g .period)
+  pub capacity : SoundCapacity (g .period) (g .capacity)
+
+-- no r, d, w
+pub record Timeless (s : Times) : Type 0 where
+  pub release : s .release ≡ Never
+  pub deadline : s .deadline ≡ Never
+  pub wake : s .wake ≡ Never
+
+-- DORMANT
+pub record Dormant (v : Wait) (mark : Bool) (s : Times) : Type 0 where
+  pub wait : v ≡ None
+  pub unmarked : mark ≡ false
+  pub times : Timeless s
+
+-- started outside NORMAL
+pub record Early (v : Wait) (s : Times) : Type 0 where
+  pub wait : v ≡ Normal
+  pub times : Timeless s
+
+-- the object of a wait, one of s semaphores and e events, has been created; in NORMAL none waits for NORMAL
+abbrev pub KnownWait : ℕ → ℕ → Wait → Type 0
+KnownWait s e None = Unit {0}
+KnownWait s e Normal = ⊥
+KnownWait s e Delay = Unit {0}
+KnownWait s e Timed = Unit {0}
+KnownWait s e Period = Unit {0}
+KnownWait s e (Semaphore k) = Between 1 s k
+KnownWait s e (Event k) = Between 1 e k
+
+-- w, by the wait, in NORMAL at t: a wake time with no wait stands only where the suspended mark does
+abbrev pub SoundWake : ℕ → Bool → Time → Wait → Time → Type 0
+SoundWake t mark r None w = cond mark (Timeout t w) (w ≡ Never)
+SoundWake t mark r Normal w = ⊥
+SoundWake t mark r Delay w = Ahead t w
+SoundWake t mark r Timed w = Ahead t w
+SoundWake t mark r Period w = w ≡ r
+SoundWake t mark r (Semaphore k) w = Timeout t w
+SoundWake t mark r (Event k) w = Timeout t w
+
+-- r of a process that does not wait for its period: −1 for an aperiodic one, at most t for a periodic one
+abbrev pub Released : ℕ → Time → Time → Type 0
+Released t Never r = r ≡ Never
+Released t (At period) r = AtMost t r
+
+-- r, by the wait, in NORMAL at t
+abbrev pub SoundRelease : ℕ → Time → Wait → Time → Type 0
+SoundRelease t period None r = Released t period r
+SoundRelease t period Normal r = ⊥
+SoundRelease t period Delay r = (isNever period ≡ true) × (r ≡ Never)
+SoundRelease t period Timed r = Released t period r
+SoundRelease t period Period r = (isNever period ≡ false) × AtMost latestWake r
+SoundRelease t period (Semaphore k) r = Released t period r
+SoundRelease t period (Event k) r = Released t period r
+
+-- what a process's rules look at besides its own record: M, the time, whether the mode is NORMAL, how many semaphores and events there are
+pub record Setting : Type 0 where
+  pub frame : ℕ
+  pub time : ℕ
+  pub normal : Bool
+  pub semaphores : ℕ
+  pub events : ℕ
+
+abbrev pub setting : ℕ → ℕ → Bool → ℕ → ℕ → Setting
+setting frame t normal s e = record { frame = frame; time = t; normal = normal; semaphores = s; events = e }
+
+-- started in NORMAL
+pub record Going (c : Setting) (period : Time) (mark : Bool) (v : Wait) (s : Times) : Type 0 where
+  pub wait : KnownWait (c .semaphores) (c .events) v
+  pub wake : SoundWake (c .time) mark (s .release) v (s .wake)
+  pub release : SoundRelease (c .time) period v (s .release)
+  pub deadline : NotAfter latestDeadline (s .deadline)
+
+-- what no mode and no time changes
+pub record Lasting (frame : ℕ) (g : Given) (n : ℕ) (started : Bool) (d : ℕ) : Type 0 where
+  pub given : SoundGiven frame g
+  pub current : n ≤ priorityLimit
+  pub priority : started ≡ true → 1 ≤ n
+  pub delay : d ≤ durationLimit
+  pub early : Below (g .period) d
+
+abbrev pub LastingIn : ℕ → Process → Type 0
+LastingIn frame x = Lasting frame (x .given) (x .current) (x .started) (x .times .delay)
+
+-- a wake code
+abbrev pub SoundCode : ℕ → Type 0
+SoundCode n = (n ≡ 0) ⊎ (n ≡ 6)
+
+-- a periodic process is never suspended
+abbrev pub SoundMark : Process → Type 0
+SoundMark x = (periodic x && x .suspended) ≡ false
+
+pub record SoundProcess (c : Setting) (x : Process) : Type 0 where
+  pub lasting : LastingIn (c .frame) x
+  pub code : SoundCode (x .code)
+  pub mark : SoundMark x
+  pub dormant : x .started ≡ false → Dormant (x .wait) (x .suspended) (x .times)
+  pub early : x .started ≡ true → c .normal ≡ false → Early (x .wait) (x .times)
+  pub going : x .started ≡ true → c .normal ≡ true → Going c (x .given .period) (x .suspended) (x .wait) (x .times)
+
+-- ---------------------------------------------------------------- a partition
+pub record SoundSemaphore (s : SemaphoreT) : Type 0 where
+  pub name : Between 1 nameLimit (s .name)
+  pub value : s .value ≤ s .max
+  pub max : Between 1 valueLimit (s .max)
+
+pub record SoundEvent (e : EventState) : Type 0 where
+  pub name : Between 1 nameLimit (e .name)
+
+-- a list with room for `limit`, of which n have been created; an id past these names the default
+pub record Numbered {A : Type 0} (limit : ℕ) (d : A) (l : List A) (n : ℕ) : Type 0 where
+  pub size : length l ≡ limit
+  pub few : n ≤ limit
+  pub past : (id : ℕ) → n < id → named limit d id l ≡ d
+
+-- the arrival list holds just the READY processes, each once, and the waiting list those that wait on an object
+pub record Listed (l : List Process) (n : ℕ) (arrival waiting : Ids) : Type 0 where
+  pub numbered : Numbered processLimit blankProcess l n
+  pub arrivals : Tracks (λ id. ready (named processLimit blankProcess id l)) arrival
+  pub waitings : Tracks (λ id. onObject (named processLimit blankProcess id l)) waiting
+
+abbrev pub ListedIn : Partition → Type 0
+ListedIn p = Listed (p .processes) (p .processCount) (p .arrival) (p .waiting)
+
+pub record Objects (l : List SemaphoreT) (n : ℕ) (l′ : List EventState) (n′ : ℕ) : Type 0 where
+  pub semaphores : Numbered semaphoreLimit noSemaphore l n
+  pub events : Numbered eventLimit noEvent l′ n′
+  pub eachSemaphore : (k : ℕ) → Between 1 n k → SoundSemaphore (named semaphoreLimit noSemaphore k l)
+  pub eachEvent : (k : ℕ) → Between 1 n′ k → SoundEvent (named eventLimit noEvent k l′)
+
+abbrev pub ObjectsIn : Partition → Type 0
+ObjectsIn p = Objects (p .semaphores) (p .semaphoreCount) (p .events) (p .eventCount)
+
+abbrev pub settingOf : ℕ → ℕ → Partition → Setting
+settingOf frame t p = setting frame t (normalMode p) (p .semaphoreCount) (p .eventCount)
+
+pub record Valid (frame t : ℕ) (p : Partition) : Type 0 where
+  pub mode : p .mode ≤ 3
+  pub lists : ListedIn p
+  pub objects : ObjectsIn p
+  pub eachProcess : (id : ℕ) → Between 1 (p .processCount) id → SoundProcess (settingOf frame t p) (process id p)
+
+-- what a call sees of a partition that it may be made by: it is current, neither IDLE nor NORMAL with nothing running
+pub record SoundContext (c : Context) (p : Partition) : Type 0 where
+  pub time : c .time ≤ timeLimit
+  pub frame : Between 1 frameLimit (c .frame)
+  pub ahead : c .time < c .release
+  pub near : c .release < c .time + c .frame + c .frame
+  pub caller : c .caller ≡ running p
+  pub calls : noCaller p ≡ false
+
+-- the running process id: READY, every member of the arrival list before it of smaller current priority, every one after it of none greater
+pub record Runs (p : Partition) (id : ℕ) : Type 0 where
+  pub isReady : ready (process id p) ≡ true
+  pub before : List ℕ
+  pub after : List ℕ
+  pub split : members (p .arrival) ≡ before ++ (id ∷ after)
+  pub smaller : (y : ℕ) → contains y before ≡ true → process y p .current < process id p .current
+  pub notGreater : (y : ℕ) → contains y after ≡ true → process y p .current ≤ process id p .current
+
+-- ---------------------------------------------------------------- a table
+-- a window after the end of the previous one
+pub record SoundWindow (previous frame size : ℕ) (w : Window) : Type 0 where
+  pub order : previous ≤ w .start
+  pub long : 1 ≤ w .duration
+  pub inside : w .start + w .duration ≤ frame
+  pub owner : Between 1 size (w .partition)
+
+unfoldable pub SoundWindows : ℕ → ℕ → ℕ → List Window → Type 0
+SoundWindows previous frame size [] = Unit {0}
+SoundWindows previous frame size (w ∷ ws) = SoundWindow previous frame size w × SoundWindows (w .start + w .duration) frame size ws
+
+pub record SoundChannel (size : ℕ) (c : Channel) : Type 0 where
+  pub source : Between 1 size (c .source)
+  pub destination : Between 1 size (c .destination)
+  pub apart : c .source ≡ c .destination → ⊥
+  pub refresh : Between 1 durationLimit (c .refresh)
+
+pub record SoundTable (T : Table) : Type 0 where
+  pub frame : Between 1 frameLimit (T .frame)
+  pub size : Between 1 partitionLimit (T .size)
+  pub windowsSize : length (T .windows) ≡ windowLimit
+  pub windowCount : Between 1 windowLimit (T .windowCount)
+  pub channelsSize : length (T .channels) ≡ channelLimit
+  pub channelCount : T .channelCount ≤ channelLimit
+  pub eachWindow : SoundWindows 0 (T .frame) (T .size) (windows T)
+  pub flagged : (k : ℕ) → Between 1 (T .size) k → hasFlagged k (windows T) ≡ true
+  pub eachChannel : (i : ℕ) → i < T .channelCount → SoundChannel (T .size) (channel T i)
+
+-- ---------------------------------------------------------------- the module
+pub record SoundMessage (t : ℕ) (x : Message) : Type 0 where
+  pub value : x .value ≤ durationLimit
+  pub written : x .written ≤ t
+
+-- the field `soonest` of a partition says when the first of its wake times and deadlines comes
+abbrev pub Noted : Partition → Type 0
+Noted p = p .soonest ≡ soonestOf p
+
+pub record SoundModule (m : Module) : Type 0 where
+  pub table : SoundTable (m .table)
+  pub partitionsSize : length (m .partitions) ≡ partitionLimit
+  pub messagesSize : length (m .messages) ≡ channelLimit
+  pub time : m .t ≤ timeLimit
+  pub eachPartition : (i : ℕ) → i < m .table .size → Valid (m .table .frame) (m .t) (part m i)
+  pub noted : (i : ℕ) → i < m .table .size → Noted (part m i)
+  pub eachMessage : (i : ℕ) → SoundMessage (m .t) (message m i)
+
+-- the record of a refused table, or one with a sound table
+abbrev pub ValidModule : Module → Type 0
+ValidModule m = (m ≡ emptyModule) ⊎ SoundModule m
+
+-- Module records come only from table reading and from events.
+pub data Reached : Module → Type 0 where
+  read : (input : List ℕ) → Reached (readTable input .state)
+  stepped : (m : Module) (e : EventT) → Reached m → Reached (step m e .state)
+
+-- ---------------------------------------------------------------- the tick with no partition passed over
+-- the first n partitions
+unfoldable pub plainTickTo : ℕ → Module → Module
+plainTickTo zero m = m
+plainTickTo (suc n) m = let h = plainTickTo n m in withPart n (tickPartition (h .t) (part h n)) h
+
+-- t rises by one; every partition is ticked
+unfoldable pub plainTick : Module → Module
+plainTick m = plainTickTo (m .table .size) (withTime (m .t + 1) m)
+
+-- ---------------------------------------------------------------- answers
+-- the line writer's range
+pub record ReplyInRange (r : Reply) : Type 0 where
+  pub code : r .code ≤ 13
+  pub value : r .value ≤ numberLimit
+  pub extra : NotAfter numberLimit (r .extra)
+
+pub record AnswerInRange (size : ℕ) (a : Answer) : Type 0 where
+  pub code : a .code ≤ 13
+  pub value : a .value ≤ numberLimit
+  pub extra : NotAfter numberLimit (a .extra)
+  pub t : a .t ≤ timeLimit
+  pub current : a .current ≤ size
+  pub running : a .running ≤ processLimit

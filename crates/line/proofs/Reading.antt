@@ -19,12 +19,13 @@ use mir.ValLaws.{toZ-pos}
 use Rattle.machine.specs.declared.Line.the-variants.{Six, Bad}
 use Rattle.machine.specs.Limits.{numberLimit, lineLength}
 use Rattle.machine.specs.Text.{lineFeed, space, minus, zeroDigit, base, fieldWidth, inRange, column, markAfter, columns, lastDigit, numberText, fieldText, sameBytes, spelled, candidate, readField, joined, fieldCount, readNumbers, readLine, firstLength, lineEnd}
-use Rattle.machine.proofs.TextField.{byTest, columns-length, columns-more, columns-none, read-field}
+use Rattle.machine.proofs.TextField.{columns-length, columns-more, columns-none, read-field}
 use Rattle.machine.proofs.TextLine.{reads-more, reads-none, read-line}
 use Rattle.line.proofs.Signed.{range-back, ranges-back}
 use Rattle.line.specs.declared.Found.{Found}
 use Rattle.line.specs.declared.Found.the-variants.{Number, Nothing}
 use Rattle.line.specs.Found.{foundOf}
+use Rattle.machine.proofs.Bounds.{either}
 
 -- ---------------------------------------------------------------- the number that columns spell
 pub spelled-more : (l : List ℕ) (i v d r : ℕ) → i < length l → d ≡ getD l i 0 - zeroDigit → spelled (drop i l) v ≡ r
@@ -141,7 +142,7 @@ module _ (l : List ℕ) (i r : ℕ) (e : lineEnd l i ≡ r) where
   pub end-past : length l ≤ i → length l ≡ r
   unfolding firstLength
   end-past h =
-      byTest (leb i (length l))
+      either (leb i (length l))
       (λ t. let q : i + 0 ≡ r = rw (t, drop-of-length-le l {i = i} h) at e in omega (arith, leb-true i (length l) t))
       (λ t. rw t at e)
 

@@ -16,7 +16,8 @@ use Rattle.machine.specs.declared.Line.{Line}
 use Rattle.machine.specs.declared.Line.the-variants.{Six, Bad}
 use Rattle.machine.specs.Limits.{lineLength}
 use Rattle.machine.specs.Text.{lineFeed, fieldWidth, fieldCount, inRange, fieldText, lineText, sameBytes, readField, joined, readNumbers, numberList, numbersOf, readLine, allInRange, canWrite, written}
-use Rattle.machine.proofs.TextField.{byTest, same-refl, same-true, field-length, field-read, read-field}
+use Rattle.machine.proofs.TextField.{same-refl, same-true, field-length, field-read, read-field}
+use Rattle.machine.proofs.Bounds.{either}
 
 pub line-length : (ns : List ℤ) → length (lineText ns) ≡ length ns * fieldWidth + 1
 unfolding lineText
@@ -73,7 +74,7 @@ joined-text n bs (some z) (some zs) ns f g h =
 pub read-line : (n : ℕ) (bs : List ℕ) (ns : List ℤ) → readNumbers n bs ≡ some ns → IsText n bs ns
 unfolding readNumbers lineText allInRange
 read-line zero bs ns h =
-    byTest (sameBytes bs (lineFeed ∷ []))
+    either (sameBytes bs (lineFeed ∷ []))
     (λ t.
     let e : [] ≡ ns = let s : some [] ≡ some ns = rw t at h in cc in
     rw (← e) (record { text = same-true bs (lineFeed ∷ []) t; range = refl; count = refl }))
@@ -127,7 +128,7 @@ read-other bs h = go (readLine bs) refl
 pub written-length : (out : List ℕ) (ns : List ℤ) → length (written out ns) ≡ length out
 unfolding written
 written-length out ns =
-    byTest (canWrite (length out) ns)
+    either (canWrite (length out) ns)
     (λ t.
     let h : length (lineText ns) ≤ length out =
     leb-true (length (lineText ns)) (length out) (and-eq-true-iff (leb (length (lineText ns)) (length out)) (allInRange ns) .0 t .0)
@@ -139,7 +140,7 @@ written-length out ns =
 pub written-after : (out : List ℕ) (n : Numbers) → drop lineLength (written out (numberList n)) ≡ drop lineLength out
 unfolding written
 written-after out n =
-    byTest (canWrite (length out) (numberList n))
+    either (canWrite (length out) (numberList n))
     (λ t.
     rw (t, drop-at (lineText (numberList n)) (drop (length (lineText (numberList n))) out) lineLength (six-length n), six-length n))
     (λ t. rw t)

@@ -1,0 +1,519 @@
+//! Counts what made-up inputs reach: answers, waits, reasons, corners.
+
+use crate::events::Events;
+use crate::generate;
+use crate::line::LENGTH;
+use crate::machine::{Answer, Event, LAST_CALL, USED};
+use crate::record::{Channel, Mode, Module, Partition, Process, Wait};
+use crate::replay::{read_table, Lines};
+use std::io::{self, Write};
+
+const CALLS: usize = 23;
+const CODES: usize = 14;
+
+/// The codes that document 01 allows for a tick (0) and for each call, but
+/// for 10, which only a tick at the end of time gets.
+pub const ALLOWED: [&[usize]; CALLS] = [
+    &[0, 13],
+    &[0, 1, 3, 5, 8, 9, 13],
+    &[0, 1, 3, 4, 5, 8, 9, 13],
+    &[0, 1, 3, 8, 9, 13],
+    &[0, 1, 3, 8, 9, 13],
+    &[0, 1, 3, 8, 9, 13],
+    &[0, 5, 8, 9, 13],
+    &[0, 1, 3, 5, 8, 9, 13],
+    &[0, 3, 5, 7, 8, 9, 13],
+    &[0, 3, 5, 7, 8, 9, 13],
+    &[5, 7, 8, 9, 13],
+    &[0, 1, 3, 5, 8, 9, 13],
+    &[0, 3, 5, 8, 9, 13],
+    &[0, 3, 8, 9, 13],
+    &[0, 1, 3, 4, 5, 8, 9, 13],
+    &[0, 2, 3, 5, 7, 8, 9, 13],
+    &[0, 1, 3, 8, 9, 13],
+    &[0, 1, 3, 4, 5, 8, 9, 13],
+    &[0, 3, 8, 9, 13],
+    &[0, 3, 8, 9, 13],
+    &[0, 2, 3, 5, 7, 8, 9, 13],
+    &[0, 3, 5, 8, 9, 13],
+    &[0, 1, 3, 5, 8, 9, 13],
+];
+
+const NAMES: [&str; CALLS] = [
+    "tick",
+    "SET_PARTITION_MODE",
+    "CREATE_PROCESS",
+    "START",
+    "DELAYED_START",
+    "STOP",
+    "STOP_SELF",
+    "SUSPEND",
+    "SUSPEND_SELF",
+    "TIMED_WAIT",
+    "PERIODIC_WAIT",
+    "RESUME",
+    "SET_PRIORITY",
+    "GET_PROCESS_STATUS",
+    "CREATE_SEMAPHORE",
+    "WAIT_SEMAPHORE",
+    "SIGNAL",
+    "CREATE_EVENT",
+    "SET_EVENT",
+    "RESET_EVENT",
+    "WAIT_EVENT",
+    "WRITE",
+    "READ",
+];
+
+/// The kinds of wait, and the suspended mark of a process without wait.
+pub const WAITS: [&str; 7] = [
+    "normal",
+    "delay",
+    "timed",
+    "period",
+    "semaphore",
+    "event",
+    "suspended, no wait",
+];
+
+/// What can happen to a wait.
+pub const CHANGES: [&str; 10] = [
+    "began",
+    "by signal",
+    "by time",
+    "by stop",
+    "by NORMAL",
+    "erased",
+    "suspended",
+    "resumed",
+    "by signal, suspended",
+    "by time, suspended",
+];
+
+/// The reasons for 13, in the order in which they are looked for.
+pub const REASONS: [&str; 11] = [
+    "record empty",
+    "partition below 0",
+    "partition above P",
+    "call below 0",
+    "call above 22",
+    "partition 0 with a call",
+    "a partition with call 0",
+    "unused a not 0",
+    "unused b not 0",
+    "unused c not 0",
+    "unused e not 0",
+];
+
+pub const CORNERS: [&str; 20] = [
+    "no current partition",
+    "deadline missed",
+    "deadline missed while waiting or suspended",
+    "READ at age refresh",
+    "READ at age refresh + 1",
+    "PERIODIC_WAIT with r <= t",
+    "SIGNAL with two waiters or more",
+    "SET_EVENT with two waiters or more",
+    "TIMED_WAIT 0 with another READY",
+    "SUSPEND_SELF 0",
+    "SET_PRIORITY of a READY process",
+    "SET_PRIORITY of the caller",
+    "caller preempted by its own call",
+    "NORMAL entered with a suspended process",
+    "restart by a running process",
+    "restart erases a message",
+    "source's restart keeps a message",
+    "16 processes in NORMAL",
+    "priority 239 or name 255 taken",
+    "STOP of a queued process",
+];
+
+/// Where a table was refused, or that it was accepted.
+pub const TABLES: [&str; 8] = [
+    "accepted",
+    "11 on line 1",
+    "11 on a later line",
+    "11 for a missing line",
+    "12 on line 1",
+    "12 on a window line",
+    "12 on a channel line",
+    "12 in the final check",
+];
+
+#[derive(Clone, Debug)]
+pub struct Coverage {
+    /// How often a call got a code; a call out of range counts nowhere here.
+    pub answers: [[u64; CODES]; CALLS],
+    pub waits: [[u64; CHANGES.len()]; WAITS.len()],
+    pub reasons: [u64; REASONS.len()],
+    pub corners: [u64; CORNERS.len()],
+    pub tables: [u64; TABLES.len()],
+    pub events: u64,
+}
+
+impl Coverage {
+    pub fn new() -> Coverage {
+        Coverage {
+            answers: [[0; CODES]; CALLS],
+            waits: [[0; CHANGES.len()]; WAITS.len()],
+            reasons: [0; REASONS.len()],
+            corners: [0; CORNERS.len()],
+            tables: [0; TABLES.len()],
+            events: 0,
+        }
+    }
+
+    /// Runs the generator over seeds from..=to with `count` events each.
+    pub fn of_seeds(from: u64, to: u64, count: u64) -> Coverage {
+        let mut coverage = Coverage::new();
+        for seed in from..=to {
+            coverage.take_table(seed);
+            coverage.take_events(seed, count);
+        }
+        coverage
+    }
+
+    fn take_events(&mut self, seed: u64, count: u64) {
+        let (_, mut events) = Events::with_table(seed);
+        let mut before = events.module.clone();
+        for _ in 0..count {
+            let (event, answer) = events.next_event();
+            self.take_event(&before, &event, &answer, &events.module);
+            if answer.code == 0 || answer.code == 7 {
+                before.clone_from(&events.module);
+            }
+        }
+    }
+
+    /// Counts one event with the record before and after it.
+    pub fn take_event(&mut self, before: &Module, event: &Event, answer: &Answer, after: &Module) {
+        self.events += 1;
+        if (0..=LAST_CALL).contains(&event.call) {
+            self.answers[event.call as usize][answer.code as usize] += 1;
+        }
+        if answer.code == 13 {
+            self.reasons[reason(before, event)] += 1;
+        }
+        for (old, new) in before.partitions().iter().zip(after.partitions()) {
+            self.take_partition(event, old, new);
+        }
+        self.take_corners(before, event, answer, after);
+    }
+
+    fn take_partition(&mut self, event: &Event, old: &Partition, new: &Partition) {
+        for (place, process) in old.processes.iter().enumerate() {
+            match new.processes.get(place) {
+                Some(later) => self.take_process(event, process, later),
+                None => self.count_wait(process, "erased"),
+            }
+        }
+    }
+
+    fn take_process(&mut self, event: &Event, old: &Process, new: &Process) {
+        if old.wait != new.wait && old.wait != Wait::None {
+            self.count_wait(old, ending(event, old, new));
+        }
+        if old.wait != new.wait && new.wait != Wait::None {
+            self.count_wait(new, "began");
+        }
+        if !old.suspended && new.suspended {
+            let change = if new.wait == Wait::None {
+                "began"
+            } else {
+                "suspended"
+            };
+            self.count_wait(new, change);
+        }
+        if old.suspended && !new.suspended && new.started {
+            let change = if event.call == 0 {
+                "by time"
+            } else {
+                "resumed"
+            };
+            self.count_wait(old, change);
+        }
+        if old.suspended && !new.started && old.wait == Wait::None {
+            self.count_wait(old, "by stop");
+        }
+        self.count_corner("deadline missed", !old.missed && new.missed);
+        let held = !new.ready() && new.started;
+        self.count_corner(
+            "deadline missed while waiting or suspended",
+            !old.missed && new.missed && held,
+        );
+    }
+
+    fn count_wait(&mut self, process: &Process, change: &str) {
+        let wait = match process.wait {
+            Wait::Normal => 0,
+            Wait::Delay => 1,
+            Wait::Timed => 2,
+            Wait::Period => 3,
+            Wait::Semaphore(_) => 4,
+            Wait::Event(_) => 5,
+            Wait::None if process.suspended => 6,
+            Wait::None => return,
+        };
+        self.waits[wait][place(&CHANGES, change)] += 1;
+    }
+
+    fn count_corner(&mut self, corner: &str, holds: bool) {
+        if holds {
+            self.corners[place(&CORNERS, corner)] += 1;
+        }
+    }
+
+    fn take_corners(&mut self, before: &Module, event: &Event, answer: &Answer, after: &Module) {
+        self.count_corner("no current partition", answer.current == 0);
+        let accepted = answer.code == 0 || answer.code == 7;
+        if !accepted || event.call == 0 {
+            return;
+        }
+        let own = event.partition as usize;
+        let (old, new) = (before.partition(own), after.partition(own));
+        match event.call {
+            1 => self.take_mode_corners(before, own, event.fields[0], after),
+            10 => {
+                let release = new.process(old.running()).release;
+                self.count_corner("PERIODIC_WAIT with r <= t", release <= Some(after.t()));
+            }
+            22 => {
+                let channel = &before.channels()[event.fields[0] as usize - 1];
+                self.take_read_corners(channel, after.t());
+            }
+            _ => self.take_call_corners(event, old),
+        }
+        self.take_running_corners(answer, old, new);
+    }
+
+    /// Corners that the partition's record before the call tells.
+    fn take_call_corners(&mut self, event: &Event, old: &Partition) {
+        let [a, b, ..] = event.fields;
+        let id = a as usize;
+        let another_ready = old.arrival.len() > 1;
+        match event.call {
+            2 => self.count_corner("priority 239 or name 255 taken", a == 255 || b == 239),
+            5 => {
+                let wait = old.process(id).wait;
+                let queued = matches!(wait, Wait::Semaphore(_) | Wait::Event(_));
+                self.count_corner("STOP of a queued process", queued);
+            }
+            8 => self.count_corner("SUSPEND_SELF 0", a == 0),
+            9 => self.count_corner("TIMED_WAIT 0 with another READY", a == 0 && another_ready),
+            12 => {
+                self.count_corner("SET_PRIORITY of a READY process", old.process(id).ready());
+                self.count_corner("SET_PRIORITY of the caller", old.running() == id);
+            }
+            16 => {
+                let waiters = old.semaphores[id - 1].queue.len();
+                self.count_corner("SIGNAL with two waiters or more", waiters > 1);
+            }
+            18 => {
+                let waiters = old.events[id - 1].queue.len();
+                self.count_corner("SET_EVENT with two waiters or more", waiters > 1);
+            }
+            _ => {}
+        }
+    }
+
+    fn take_running_corners(&mut self, answer: &Answer, old: &Partition, new: &Partition) {
+        let caller = old.running();
+        let preempted = answer.code == 0
+            && caller != 0
+            && new.running() != caller
+            && new.arrival.contains(&caller);
+        self.count_corner("caller preempted by its own call", preempted);
+        let many = new.mode == Mode::Normal && new.processes.len() == 16;
+        self.count_corner("16 processes in NORMAL", many);
+    }
+
+    fn take_mode_corners(&mut self, before: &Module, own: usize, a: i64, after: &Module) {
+        let old = before.partition(own);
+        if a == 3 {
+            let suspended = old.processes.iter().any(|process| process.suspended);
+            self.count_corner("NORMAL entered with a suspended process", suspended);
+            return;
+        }
+        self.count_corner("restart by a running process", old.mode == Mode::Normal);
+        for (channel, later) in before.channels().iter().zip(after.channels()) {
+            let erased = channel.message.is_some() && later.message.is_none();
+            self.count_corner("restart erases a message", erased);
+            let kept = channel.source == own && later.message.is_some();
+            self.count_corner("source's restart keeps a message", kept);
+        }
+    }
+
+    fn take_read_corners(&mut self, channel: &Channel, t: i64) {
+        let age = channel.message.map(|message| t - message.written);
+        self.count_corner("READ at age refresh", age == Some(channel.refresh));
+        self.count_corner("READ at age refresh + 1", age == Some(channel.refresh + 1));
+    }
+
+    /// Counts a made-up table; a refused one gives the empty record, which
+    /// answers 13 to everything.
+    fn take_table(&mut self, seed: u64) {
+        let text = generate::table(seed);
+        let outcome = match read_table(&mut Lines::new(text.as_slice())) {
+            Ok(_) => "accepted",
+            Err(refusal) => {
+                let mut empty = Module::empty();
+                let answer = empty.step(&Event::TICK);
+                self.reasons[0] += u64::from(answer.code == 13);
+                refused_at(&text, refusal.code, refusal.line)
+            }
+        };
+        self.tables[place(&TABLES, outcome)] += 1;
+    }
+
+    /// The pairs (call, code) that document 01 allows and that were not met.
+    pub fn missing(&self) -> Vec<(usize, usize)> {
+        let pairs = ALLOWED.iter().enumerate();
+        let pairs = pairs.flat_map(|(call, codes)| codes.iter().map(move |&code| (call, code)));
+        pairs
+            .filter(|&(call, code)| self.answers[call][code] == 0)
+            .collect()
+    }
+
+    /// The pairs that were met though document 01 has no such answer.
+    pub fn unforeseen(&self) -> Vec<(usize, usize)> {
+        let pairs = (0..CALLS).flat_map(|call| (0..CODES).map(move |code| (call, code)));
+        let met = |&(call, code): &(usize, usize)| self.answers[call][code] > 0;
+        pairs
+            .filter(met)
+            .filter(|&(call, code)| !ALLOWED[call].contains(&code))
+            .collect()
+    }
+
+    pub fn print(&self, out: &mut impl Write) -> io::Result<()> {
+        writeln!(out, "events {}", self.events)?;
+        self.print_answers(out)?;
+        self.print_waits(out)?;
+        print_list(out, "reasons for 13", &REASONS, &self.reasons)?;
+        print_list(out, "corners", &CORNERS, &self.corners)?;
+        print_list(out, "tables", &TABLES, &self.tables)?;
+        print_pairs(out, "allowed and not reached", &self.missing())?;
+        print_pairs(out, "reached and not allowed", &self.unforeseen())
+    }
+
+    fn print_answers(&self, out: &mut impl Write) -> io::Result<()> {
+        write!(out, "\n{:<22}", "call")?;
+        for code in 0..CODES {
+            write!(out, "{code:>8}")?;
+        }
+        writeln!(out)?;
+        for (call, counts) in self.answers.iter().enumerate() {
+            write!(out, "{call:>2} {:<19}", NAMES[call])?;
+            for (code, &count) in counts.iter().enumerate() {
+                match count {
+                    0 if !ALLOWED[call].contains(&code) => write!(out, "{:>8}", "-")?,
+                    _ => write!(out, "{count:>8}")?,
+                }
+            }
+            writeln!(out)?;
+        }
+        Ok(())
+    }
+
+    fn print_waits(&self, out: &mut impl Write) -> io::Result<()> {
+        writeln!(out, "\nwaits")?;
+        for (wait, counts) in WAITS.iter().zip(&self.waits) {
+            let counts: Vec<String> = CHANGES
+                .iter()
+                .zip(counts)
+                .filter(|(_, &count)| count > 0)
+                .map(|(change, count)| format!("{change} {count}"))
+                .collect();
+            writeln!(out, "  {wait}: {}", counts.join("; "))?;
+        }
+        Ok(())
+    }
+}
+
+impl Default for Coverage {
+    fn default() -> Coverage {
+        Coverage::new()
+    }
+}
+
+/// How a wait ended.
+fn ending(event: &Event, old: &Process, new: &Process) -> &'static str {
+    match event.call {
+        _ if !new.started => "by stop",
+        0 if old.suspended => "by time, suspended",
+        0 => "by time",
+        16 | 18 if old.suspended => "by signal, suspended",
+        16 | 18 => "by signal",
+        _ => "by NORMAL",
+    }
+}
+
+/// Why an event gets 13.
+fn reason(module: &Module, event: &Event) -> usize {
+    let partitions = module.partitions().len() as i64;
+    let reasons = [
+        (module.is_empty(), "record empty"),
+        (event.partition < 0, "partition below 0"),
+        (event.partition > partitions, "partition above P"),
+        (event.call < 0, "call below 0"),
+        (event.call > LAST_CALL, "call above 22"),
+        (
+            event.partition == 0 && event.call != 0,
+            "partition 0 with a call",
+        ),
+        (
+            event.partition != 0 && event.call == 0,
+            "a partition with call 0",
+        ),
+    ];
+    if let Some((_, name)) = reasons.iter().find(|(holds, _)| *holds) {
+        return place(&REASONS, name);
+    }
+    let used = USED[event.call as usize];
+    let unused = (used..4)
+        .find(|&field| event.fields[field] != 0)
+        .unwrap_or(used);
+    place(&REASONS, "unused a not 0") + unused
+}
+
+fn refused_at(text: &[u8], code: i64, line: i64) -> &'static str {
+    // A table with a bad line has at least as many bytes as its good lines.
+    let missing = text.len() < (line as usize).saturating_sub(1) * LENGTH + 1;
+    let windows = text
+        .get(20..30)
+        .and_then(|field| std::str::from_utf8(field).ok());
+    let windows = windows
+        .and_then(|field| field.trim().parse().ok())
+        .unwrap_or(0);
+    match (code, line) {
+        (11, _) if missing => "11 for a missing line",
+        (11, 1) => "11 on line 1",
+        (11, _) => "11 on a later line",
+        (_, 0) => "12 in the final check",
+        (_, 1) => "12 on line 1",
+        (_, line) if line <= 1 + windows => "12 on a window line",
+        _ => "12 on a channel line",
+    }
+}
+
+fn place(names: &[&str], name: &str) -> usize {
+    names
+        .iter()
+        .position(|&other| other == name)
+        .expect("a name of the list")
+}
+
+fn print_list(out: &mut impl Write, title: &str, names: &[&str], counts: &[u64]) -> io::Result<()> {
+    writeln!(out, "\n{title}")?;
+    names
+        .iter()
+        .zip(counts)
+        .try_for_each(|(name, count)| writeln!(out, "  {name}: {count}"))
+}
+
+fn print_pairs(out: &mut impl Write, title: &str, pairs: &[(usize, usize)]) -> io::Result<()> {
+    writeln!(out, "\n{title}: {}", pairs.len())?;
+    for &(call, code) in pairs {
+        writeln!(out, "  call {call} {} code {code}", NAMES[call])?;
+    }
+    Ok(())
+}

@@ -1,0 +1,153 @@
+//! The whole record as text, one item per line; -1 for never.
+
+use crate::record::{Channel, Id, Module, Partition, Process, Wait, Window};
+use std::io::{self, Write};
+
+/// Prints the record; a refused table's record is the line `empty`.
+pub fn dump(module: &Module, out: &mut impl Write) -> io::Result<()> {
+    if module.is_empty() {
+        return writeln!(out, "empty");
+    }
+    dump_module(module, out)?;
+    for (window, n) in module.windows().iter().zip(1..) {
+        dump_window(window, n, out)?;
+    }
+    for (channel, n) in module.channels().iter().zip(1..) {
+        dump_channel(channel, n, out)?;
+    }
+    for (partition, k) in module.partitions().iter().zip(1..) {
+        dump_partition(partition, k, out)?;
+    }
+    Ok(())
+}
+
+/// The dump as a string.
+pub fn text(module: &Module) -> String {
+    let mut out = Vec::new();
+    dump(module, &mut out).expect("a vector takes every byte");
+    String::from_utf8(out).expect("the dump is ASCII")
+}
+
+fn dump_module(module: &Module, out: &mut impl Write) -> io::Result<()> {
+    writeln!(
+        out,
+        "module t {} current {} running {} frame {} partitions {} windows {} channels {}",
+        module.t(),
+        module.current(),
+        module.running(),
+        module.frame(),
+        module.partitions().len(),
+        module.windows().len(),
+        module.channels().len()
+    )
+}
+
+fn dump_window(window: &Window, n: usize, out: &mut impl Write) -> io::Result<()> {
+    let Window {
+        start,
+        duration,
+        partition,
+        flag,
+    } = window;
+    let flag = u8::from(*flag);
+    writeln!(
+        out,
+        "window {n} start {start} duration {duration} partition {partition} flag {flag}"
+    )
+}
+
+fn dump_channel(channel: &Channel, n: usize, out: &mut impl Write) -> io::Result<()> {
+    let Channel {
+        source,
+        destination,
+        refresh,
+        message,
+    } = channel;
+    let value = message.map_or(-1, |message| message.value);
+    let written = message.map_or(-1, |message| message.written);
+    writeln!(
+        out,
+        "channel {n} source {source} destination {destination} refresh {refresh} \
+         message {value} written {written}"
+    )
+}
+
+fn dump_partition(partition: &Partition, k: usize, out: &mut impl Write) -> io::Result<()> {
+    writeln!(
+        out,
+        "partition {k} mode {} processes {} semaphores {} events {}",
+        partition.mode.number(),
+        partition.processes.len(),
+        partition.semaphores.len(),
+        partition.events.len()
+    )?;
+    for (process, id) in partition.processes.iter().zip(1..) {
+        dump_process(process, id, out)?;
+    }
+    for (semaphore, id) in partition.semaphores.iter().zip(1..) {
+        let (name, value, max) = (semaphore.name, semaphore.value, semaphore.max);
+        writeln!(out, "semaphore {id} name {name} value {value} max {max}")?;
+    }
+    for (event, id) in partition.events.iter().zip(1..) {
+        writeln!(
+            out,
+            "event {id} name {} up {}",
+            event.name,
+            u8::from(event.up)
+        )?;
+    }
+    write!(out, "arrival")?;
+    dump_ids(&partition.arrival, out)?;
+    for (semaphore, id) in partition.semaphores.iter().zip(1..) {
+        write!(out, "waiters semaphore {id}")?;
+        dump_ids(&semaphore.queue, out)?;
+    }
+    for (event, id) in partition.events.iter().zip(1..) {
+        write!(out, "waiters event {id}")?;
+        dump_ids(&event.queue, out)?;
+    }
+    Ok(())
+}
+
+fn dump_process(process: &Process, id: Id, out: &mut impl Write) -> io::Result<()> {
+    let or_never = |time: Option<i64>| time.unwrap_or(-1);
+    write!(
+        out,
+        "process {id} name {} base {} current {} period {} capacity {} release {} deadline {} \
+         wake {} delay {} suspended {} missed {} code {} started {} wait ",
+        process.name,
+        process.base,
+        process.current,
+        or_never(process.period),
+        or_never(process.capacity),
+        or_never(process.release),
+        or_never(process.deadline),
+        or_never(process.wake),
+        process.delay,
+        u8::from(process.suspended),
+        u8::from(process.missed),
+        process.wake_code,
+        u8::from(process.started)
+    )?;
+    dump_wait(process.wait, out)
+}
+
+fn dump_wait(wait: Wait, out: &mut impl Write) -> io::Result<()> {
+    match wait {
+        Wait::None => writeln!(out, "none"),
+        Wait::Normal => writeln!(out, "normal"),
+        Wait::Delay => writeln!(out, "delay"),
+        Wait::Timed => writeln!(out, "timed"),
+        Wait::Period => writeln!(out, "period"),
+        Wait::Semaphore(id) => writeln!(out, "semaphore {id}"),
+        Wait::Event(id) => writeln!(out, "event {id}"),
+    }
+}
+
+/// The ids, each after a single space, and the line's end.
+fn dump_ids<'a>(ids: impl IntoIterator<Item = &'a Id>, out: &mut impl Write) -> io::Result<()> {
+    for id in ids {
+        write!(out, " {id}")?;
+    }
+    writeln!(out)
+}

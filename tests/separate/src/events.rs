@@ -1,0 +1,459 @@
+//! Events chosen by looking at the record, so that calls of the current
+//! partition, known ids and the edges of every rule come up.
+
+use crate::calls::MOST_TIME;
+use crate::line::{self, Line};
+use crate::machine::{Answer, Event, LAST_CALL, USED};
+use crate::record::{Channel, EventFlag, Id, Mode, Module, Process, Semaphore};
+use crate::replay::Lines;
+use crate::rng::Rng;
+use crate::tables;
+
+/// A number that no rule takes, as far out as a line goes.
+const FAR: i64 = line::GREATEST;
+
+/// A module and the next event chosen by looking at it.
+pub struct Events {
+    pub module: Module,
+    pub(crate) rng: Rng,
+    /// Ticks still to come before the next choice.
+    burst: usize,
+}
+
+/// How often each call is made by a partition's main program: tick, 1, 2, ...
+const START_WEIGHTS: [usize; 23] = [
+    8, 5, 26, 13, 11, 2, 1, 4, 1, 1, 1, 4, 3, 3, 11, 1, 4, 10, 2, 2, 1, 4, 4,
+];
+
+/// How often each call is made by a running process.
+const NORMAL_WEIGHTS: [usize; 23] = [
+    24, 1, 2, 8, 7, 3, 1, 6, 4, 6, 4, 8, 6, 6, 2, 11, 8, 2, 5, 5, 8, 7, 7,
+];
+
+impl Events {
+    /// An accepted table and a source of events for its module.
+    pub fn with_table(seed: u64) -> (Vec<line::Six>, Events) {
+        let mut rng = Rng::new(seed);
+        let numbers = tables::accepted(&mut rng);
+        let module = tables::module(&numbers).expect("an accepted table");
+        (numbers, Events::of(module, rng))
+    }
+
+    /// A source of events for a module.
+    pub fn of(module: Module, rng: Rng) -> Events {
+        Events {
+            module,
+            rng,
+            burst: 0,
+        }
+    }
+
+    /// Chooses an event and steps the module by it.
+    pub fn next_event(&mut self) -> (Event, Answer) {
+        let event = self.choose();
+        let answer = self.module.step(&event);
+        (event, answer)
+    }
+
+    /// Steps the module by the good lines among these bytes.
+    pub(crate) fn take_lines(&mut self, bytes: &[u8]) {
+        let mut lines = Lines::new(bytes);
+        while let Some(line) = lines.next_line() {
+            if let Line::Six(six) = line {
+                self.module.step(&Event::from_six(six));
+            }
+        }
+    }
+
+    /// Chooses an event and leaves the module as it is.
+    pub fn choose(&mut self) -> Event {
+        if self.burst > 0 {
+            self.burst -= 1;
+            return Event::TICK;
+        }
+        if self.rng.percent(3) {
+            return self.malformed();
+        }
+        let own = self.module.current();
+        if own == 0 || self.rng.percent(2) {
+            return if self.rng.percent(30) {
+                self.call_by_other(own)
+            } else {
+                self.ticks()
+            };
+        }
+        if self.rng.percent(30) && self.near_refresh(own) {
+            return self.call(own, 22);
+        }
+        let partition = self.module.partition(own);
+        let weights = match partition.mode {
+            Mode::Normal if partition.running() != 0 => self.normal_weights(own),
+            Mode::ColdStart | Mode::WarmStart => START_WEIGHTS,
+            _ => return self.call_that_gets_9(own),
+        };
+        match self.rng.weighted(&weights) {
+            0 => self.ticks(),
+            call => self.call(own, call as i64),
+        }
+    }
+
+    /// A periodic caller mostly works for a while and waits for its release.
+    fn normal_weights(&self, own: Id) -> [usize; 23] {
+        let partition = self.module.partition(own);
+        let mut weights = NORMAL_WEIGHTS;
+        if partition.process(partition.running()).periodic() {
+            weights[10] = 22;
+        }
+        weights
+    }
+
+    /// A tick, often with more behind it, now and then up to the next frame.
+    fn ticks(&mut self) -> Event {
+        let rest = (self.module.frame - self.module.t % self.module.frame) as usize;
+        self.burst = match self.rng.below(20) {
+            0..=10 => 0,
+            11..=17 => self.rng.below(6),
+            _ => rest.min(40),
+        };
+        Event::TICK
+    }
+
+    fn call_by_other(&mut self, own: Id) -> Event {
+        let other = 1 + self.rng.below(self.module.partitions.len());
+        let call = self.rng.range(1, LAST_CALL);
+        if other == own {
+            return self.ticks();
+        }
+        self.call(other, call)
+    }
+
+    fn call_that_gets_9(&mut self, own: Id) -> Event {
+        if self.rng.percent(85) {
+            return self.ticks();
+        }
+        let call = self.rng.range(1, LAST_CALL);
+        self.call(own, call)
+    }
+
+    /// An event for 13, by each of its reasons.
+    fn malformed(&mut self) -> Event {
+        let rng = &mut self.rng;
+        let partitions = self.module.partitions.len() as i64;
+        let own = self.module.current().max(1) as i64;
+        let call = rng.range(1, LAST_CALL);
+        let zeros = [0; 4];
+        match rng.below(6) {
+            0 => {
+                let partition = rng.pick(&[-1, partitions + 1, 9, FAR]);
+                let call = rng.range(0, LAST_CALL);
+                let partition = if partition <= partitions {
+                    -1
+                } else {
+                    partition
+                };
+                Event {
+                    partition,
+                    call,
+                    fields: zeros,
+                }
+            }
+            1 => {
+                let partition = rng.pick(&[own, 0, -1]);
+                Event {
+                    partition,
+                    call: rng.pick(&[-1, 23, FAR]),
+                    fields: zeros,
+                }
+            }
+            2 => Event {
+                partition: 0,
+                call,
+                fields: zeros,
+            },
+            3 => Event {
+                partition: own,
+                call: 0,
+                fields: zeros,
+            },
+            4 => Event {
+                fields: self.one_field(0),
+                ..Event::TICK
+            },
+            _ => {
+                let used = USED[call as usize];
+                let mut fields = self.fields(own as Id, call);
+                for (field, further) in fields[used..].iter_mut().zip(self.one_field(used)) {
+                    *field = further;
+                }
+                Event {
+                    partition: own,
+                    call,
+                    fields,
+                }
+            }
+        }
+    }
+
+    /// Zeros but for one number in the first `4 - used` places.
+    fn one_field(&mut self, used: usize) -> [i64; 4] {
+        let mut fields = [0; 4];
+        if used < 4 {
+            fields[self.rng.below(4 - used)] = self.rng.pick(&[1, 2, -1, FAR]);
+        }
+        fields
+    }
+
+    /// A call with fields that fit its partition's record for the most part.
+    fn call(&mut self, own: Id, call: i64) -> Event {
+        Event {
+            partition: own as i64,
+            call,
+            fields: self.fields(own, call),
+        }
+    }
+
+    fn fields(&mut self, own: Id, call: i64) -> [i64; 4] {
+        match call {
+            1 => [self.mode(own), 0, 0, 0],
+            2 => self.new_process(own),
+            3 => [self.process(own, Process::dormant), 0, 0, 0],
+            4 => self.delayed_start(own),
+            5 => [self.process(own, |process| process.started), 0, 0, 0],
+            7 => [self.process(own, may_suspend), 0, 0, 0],
+            8 | 9 => [self.time_out(own), 0, 0, 0],
+            11 => [self.process(own, |process| process.suspended), 0, 0, 0],
+            12 => [
+                self.process(own, |process| process.started),
+                self.priority(),
+                0,
+                0,
+            ],
+            13 => [self.process(own, |_| true), 0, 0, 0],
+            14 => self.new_semaphore(own),
+            15 => [
+                self.semaphore(own, |it| it.value == 0),
+                self.time_out(own),
+                0,
+                0,
+            ],
+            16 => [self.semaphore(own, |it| !it.queue.is_empty()), 0, 0, 0],
+            17 => [self.name(own, 17), 0, 0, 0],
+            18 => [self.event(own, |it| !it.queue.is_empty()), 0, 0, 0],
+            19 => [self.event(own, |it| it.up), 0, 0, 0],
+            20 => [self.event(own, |it| !it.up), self.time_out(own), 0, 0],
+            21 => [self.source_channel(own), self.message(), 0, 0],
+            22 => [self.destination_channel(own), 0, 0, 0],
+            _ => [0; 4],
+        }
+    }
+
+    /// Mostly NORMAL once a process is started; restarts and IDLE are rare.
+    fn mode(&mut self, own: Id) -> i64 {
+        let partition = self.module.partition(own);
+        let started = partition.processes.iter().any(|process| process.started);
+        let weights = match partition.mode {
+            // 0, 1, 2, 3, out of range
+            Mode::Normal => [1, 8, 10, 50, 31],
+            _ if started => [1, 2, 4, 83, 10],
+            _ => [1, 5, 10, 14, 70],
+        };
+        match self.rng.weighted(&weights) {
+            4 => self.rng.pick(&[-1, 4, 4, FAR]),
+            mode => mode as i64,
+        }
+    }
+
+    /// A name for a creating call: mostly a new one, sometimes a known one or
+    /// one out of range.
+    fn name(&mut self, own: Id, call: i64) -> i64 {
+        if self.rng.percent(12) {
+            if let Some(name) = self.known_name(own, call) {
+                return name;
+            }
+        }
+        match self.rng.below(20) {
+            0 => self.rng.pick(&[0, -1, 256, FAR]),
+            1 => self.rng.pick(&[1, 255]),
+            _ => self.rng.range(1, 255),
+        }
+    }
+
+    /// A name that exists among the kind that the call creates.
+    fn known_name(&mut self, own: Id, call: i64) -> Option<i64> {
+        let partition = self.module.partition(own);
+        let names: Vec<i64> = match call {
+            2 => partition.processes.iter().map(|it| it.name).collect(),
+            14 => partition.semaphores.iter().map(|it| it.name).collect(),
+            _ => partition.events.iter().map(|it| it.name).collect(),
+        };
+        (!names.is_empty()).then(|| self.rng.pick(&names))
+    }
+
+    fn priority(&mut self) -> i64 {
+        match self.rng.below(20) {
+            0..=1 => self.rng.pick(&[0, -1, 240, FAR]),
+            2 => self.rng.pick(&[1, 239]),
+            _ => self.rng.range(1, 5),
+        }
+    }
+
+    fn new_process(&mut self, own: Id) -> [i64; 4] {
+        let priority = if self.rng.percent(40) {
+            self.priority()
+        } else {
+            self.rng.range(1, 5)
+        };
+        let period = self.period();
+        [self.name(own, 2), priority, period, self.capacity(period)]
+    }
+
+    /// Aperiodic, multiples of M, and the edges of both rules.
+    fn period(&mut self) -> i64 {
+        let frame = self.module.frame;
+        let last_multiple = MOST_TIME / frame * frame;
+        match self.rng.below(40) {
+            0..=23 => -1,
+            24..=33 => frame * self.rng.range(1, 3),
+            34 => frame + 1,
+            35 => self.rng.pick(&[0, frame - 1, 2 * frame + 1]),
+            36 => last_multiple,
+            37 => last_multiple + frame,
+            38 => self.rng.pick(&[MOST_TIME, MOST_TIME + 1, FAR]),
+            _ => 2 * frame,
+        }
+    }
+
+    fn capacity(&mut self, period: i64) -> i64 {
+        match self.rng.below(20) {
+            0..=5 => -1,
+            6..=15 if period > 0 && period <= MOST_TIME => self.rng.range(1, period),
+            6..=15 => self.rng.range(1, 20),
+            16 if period > 0 => period,
+            17 if period > 0 => (period + 1).min(FAR),
+            18 => self.rng.pick(&[0, MOST_TIME, MOST_TIME + 1, FAR]),
+            _ => self.rng.pick(&[1, 2, 3]),
+        }
+    }
+
+    fn delayed_start(&mut self, own: Id) -> [i64; 4] {
+        let id = self.process(own, Process::dormant);
+        let partition = self.module.partition(own);
+        let period = partition
+            .process_id(id)
+            .and_then(|id| partition.process(id).period);
+        let delay = match (period, self.rng.below(20)) {
+            (_, 0) => self.rng.pick(&[-1, MOST_TIME + 1, FAR]),
+            (_, 1) => MOST_TIME,
+            (_, 2..=4) => 0,
+            (Some(period), 5..=7) => period - 1,
+            (Some(period), 8..=9) => period,
+            (Some(period), _) => self.rng.range(0, period - 1).min(self.rng.range(0, 10)),
+            (None, 5) => self.rng.range(1, 2 * self.module.frame),
+            (None, _) => self.rng.range(1, 8),
+        };
+        [id, delay, 0, 0]
+    }
+
+    fn new_semaphore(&mut self, own: Id) -> [i64; 4] {
+        let max = match self.rng.below(12) {
+            0 => self.rng.pick(&[0, -1, 32_768, FAR]),
+            1 => 32_767,
+            _ => self.rng.range(1, 3),
+        };
+        let start = match self.rng.below(12) {
+            0 => self.rng.pick(&[-1, max + 1, FAR]),
+            1..=2 => max,
+            _ => self.rng.range(0, max.clamp(0, 3)),
+        };
+        [self.name(own, 14), start.clamp(-1, FAR), max, 0]
+    }
+
+    /// An id: mostly of a process of the wanted sort, sometimes unknown.
+    fn process(&mut self, own: Id, wanted: impl Fn(&Process) -> bool) -> i64 {
+        pick_id(&mut self.rng, &self.module.partition(own).processes, wanted)
+    }
+
+    fn semaphore(&mut self, own: Id, wanted: impl Fn(&Semaphore) -> bool) -> i64 {
+        pick_id(
+            &mut self.rng,
+            &self.module.partition(own).semaphores,
+            wanted,
+        )
+    }
+
+    fn event(&mut self, own: Id, wanted: impl Fn(&EventFlag) -> bool) -> i64 {
+        pick_id(&mut self.rng, &self.module.partition(own).events, wanted)
+    }
+
+    /// A channel to write to, mostly with the partition as its source.
+    fn source_channel(&mut self, own: Id) -> i64 {
+        pick_id(&mut self.rng, &self.module.channels, |channel| {
+            channel.source == own
+        })
+    }
+
+    /// A channel to read from, one about to grow old first.
+    fn destination_channel(&mut self, own: Id) -> i64 {
+        let (t, near) = (self.module.t, self.near_refresh(own));
+        pick_id(&mut self.rng, &self.module.channels, |channel| {
+            channel.destination == own && (!near || about_to_age(channel, t))
+        })
+    }
+
+    /// True if a message into the partition is at refresh or one past it.
+    fn near_refresh(&self, own: Id) -> bool {
+        let mut into = self
+            .module
+            .channels
+            .iter()
+            .filter(|channel| channel.destination == own);
+        into.any(|channel| about_to_age(channel, self.module.t))
+    }
+
+    fn message(&mut self) -> i64 {
+        match self.rng.below(12) {
+            0 => self.rng.pick(&[-1, MOST_TIME + 1, FAR]),
+            1 => self.rng.pick(&[0, MOST_TIME]),
+            _ => self.rng.range(0, 1000),
+        }
+    }
+
+    /// A time-out; never and very long only where another process is READY.
+    fn time_out(&mut self, own: Id) -> i64 {
+        let alone = self.module.partition(own).arrival.len() < 2 && self.rng.percent(90);
+        match self.rng.below(24) {
+            0..=3 => 0,
+            4 => self.rng.pick(&[MOST_TIME + 1, FAR]),
+            5..=7 if !alone => -1,
+            8 if !alone => MOST_TIME,
+            9..=10 => self.rng.range(1, 2 * self.module.frame),
+            11 => 1,
+            _ => self.rng.range(1, 6),
+        }
+    }
+}
+
+/// The number of an item of the wanted sort for the most part, else of any
+/// item, sometimes of none.
+fn pick_id<T>(rng: &mut Rng, items: &[T], wanted: impl Fn(&T) -> bool) -> i64 {
+    let count = items.len();
+    if count == 0 || rng.percent(6) {
+        return rng.pick(&[0, -1, count as i64 + 1, 17, FAR]);
+    }
+    let from = rng.below(count);
+    let mut places = (from..count).chain(0..from);
+    let fitting = places.find(|&place| wanted(&items[place]));
+    match fitting {
+        Some(place) if rng.percent(70) => place as i64 + 1,
+        _ => rng.range(1, count as i64),
+    }
+}
+
+fn about_to_age(channel: &Channel, t: i64) -> bool {
+    let age = channel.message.map_or(-1, |message| t - message.written);
+    age == channel.refresh || age == channel.refresh + 1
+}
+
+fn may_suspend(process: &Process) -> bool {
+    process.started && !process.periodic() && !process.suspended
+}

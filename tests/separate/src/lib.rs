@@ -1,0 +1,25 @@
+//! The partition executive of document 01, written from that paper alone.
+//!
+//! It serves as a judge: another program that claims to be the same machine
+//! can be run beside it on the same input, answer by answer (`replay`) and
+//! record by record (`dump`).
+
+pub mod calls;
+pub mod coverage;
+pub mod damage;
+pub mod dump;
+pub mod events;
+pub mod generate;
+pub mod line;
+pub mod machine;
+pub mod record;
+pub mod replay;
+pub mod rng;
+pub mod table;
+pub mod tables;
+pub mod timing;
+pub mod waiting;
+
+pub use line::Six;
+pub use machine::{Answer, Event, EventRecord};
+pub use record::Module;

@@ -1,0 +1,367 @@
+//! The module record ("Module record" of document 01).
+
+use std::collections::VecDeque;
+
+/// Ids, partition numbers and channel numbers count from 1.
+pub type Id = usize;
+
+pub const PROCESSES: usize = 16;
+pub const SEMAPHORES: usize = 8;
+pub const EVENTS: usize = 8;
+
+/// Time ends here.
+pub const LAST_TIME: i64 = 99_999_999;
+
+#[derive(Clone, Copy, Debug, PartialEq, Eq)]
+pub enum Mode {
+    Idle,
+    ColdStart,
+    WarmStart,
+    Normal,
+}
+
+impl Mode {
+    pub fn number(self) -> i64 {
+        match self {
+            Mode::Idle => 0,
+            Mode::ColdStart => 1,
+            Mode::WarmStart => 2,
+            Mode::Normal => 3,
+        }
+    }
+
+    pub fn from_number(number: i64) -> Option<Mode> {
+        match number {
+            0 => Some(Mode::Idle),
+            1 => Some(Mode::ColdStart),
+            2 => Some(Mode::WarmStart),
+            3 => Some(Mode::Normal),
+            _ => None,
+        }
+    }
+}
+
+/// What a process waits for.
+#[derive(Clone, Copy, Debug, PartialEq, Eq)]
+pub enum Wait {
+    None,
+    Normal,
+    Delay,
+    Timed,
+    Period,
+    Semaphore(Id),
+    Event(Id),
+}
+
+/// A process. `None` stands for -1 (never, aperiodic, no capacity).
+#[derive(Clone, Debug, PartialEq, Eq)]
+pub struct Process {
+    pub name: i64,
+    pub base: i64,
+    pub current: i64,
+    pub period: Option<i64>,
+    pub capacity: Option<i64>,
+    pub release: Option<i64>,
+    pub deadline: Option<i64>,
+    pub wake: Option<i64>,
+    pub delay: i64,
+    pub suspended: bool,
+    pub missed: bool,
+    pub wake_code: i64,
+    /// False is DORMANT.
+    pub started: bool,
+    pub wait: Wait,
+}
+
+impl Process {
+    /// Created: DORMANT, four fields as given, no wait, r, d, w -1, the rest 0.
+    pub fn created(name: i64, base: i64, period: Option<i64>, capacity: Option<i64>) -> Process {
+        Process {
+            name,
+            base,
+            current: 0,
+            period,
+            capacity,
+            release: None,
+            deadline: None,
+            wake: None,
+            delay: 0,
+            suspended: false,
+            missed: false,
+            wake_code: 0,
+            started: false,
+            wait: Wait::None,
+        }
+    }
+
+    pub fn dormant(&self) -> bool {
+        !self.started
+    }
+
+    pub fn periodic(&self) -> bool {
+        self.period.is_some()
+    }
+
+    /// READY if started, waiting for nothing and not suspended.
+    pub fn ready(&self) -> bool {
+        self.started && self.wait == Wait::None && !self.suspended
+    }
+}
+
+/// A semaphore and the ids that wait for it, first come first.
+#[derive(Clone, Debug, PartialEq, Eq)]
+pub struct Semaphore {
+    pub name: i64,
+    pub value: i64,
+    pub max: i64,
+    pub queue: VecDeque<Id>,
+}
+
+/// An event of a partition (UP or DOWN) and the ids that wait for it.
+#[derive(Clone, Debug, PartialEq, Eq)]
+pub struct EventFlag {
+    pub name: i64,
+    pub up: bool,
+    pub queue: VecDeque<Id>,
+}
+
+#[derive(Clone, Debug, PartialEq, Eq)]
+pub struct Partition {
+    pub mode: Mode,
+    pub processes: Vec<Process>,
+    pub semaphores: Vec<Semaphore>,
+    pub events: Vec<EventFlag>,
+    /// The READY processes in order of arrival.
+    pub arrival: VecDeque<Id>,
+}
+
+impl Partition {
+    /// Fresh: COLD_START with nothing created.
+    pub fn fresh() -> Partition {
+        Partition {
+            mode: Mode::ColdStart,
+            processes: Vec::with_capacity(PROCESSES),
+            semaphores: Vec::with_capacity(SEMAPHORES),
+            events: Vec::with_capacity(EVENTS),
+            arrival: VecDeque::with_capacity(PROCESSES),
+        }
+    }
+
+    pub fn process(&self, id: Id) -> &Process {
+        &self.processes[id - 1]
+    }
+
+    /// The id if a process has it.
+    pub fn process_id(&self, number: i64) -> Option<Id> {
+        known(number, self.processes.len())
+    }
+
+    pub fn semaphore_id(&self, number: i64) -> Option<Id> {
+        known(number, self.semaphores.len())
+    }
+
+    pub fn event_id(&self, number: i64) -> Option<Id> {
+        known(number, self.events.len())
+    }
+
+    /// Changes a process and keeps the arrival list: becoming READY appends,
+    /// ceasing removes.
+    pub fn change(&mut self, id: Id, change: impl FnOnce(&mut Process)) {
+        let process = &mut self.processes[id - 1];
+        let before = process.ready();
+        change(process);
+        match (before, process.ready()) {
+            (false, true) => self.arrival.push_back(id),
+            (true, false) => leave(&mut self.arrival, id),
+            _ => {}
+        }
+    }
+
+    /// Moves a READY process to the end of the arrival list.
+    pub fn move_to_end(&mut self, id: Id) {
+        if self.process(id).ready() {
+            leave(&mut self.arrival, id);
+            self.arrival.push_back(id);
+        }
+    }
+
+    /// Takes a process out of the queue that it waits in, if any.
+    pub fn leave_queue(&mut self, id: Id) {
+        match self.process(id).wait {
+            Wait::Semaphore(of) => leave(&mut self.semaphores[of - 1].queue, id),
+            Wait::Event(of) => leave(&mut self.events[of - 1].queue, id),
+            _ => {}
+        }
+    }
+
+    /// A signal ends a wait: w -1, wake code 0; a suspended mark stays.
+    pub fn end_wait_by_signal(&mut self, id: Id) {
+        self.change(id, |process| {
+            process.wait = Wait::None;
+            process.wake = None;
+            process.wake_code = 0;
+        });
+    }
+
+    /// The READY process of greatest current priority, first in the arrival
+    /// list among equals; 0 if there is none or the mode is not NORMAL.
+    pub fn running(&self) -> Id {
+        if self.mode != Mode::Normal {
+            return 0;
+        }
+        let mut running = 0;
+        let mut greatest = i64::MIN;
+        for &id in &self.arrival {
+            let priority = self.process(id).current;
+            if priority > greatest {
+                (running, greatest) = (id, priority);
+            }
+        }
+        running
+    }
+
+    /// Erases what modes 0, 1 and 2 erase inside the partition.
+    pub fn erase(&mut self) {
+        self.processes.clear();
+        self.semaphores.clear();
+        self.events.clear();
+        self.arrival.clear();
+    }
+}
+
+fn known(number: i64, count: usize) -> Option<Id> {
+    let id = Id::try_from(number).ok()?;
+    (1..=count).contains(&id).then_some(id)
+}
+
+fn leave(queue: &mut VecDeque<Id>, id: Id) {
+    queue.retain(|&other| other != id);
+}
+
+#[derive(Clone, Debug, PartialEq, Eq)]
+pub struct Window {
+    pub start: i64,
+    pub duration: i64,
+    pub partition: Id,
+    pub flag: bool,
+}
+
+#[derive(Clone, Copy, Debug, PartialEq, Eq)]
+pub struct Message {
+    pub value: i64,
+    pub written: i64,
+}
+
+#[derive(Clone, Debug, PartialEq, Eq)]
+pub struct Channel {
+    pub source: Id,
+    pub destination: Id,
+    pub refresh: i64,
+    pub message: Option<Message>,
+}
+
+/// The whole module. Its fields are open to look at, but only table reading
+/// and events make one.
+#[derive(Clone, Debug, PartialEq, Eq)]
+pub struct Module {
+    pub(crate) t: i64,
+    /// Ticks of the major frame, M.
+    pub(crate) frame: i64,
+    pub(crate) windows: Vec<Window>,
+    pub(crate) channels: Vec<Channel>,
+    pub(crate) partitions: Vec<Partition>,
+    /// The current partition at t; it changes with t only.
+    pub(crate) current: Id,
+}
+
+impl Module {
+    /// The empty record that a refused table gives: M, P and all else 0.
+    pub fn empty() -> Module {
+        Module {
+            t: 0,
+            frame: 0,
+            windows: Vec::new(),
+            channels: Vec::new(),
+            partitions: Vec::new(),
+            current: 0,
+        }
+    }
+
+    /// The record that reading an accepted table gives.
+    pub(crate) fn fresh(
+        frame: i64,
+        partitions: usize,
+        windows: Vec<Window>,
+        channels: Vec<Channel>,
+    ) -> Module {
+        let mut module = Module {
+            t: 0,
+            frame,
+            windows,
+            channels,
+            partitions: (0..partitions).map(|_| Partition::fresh()).collect(),
+            current: 0,
+        };
+        module.current = module.owner(0);
+        module
+    }
+
+    pub fn is_empty(&self) -> bool {
+        self.partitions.is_empty()
+    }
+
+    pub fn t(&self) -> i64 {
+        self.t
+    }
+
+    pub fn frame(&self) -> i64 {
+        self.frame
+    }
+
+    pub fn windows(&self) -> &[Window] {
+        &self.windows
+    }
+
+    pub fn channels(&self) -> &[Channel] {
+        &self.channels
+    }
+
+    pub fn partitions(&self) -> &[Partition] {
+        &self.partitions
+    }
+
+    pub fn partition(&self, id: Id) -> &Partition {
+        &self.partitions[id - 1]
+    }
+
+    /// The current partition, 0 if none.
+    pub fn current(&self) -> Id {
+        self.current
+    }
+
+    /// The partition that owns the window with
+    /// start <= t mod M < start + duration; 0 if none.
+    pub(crate) fn owner(&self, t: i64) -> Id {
+        let place = t % self.frame;
+        self.windows
+            .iter()
+            .find(|window| window.start <= place && place < window.start + window.duration)
+            .map_or(0, |window| window.partition)
+    }
+
+    /// The running process of the current partition, 0 if none.
+    pub fn running(&self) -> Id {
+        match self.current {
+            0 => 0,
+            current => self.partition(current).running(),
+        }
+    }
+
+    /// Start of the partition's first window with flag 1.
+    pub(crate) fn first_release(&self, partition: Id) -> i64 {
+        self.windows
+            .iter()
+            .find(|window| window.partition == partition && window.flag)
+            .map_or(0, |window| window.start)
+    }
+}

@@ -1,0 +1,245 @@
+//! Made-up tables: accepted ones, and number damages that break one rule
+//! each (code 12).
+
+use crate::line::{self, Line, Six};
+use crate::record::Module;
+use crate::rng::Rng;
+use crate::table::{self, MOST_CHANNELS, MOST_FRAME, MOST_REFRESH, MOST_WINDOWS};
+
+/// The numbers of an accepted table, line by line.
+pub fn accepted(rng: &mut Rng) -> Vec<Six> {
+    let partitions = rng.pick(&[1, 1, 2, 2, 2, 2, 3, 3, 3, 4, 4, 5, 6, 7, 8]);
+    let most_more = MOST_WINDOWS - partitions;
+    let more = match rng.below(8) {
+        0..=3 => rng.range(0, 2),
+        4..=6 => rng.range(0, most_more.min(8)),
+        _ => rng.range(0, most_more),
+    };
+    let windows = partitions + more;
+    let frame = pick_frame(rng, windows);
+    let channels = match partitions {
+        1 => 0,
+        _ => rng.pick(&[0, 1, 2, 3, 4, 6, 8, 12, MOST_CHANNELS]),
+    };
+    let mut lines = vec![[frame, partitions, windows, channels, 0, 0]];
+    lines.extend(window_lines(rng, frame, partitions, windows));
+    lines.extend((0..channels).map(|_| channel_line(rng, frame, partitions)));
+    lines
+}
+
+/// Small and large major frames, the greatest one too.
+fn pick_frame(rng: &mut Rng, windows: i64) -> i64 {
+    match rng.below(16) {
+        0..=1 => windows,
+        2..=7 => windows + rng.range(0, 12),
+        8..=12 => windows + rng.range(0, 60),
+        13..=14 => windows + rng.range(0, 600),
+        _ => rng.pick(&[
+            rng.clone().range(windows, MOST_FRAME),
+            MOST_FRAME,
+            MOST_FRAME - 1,
+        ]),
+    }
+}
+
+fn window_lines(rng: &mut Rng, frame: i64, partitions: i64, windows: i64) -> Vec<Six> {
+    let mut owners: Vec<(i64, i64)> = (1..=partitions).map(|partition| (partition, 1)).collect();
+    while owners.len() < windows as usize {
+        owners.push((rng.range(1, partitions), i64::from(rng.percent(40))));
+    }
+    rng.shuffle(&mut owners);
+    let places = spread(rng, frame, windows);
+    owners
+        .iter()
+        .zip(places)
+        .map(|(&(partition, flag), (start, duration))| [start, duration, partition, flag, 0, 0])
+        .collect()
+}
+
+/// Windows that do not overlap, with or without gaps.
+fn spread(rng: &mut Rng, frame: i64, windows: i64) -> Vec<(i64, i64)> {
+    let gaps = rng.percent(60);
+    let slack = frame - windows;
+    // Weight of the gap before each window and of its own further ticks.
+    let weights: Vec<(i64, i64)> = (0..windows)
+        .map(|_| {
+            let gap = if gaps && rng.percent(50) {
+                rng.range(0, 5)
+            } else {
+                0
+            };
+            (gap, rng.range(1, 8))
+        })
+        .collect();
+    let behind = if gaps { rng.range(0, 5) } else { 0 };
+    let total: i64 = weights.iter().map(|(gap, more)| gap + more).sum::<i64>() + behind;
+    let mut places = Vec::new();
+    let mut end = 0;
+    for (gap, more) in weights {
+        let start = end + slack * gap / total;
+        let duration = 1 + slack * more / total;
+        places.push((start, duration));
+        end = start + duration;
+    }
+    if !gaps {
+        if let Some((start, duration)) = places.last_mut() {
+            *duration = frame - *start;
+        }
+    }
+    places
+}
+
+fn channel_line(rng: &mut Rng, frame: i64, partitions: i64) -> Six {
+    let source = rng.range(1, partitions);
+    let destination = (source + rng.range(0, partitions - 2)) % partitions + 1;
+    let near = rng.range(1, 2 * frame);
+    let refresh = rng.pick(&[1, 2, 3, 5, 8, near, near, MOST_REFRESH]);
+    [source, destination, refresh, 0, 0, 0]
+}
+
+/// The text of a table.
+pub fn text(lines: &[Six]) -> Vec<Vec<u8>> {
+    lines.iter().map(|six| line::text(six).to_vec()).collect()
+}
+
+/// The module of a table given as numbers.
+pub fn module(lines: &[Six]) -> Result<Module, table::Refusal> {
+    let mut lines = lines.iter();
+    table::read(|| lines.next().map(|&six| Line::Six(six)))
+}
+
+/// A change of an accepted table's numbers that breaks one rule. It tells
+/// whether the table had a place for it.
+pub type NumberDamage = fn(&mut Rng, &mut [Six]) -> bool;
+
+/// Every reason for 12 with a line number, and the final check.
+pub const NUMBER_DAMAGES: [(&str, NumberDamage); 23] = [
+    ("line 1: M below 1", |rng, table| {
+        set(table, 0, 0, rng.pick(&[0, -1]))
+    }),
+    ("line 1: M above 10,000", |rng, table| {
+        set(table, 0, 0, rng.pick(&[10_001, 20_000, 999_999_999]))
+    }),
+    ("line 1: P below 1", |rng, table| {
+        set(table, 0, 1, rng.pick(&[0, -1]))
+    }),
+    ("line 1: P above 8", |rng, table| {
+        set(table, 0, 1, rng.pick(&[9, 10, 999_999_999]))
+    }),
+    ("line 1: windows below 1", |rng, table| {
+        set(table, 0, 2, rng.pick(&[0, -1]))
+    }),
+    ("line 1: windows above 32", |rng, table| {
+        set(table, 0, 2, rng.pick(&[33, 999_999_999]))
+    }),
+    ("line 1: channels below 0", |_, table| set(table, 0, 3, -1)),
+    ("line 1: channels above 16", |rng, table| {
+        set(table, 0, 3, rng.pick(&[17, 999_999_999]))
+    }),
+    ("line 1: a last field not 0", |rng, table| {
+        let field = 4 + rng.below(2);
+        set(table, 0, field, rng.pick(&[1, -1, 999_999_999]))
+    }),
+    ("window: first start below 0", |_, table| {
+        set(table, 1, 0, -1)
+    }),
+    ("window: start below previous end", start_below_previous_end),
+    ("window: duration below 1", |rng, table| {
+        let at = any_window(rng, table);
+        set(table, at, 1, rng.pick(&[0, -1]))
+    }),
+    ("window: end past M", |rng, table| {
+        let at = any_window(rng, table);
+        let duration = table[0][0] - table[at][0] + rng.pick(&[1, 2, 900_000_000]);
+        set(table, at, 1, duration)
+    }),
+    ("window: partition not 1..P", |rng, table| {
+        let (at, above) = (any_window(rng, table), table[0][1] + 1);
+        set(table, at, 2, rng.pick(&[0, -1, above, 999_999_999]))
+    }),
+    ("window: flag not 0 or 1", |rng, table| {
+        let at = any_window(rng, table);
+        set(table, at, 3, rng.pick(&[-1, 2, 999_999_999]))
+    }),
+    ("window: a last field not 0", |rng, table| {
+        let (at, field) = (any_window(rng, table), 4 + rng.below(2));
+        set(table, at, field, rng.pick(&[1, -1, 999_999_999]))
+    }),
+    ("channel: source not 1..P", |rng, table| {
+        let above = table[0][1] + 1;
+        let value = rng.pick(&[0, -1, above, 999_999_999]);
+        set_channel(rng, table, 0, value)
+    }),
+    ("channel: destination not 1..P", |rng, table| {
+        let above = table[0][1] + 1;
+        let value = rng.pick(&[0, -1, above, 999_999_999]);
+        set_channel(rng, table, 1, value)
+    }),
+    (
+        "channel: destination is the source",
+        |rng, table| match any_channel(rng, table) {
+            Some(at) => {
+                let source = table[at][0];
+                set(table, at, 1, source)
+            }
+            None => false,
+        },
+    ),
+    ("channel: refresh below 1", |rng, table| {
+        let value = rng.pick(&[0, -1]);
+        set_channel(rng, table, 2, value)
+    }),
+    ("channel: refresh above 9,999,999", |rng, table| {
+        let value = rng.pick(&[10_000_000, 999_999_999]);
+        set_channel(rng, table, 2, value)
+    }),
+    ("channel: a last field not 0", |rng, table| {
+        let (field, value) = (3 + rng.below(3), rng.pick(&[1, -1, 999_999_999]));
+        set_channel(rng, table, field, value)
+    }),
+    ("final check: a partition without flag", take_flags),
+];
+
+/// Sets a number and tells that there was a place for it.
+fn set(table: &mut [Six], line: usize, field: usize, value: i64) -> bool {
+    table[line][field] = value;
+    true
+}
+
+fn set_channel(rng: &mut Rng, table: &mut [Six], field: usize, value: i64) -> bool {
+    any_channel(rng, table).is_some_and(|at| set(table, at, field, value))
+}
+
+fn any_window(rng: &mut Rng, table: &[Six]) -> usize {
+    1 + rng.below(table[0][2] as usize)
+}
+
+fn any_channel(rng: &mut Rng, table: &[Six]) -> Option<usize> {
+    let (windows, channels) = (table[0][2] as usize, table[0][3] as usize);
+    (channels > 0).then(|| 1 + windows + rng.below(channels))
+}
+
+/// A later window starts inside or before an earlier one.
+fn start_below_previous_end(rng: &mut Rng, table: &mut [Six]) -> bool {
+    let windows = table[0][2];
+    if windows < 2 {
+        return false;
+    }
+    let at = rng.range(2, windows) as usize;
+    let end = table[at - 1][0] + table[at - 1][1];
+    let start = rng.pick(&[end - 1, 0, -1]);
+    set(table, at, 0, start)
+}
+
+/// Takes every flag from one partition, be it the first, a middle or the
+/// last one.
+fn take_flags(rng: &mut Rng, table: &mut [Six]) -> bool {
+    let (partitions, windows) = (table[0][1], table[0][2] as usize);
+    let partition = rng.range(1, partitions);
+    for line in &mut table[1..=windows] {
+        if line[2] == partition {
+            line[3] = 0;
+        }
+    }
+    true
+}

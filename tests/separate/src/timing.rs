@@ -1,0 +1,168 @@
+//! Inputs for timing: busy lines and ticks.
+
+use crate::calls::MOST_TIME;
+use crate::generate::print_table;
+use crate::line;
+use crate::machine::{Answer, Event};
+use crate::record::{Id, Module, Partition};
+use crate::rng::Rng;
+use crate::tables;
+use std::io::{self, Write};
+
+/// Prints a set-up in which every partition enters NORMAL, then the lines.
+struct SetUp<'a, W> {
+    module: Module,
+    out: &'a mut W,
+}
+
+impl<W: Write> SetUp<'_, W> {
+    fn event(&mut self, event: Event) -> io::Result<Answer> {
+        self.out.write_all(&line::text(&event.six()))?;
+        Ok(self.module.step(&event))
+    }
+
+    fn call(&mut self, own: Id, call: i64, fields: [i64; 4]) -> io::Result<Answer> {
+        self.event(Event {
+            partition: own as i64,
+            call,
+            fields,
+        })
+    }
+
+    /// Ticks until the partition is current.
+    fn reach(&mut self, own: Id) -> io::Result<()> {
+        while self.module.current() != own {
+            self.event(Event::TICK)?;
+        }
+        Ok(())
+    }
+}
+
+/// A table of full major frames for the two benchmarks.
+fn full_table(rng: &mut Rng, partitions: i64) -> Vec<line::Six> {
+    let windows = 2 * partitions;
+    let duration = rng.range(3, 6);
+    let mut table = vec![[windows * duration, partitions, windows, partitions, 0, 0]];
+    for window in 0..windows {
+        let flag = i64::from(window < partitions);
+        table.push([
+            window * duration,
+            duration,
+            window % partitions + 1,
+            flag,
+            0,
+            0,
+        ]);
+    }
+    for source in 1..=partitions {
+        table.push([source, source % partitions + 1, rng.range(1, 30), 0, 0, 0]);
+    }
+    table
+}
+
+fn set_up<'a, W: Write>(numbers: &[line::Six], out: &'a mut W) -> io::Result<SetUp<'a, W>> {
+    print_table(numbers, out)?;
+    Ok(SetUp {
+        module: tables::module(numbers).expect("an accepted table"),
+        out,
+    })
+}
+
+/// Many processes in several partitions, then busy lines. Process 1 of each
+/// partition never waits, so that its partition always has a caller.
+pub(crate) fn print_busy(seed: u64, count: u64, out: &mut impl Write) -> io::Result<()> {
+    let mut rng = Rng::new(seed);
+    let numbers = full_table(&mut rng, 4);
+    let mut set_up = set_up(&numbers, out)?;
+    for own in 1..=4 {
+        set_up.reach(own)?;
+        for id in 1..=16 {
+            let period = if id % 4 == 0 { numbers[0][0] } else { -1 };
+            let priority = if id == 1 { 1 } else { rng.range(2, 9) };
+            set_up.call(own, 2, [id, priority, period, rng.pick(&[-1, 5, 20])])?;
+            set_up.call(own, 3, [id, 0, 0, 0])?;
+        }
+        for name in 1..=4 {
+            set_up.call(own, 14, [name, 1, 3, 0])?;
+            set_up.call(own, 17, [name, 0, 0, 0])?;
+        }
+        set_up.call(own, 1, [3, 0, 0, 0])?;
+    }
+    for _ in 0..count {
+        let event = busy_event(&mut rng, &set_up.module);
+        set_up.event(event)?;
+    }
+    Ok(())
+}
+
+/// A tick or a call that mostly gets 0 or 7.
+fn busy_event(rng: &mut Rng, module: &Module) -> Event {
+    let own = module.current();
+    let partition = module.partition(own);
+    let caller = partition.running();
+    if rng.percent(20) || caller == 0 {
+        return Event::TICK;
+    }
+    let may_wait = caller != 1;
+    let periodic = partition.process(caller).periodic();
+    let call = match rng.below(16) {
+        0..=2 => 15,
+        3..=4 => 20,
+        5 if periodic => 10,
+        5..=6 => 9,
+        7 if !periodic => 8,
+        7..=9 => 16,
+        10 => rng.pick(&[18, 19]),
+        11 => rng.pick(&[7, 11]),
+        12 => 12,
+        13 => 13,
+        14 => 21,
+        _ => 22,
+    };
+    let call = if may_wait || ![8, 9, 15, 20].contains(&call) {
+        call
+    } else {
+        16
+    };
+    let fields = busy_fields(rng, module, partition, call);
+    Event {
+        partition: own as i64,
+        call,
+        fields,
+    }
+}
+
+fn busy_fields(rng: &mut Rng, module: &Module, partition: &Partition, call: i64) -> [i64; 4] {
+    let other = rng.range(2, partition.processes.len() as i64);
+    let own = module.current();
+    match call {
+        8 | 9 => [rng.range(1, 30), 0, 0, 0],
+        10 => [0; 4],
+        12 => [other, rng.range(2, 9), 0, 0],
+        15 | 20 => [rng.range(1, 4), rng.pick(&[-1, 10, 40]), 0, 0],
+        16 | 18 | 19 => [rng.range(1, 4), 0, 0, 0],
+        // Channel k goes from partition k to the one after it.
+        21 => [own as i64, rng.range(0, MOST_TIME), 0, 0],
+        22 => [(own + module.partitions.len() - 2) as i64 % 4 + 1, 0, 0, 0],
+        _ => [other, 0, 0, 0],
+    }
+}
+
+/// Every partition in NORMAL with processes that wait long, then ticks.
+pub(crate) fn print_ticks(seed: u64, count: u64, out: &mut impl Write) -> io::Result<()> {
+    let mut rng = Rng::new(seed);
+    let numbers = full_table(&mut rng, 8);
+    let mut set_up = set_up(&numbers, out)?;
+    for own in 1..=8 {
+        set_up.reach(own)?;
+        for id in 1..=16 {
+            set_up.call(own, 2, [id, rng.range(1, 9), -1, MOST_TIME])?;
+            set_up.call(own, 4, [id, MOST_TIME - rng.range(0, 1000), 0, 0])?;
+        }
+        set_up.call(own, 1, [3, 0, 0, 0])?;
+    }
+    for _ in 0..count {
+        set_up.event(Event::TICK)?;
+    }
+    Ok(())
+}

@@ -1,0 +1,101 @@
+//! The hand-made cases beside this package, input by input.
+
+use separate::dump;
+use separate::replay::{final_record, replay};
+use std::fs;
+use std::path::{Path, PathBuf};
+
+/// The inputs of a folder next to this package, by name.
+fn inputs(folder: &str) -> Vec<PathBuf> {
+    let folder = Path::new(env!("CARGO_MANIFEST_DIR"))
+        .join("..")
+        .join(folder);
+    let entries = fs::read_dir(&folder).expect("the folder of cases");
+    let paths = entries.map(|entry| entry.expect("an entry").path());
+    let mut inputs: Vec<_> = paths
+        .filter(|path| path.extension().is_some_and(|end| end == "in"))
+        .collect();
+    inputs.sort();
+    inputs
+}
+
+fn contents(input: &Path, extension: &str) -> Vec<u8> {
+    let path = input.with_extension(extension);
+    fs::read(&path).unwrap_or_else(|error| panic!("{}: {error}", path.display()))
+}
+
+/// Replays every input and compares with the output worked out by hand.
+fn check(folder: &str, least: usize) {
+    let inputs = inputs(folder);
+    assert!(inputs.len() >= least, "{} cases in {folder}", inputs.len());
+    for input in inputs {
+        let mut answers = Vec::new();
+        replay(contents(&input, "in").as_slice(), &mut answers).expect("a vector takes it");
+        let expected = contents(&input, "out");
+        assert_eq!(
+            String::from_utf8_lossy(&answers),
+            String::from_utf8_lossy(&expected),
+            "{}",
+            input.display()
+        );
+        let reason = contents(&input, "txt");
+        let lines = reason.iter().filter(|&&byte| byte == b'\n').count();
+        assert!((1..=5).contains(&lines), "{}", input.display());
+    }
+}
+
+#[test]
+fn the_cases_give_the_answers_worked_out_by_hand() {
+    check("cases", 40);
+}
+
+#[test]
+fn the_damaged_lines_and_tables_give_the_answers_worked_out_by_hand() {
+    check("damaged", 70);
+}
+
+#[test]
+fn the_records_worked_out_by_hand() {
+    let mut compared = 0;
+    for input in inputs("cases") {
+        if input.with_extension("dump").exists() {
+            let record = final_record(contents(&input, "in").as_slice());
+            let expected = contents(&input, "dump");
+            assert_eq!(
+                dump::text(&record),
+                String::from_utf8_lossy(&expected),
+                "{}",
+                input.display()
+            );
+            compared += 1;
+        }
+    }
+    assert!(compared >= 10, "{compared} records");
+}
+
+#[test]
+fn every_call_and_every_code_but_10_appears_in_the_cases() {
+    let mut calls = [false; 23];
+    let mut codes = [false; 14];
+    for folder in ["cases", "damaged"] {
+        for input in inputs(folder) {
+            for line in contents(&input, "in").split_inclusive(|&byte| byte == b'\n') {
+                if let separate::line::Line::Six([_, call @ 0..=22, ..]) =
+                    separate::line::read(line)
+                {
+                    calls[call as usize] = true;
+                }
+            }
+            for line in contents(&input, "out").split_inclusive(|&byte| byte == b'\n') {
+                match separate::line::read(line) {
+                    separate::line::Line::Six([code, ..]) => codes[code as usize] = true,
+                    separate::line::Line::Bad => panic!("{}", input.display()),
+                }
+            }
+        }
+    }
+    assert_eq!(calls, [true; 23]);
+    // 6 is a wake code and no answer; 10 needs the end of time.
+    let missing: Vec<_> = (0..14).filter(|&code| !codes[code]).collect();
+    assert_eq!(missing, [6, 10]);
+}

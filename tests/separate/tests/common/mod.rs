@@ -1,0 +1,167 @@
+//! A module under test and short ways to drive it.
+#![allow(dead_code)]
+
+use separate::record::{Message, Partition, Process};
+use separate::{tables, Event, Module, Six};
+
+/// One partition that owns the whole major frame of 10 ticks.
+pub const ONE: [Six; 2] = [[10, 1, 1, 0, 0, 0], [0, 10, 1, 1, 0, 0]];
+
+/// The worked example's table: partition 1 owns 0..6, partition 2 owns 6..10.
+pub const TWO: [Six; 3] = [[10, 2, 2, 0, 0, 0], [0, 6, 1, 1, 0, 0], [6, 4, 2, 1, 0, 0]];
+
+/// Two partitions, a gap at 8 and 9, channel 1 from 1 to 2 and channel 2
+/// back, channel 3 between 2 and 3, refresh 5 each.
+pub const CHANNELS: [Six; 7] = [
+    [10, 3, 3, 3, 0, 0],
+    [0, 4, 1, 1, 0, 0],
+    [4, 3, 2, 1, 0, 0],
+    [7, 1, 3, 1, 0, 0],
+    [1, 2, 5, 0, 0, 0],
+    [2, 1, 5, 0, 0, 0],
+    [2, 3, 5, 0, 0, 0],
+];
+
+pub struct World {
+    pub module: Module,
+}
+
+impl World {
+    pub fn new(table: &[Six]) -> World {
+        World {
+            module: tables::module(table).expect("an accepted table"),
+        }
+    }
+
+    pub fn one() -> World {
+        World::new(&ONE)
+    }
+
+    /// Steps and gives all six numbers.
+    pub fn event(&mut self, event: Six) -> Six {
+        self.module.step(&Event::from_six(event)).six()
+    }
+
+    /// Steps and gives code, value and extra.
+    pub fn outcome(&mut self, event: Six) -> [i64; 3] {
+        let [code, value, extra, ..] = self.event(event);
+        [code, value, extra]
+    }
+
+    pub fn code(&mut self, event: Six) -> i64 {
+        self.event(event)[0]
+    }
+
+    /// A call of partition 1 with the given fields, the others 0.
+    pub fn call(&mut self, call: i64, fields: &[i64]) -> [i64; 3] {
+        self.outcome(line(1, call, fields))
+    }
+
+    pub fn done(&mut self, call: i64, fields: &[i64]) {
+        assert_eq!(self.call(call, fields), [0, 0, 0], "call {call} {fields:?}");
+    }
+
+    pub fn waits(&mut self, call: i64, fields: &[i64]) {
+        assert_eq!(self.call(call, fields), [7, 0, 0], "call {call} {fields:?}");
+    }
+
+    /// A call of partition 1 that gets the code, value and extra 0, and
+    /// leaves the record as it was.
+    pub fn refused(&mut self, code: i64, call: i64, fields: &[i64]) {
+        self.refused_event(code, line(1, call, fields));
+    }
+
+    pub fn refused_event(&mut self, code: i64, event: Six) {
+        let before = self.module.clone();
+        assert_eq!(self.outcome(event), [code, 0, 0], "event {event:?}");
+        assert!(self.module == before, "event {event:?} changed the record");
+    }
+
+    pub fn tick(&mut self) -> Six {
+        self.event([0; 6])
+    }
+
+    pub fn ticks(&mut self, count: usize) {
+        for _ in 0..count {
+            assert_eq!(self.tick()[0], 0);
+        }
+    }
+
+    /// Creates a process of partition 1; its name is its id.
+    pub fn create(&mut self, priority: i64, period: i64, capacity: i64) -> i64 {
+        let id = self.partition().processes.len() as i64 + 1;
+        assert_eq!(self.call(2, &[id, priority, period, capacity]), [0, id, 0]);
+        id
+    }
+
+    /// Creates and starts an aperiodic process without capacity.
+    pub fn started(&mut self, priority: i64) -> i64 {
+        let id = self.create(priority, -1, -1);
+        self.done(3, &[id]);
+        id
+    }
+
+    pub fn semaphore(&mut self, start: i64, max: i64) -> i64 {
+        let id = self.partition().semaphores.len() as i64 + 1;
+        assert_eq!(self.call(14, &[id, start, max]), [0, id, 0]);
+        id
+    }
+
+    pub fn flag(&mut self) -> i64 {
+        let id = self.partition().events.len() as i64 + 1;
+        assert_eq!(self.call(17, &[id]), [0, id, 0]);
+        id
+    }
+
+    pub fn normal(&mut self) {
+        self.done(1, &[3]);
+    }
+
+    pub fn partition(&self) -> &Partition {
+        self.module.partition(1)
+    }
+
+    pub fn process(&self, id: i64) -> &Process {
+        self.partition().process(id as usize)
+    }
+
+    pub fn running(&self) -> usize {
+        self.module.running()
+    }
+
+    pub fn arrival(&self) -> Vec<usize> {
+        self.partition().arrival.iter().copied().collect()
+    }
+
+    pub fn semaphore_queue(&self, id: i64) -> Vec<usize> {
+        self.partition().semaphores[id as usize - 1]
+            .queue
+            .iter()
+            .copied()
+            .collect()
+    }
+
+    pub fn event_queue(&self, id: i64) -> Vec<usize> {
+        self.partition().events[id as usize - 1]
+            .queue
+            .iter()
+            .copied()
+            .collect()
+    }
+
+    pub fn message(&self, channel: usize) -> Option<Message> {
+        self.module.channels()[channel - 1].message
+    }
+}
+
+/// An event line with the fields from a on.
+pub fn line(partition: i64, call: i64, fields: &[i64]) -> Six {
+    let mut six = [partition, call, 0, 0, 0, 0];
+    six[2..2 + fields.len()].copy_from_slice(fields);
+    six
+}
+
+/// The six-column text of some lines.
+pub fn text(lines: &[Six]) -> Vec<u8> {
+    lines.iter().flat_map(separate::line::text).collect()
+}

@@ -1,0 +1,144 @@
+//! The dump format.
+
+mod common;
+
+use common::{text, World, CHANNELS, ONE, TWO};
+use separate::dump;
+use separate::replay::final_record;
+use separate::Module;
+
+#[test]
+fn a_refused_table_is_the_line_empty() {
+    assert_eq!(dump::text(&Module::empty()), "empty\n");
+    assert_eq!(dump::text(&final_record(&b""[..])), "empty\n");
+    assert_eq!(dump::text(&final_record(&text(&TWO)[..61])), "empty\n");
+}
+
+#[test]
+fn a_fresh_record() {
+    let expected = "\
+module t 0 current 1 running 0 frame 10 partitions 3 windows 3 channels 3
+window 1 start 0 duration 4 partition 1 flag 1
+window 2 start 4 duration 3 partition 2 flag 1
+window 3 start 7 duration 1 partition 3 flag 1
+channel 1 source 1 destination 2 refresh 5 message -1 written -1
+channel 2 source 2 destination 1 refresh 5 message -1 written -1
+channel 3 source 2 destination 3 refresh 5 message -1 written -1
+partition 1 mode 1 processes 0 semaphores 0 events 0
+arrival
+partition 2 mode 1 processes 0 semaphores 0 events 0
+arrival
+partition 3 mode 1 processes 0 semaphores 0 events 0
+arrival
+";
+    assert_eq!(dump::text(&World::new(&CHANNELS).module), expected);
+}
+
+#[test]
+fn the_worked_example_at_t_6() {
+    let mut world = World::new(&TWO);
+    for event in [[1, 2, 7, 50, -1, 5], [1, 3, 1, 0, 0, 0], [1, 1, 3, 0, 0, 0]] {
+        world.event(event);
+    }
+    world.event([1, 9, 4, 0, 0, 0]);
+    world.ticks(6);
+    let expected = "\
+module t 6 current 2 running 0 frame 10 partitions 2 windows 2 channels 0
+window 1 start 0 duration 6 partition 1 flag 1
+window 2 start 6 duration 4 partition 2 flag 1
+partition 1 mode 3 processes 1 semaphores 0 events 0
+process 1 name 7 base 50 current 50 period -1 capacity 5 release -1 deadline -1 wake -1 delay 0 \
+suspended 0 missed 1 code 0 started 1 wait none
+arrival 1
+partition 2 mode 1 processes 0 semaphores 0 events 0
+arrival
+";
+    assert_eq!(dump::text(&world.module), expected);
+}
+
+#[test]
+fn every_kind_of_wait_has_its_word() {
+    let mut world = World::one();
+    world.semaphore(0, 2);
+    world.semaphore(1, 1);
+    world.flag();
+    world.flag();
+    for priority in [1, 9, 8, 7, 6] {
+        world.started(priority);
+    }
+    world.create(5, -1, 30);
+    world.create(4, 10, 3);
+    world.create(3, -1, -1);
+    world.done(4, &[6, 9]);
+    world.done(3, &[7]);
+    world.done(18, &[2]);
+    world.normal();
+    world.waits(15, &[1, -1]);
+    world.waits(15, &[1, 20]);
+    world.waits(20, &[1, 5]);
+    world.waits(9, &[4]);
+    world.done(7, &[3]);
+    world.done(12, &[1, 2]);
+    let expected = "\
+module t 0 current 1 running 1 frame 10 partitions 1 windows 1 channels 0
+window 1 start 0 duration 10 partition 1 flag 1
+partition 1 mode 3 processes 8 semaphores 2 events 2
+process 1 name 1 base 1 current 2 period -1 capacity -1 release -1 deadline -1 wake -1 delay 0 \
+suspended 0 missed 0 code 0 started 1 wait none
+process 2 name 2 base 9 current 9 period -1 capacity -1 release -1 deadline -1 wake -1 delay 0 \
+suspended 0 missed 0 code 0 started 1 wait semaphore 1
+process 3 name 3 base 8 current 8 period -1 capacity -1 release -1 deadline -1 wake 20 delay 0 \
+suspended 1 missed 0 code 0 started 1 wait semaphore 1
+process 4 name 4 base 7 current 7 period -1 capacity -1 release -1 deadline -1 wake 5 delay 0 \
+suspended 0 missed 0 code 0 started 1 wait event 1
+process 5 name 5 base 6 current 6 period -1 capacity -1 release -1 deadline -1 wake 4 delay 0 \
+suspended 0 missed 0 code 0 started 1 wait timed
+process 6 name 6 base 5 current 5 period -1 capacity 30 release -1 deadline 39 wake 9 delay 9 \
+suspended 0 missed 0 code 0 started 1 wait delay
+process 7 name 7 base 4 current 4 period 10 capacity 3 release 10 deadline 13 wake 10 delay 0 \
+suspended 0 missed 0 code 0 started 1 wait period
+process 8 name 8 base 3 current 0 period -1 capacity -1 release -1 deadline -1 wake -1 delay 0 \
+suspended 0 missed 0 code 0 started 0 wait none
+semaphore 1 name 1 value 0 max 2
+semaphore 2 name 2 value 1 max 1
+event 1 name 1 up 0
+event 2 name 2 up 1
+arrival 1
+waiters semaphore 1 2 3
+waiters semaphore 2
+waiters event 1 4
+waiters event 2
+";
+    assert_eq!(dump::text(&world.module), expected);
+}
+
+#[test]
+fn waiting_for_normal_and_two_in_the_arrival_list() {
+    let mut world = World::one();
+    world.started(5);
+    let waiting = dump::text(&world.module);
+    assert!(waiting.contains(" started 1 wait normal\n"));
+    world.started(5);
+    world.normal();
+    assert!(dump::text(&world.module).contains("\narrival 1 2\n"));
+}
+
+#[test]
+fn a_message_shows_its_value_and_time() {
+    let mut world = World::new(&CHANNELS);
+    world.ticks(2);
+    world.done(21, &[1, 77]);
+    let line = "\nchannel 1 source 1 destination 2 refresh 5 message 77 written 2\n";
+    assert!(dump::text(&world.module).contains(line));
+}
+
+#[test]
+fn bad_event_lines_step_nothing() {
+    let mut input = text(&ONE);
+    input.extend(text(&[[0; 6]]));
+    let one_tick = dump::text(&final_record(input.as_slice()));
+    input.extend(b"\nbad\n");
+    input.extend(&text(&[[0; 6]])[..60]);
+    assert_eq!(dump::text(&final_record(input.as_slice())), one_tick);
+    assert!(one_tick.starts_with("module t 1 current 1 "));
+}

@@ -1,0 +1,158 @@
+//! The generator reaches what it is there to reach.
+
+use separate::coverage::{Coverage, CORNERS, REASONS, TABLES, WAITS};
+use separate::generate::{generate, Kind};
+use separate::line::{self, Line};
+use separate::replay::{final_record, read_table, replay, Lines};
+
+fn input(seed: u64, kind: Kind, count: u64) -> Vec<u8> {
+    let mut out = Vec::new();
+    generate(seed, kind, count, &mut out).expect("a vector takes every byte");
+    out
+}
+
+fn output(input: &[u8]) -> Vec<u8> {
+    let mut out = Vec::new();
+    replay(input, &mut out).expect("a vector takes every byte");
+    out
+}
+
+/// The codes of the answers to an input.
+fn codes(input: &[u8]) -> Vec<i64> {
+    output(input)
+        .chunks_exact(61)
+        .map(|bytes| match line::read(bytes) {
+            Line::Six(six) => six[0],
+            Line::Bad => panic!("an answer that is no line"),
+        })
+        .collect()
+}
+
+#[test]
+fn every_pair_of_call_and_code_but_10_is_reached_within_200_seeds() {
+    let coverage = Coverage::of_seeds(1, 200, 1000);
+    assert_eq!(coverage.missing(), []);
+    assert_eq!(coverage.unforeseen(), []);
+    let unreached = |names: &[&'static str], counts: &[u64]| -> Vec<&str> {
+        names
+            .iter()
+            .zip(counts)
+            .filter(|(_, &count)| count == 0)
+            .map(|(name, _)| *name)
+            .collect()
+    };
+    assert_eq!(unreached(&REASONS, &coverage.reasons), Vec::<&str>::new());
+    assert_eq!(unreached(&CORNERS, &coverage.corners), Vec::<&str>::new());
+    assert_eq!(unreached(&TABLES, &coverage.tables), Vec::<&str>::new());
+}
+
+#[test]
+fn every_wait_begins_and_ends_in_every_way_it_can() {
+    let coverage = Coverage::of_seeds(1, 200, 1000);
+    // began, by signal, by time, by stop, by NORMAL, erased, suspended,
+    // resumed, by signal while suspended, by time while suspended
+    let possible = [
+        [
+            true, false, false, true, true, true, true, true, false, false,
+        ],
+        [
+            true, false, true, true, false, true, true, true, false, true,
+        ],
+        [
+            true, false, true, true, false, true, true, true, false, true,
+        ],
+        [
+            true, false, true, true, false, true, false, false, false, false,
+        ],
+        [true, true, true, true, false, true, true, true, true, true],
+        [true, true, true, true, false, true, true, true, true, true],
+        [
+            true, false, true, true, false, true, false, true, false, false,
+        ],
+    ];
+    for ((wait, counts), possible) in WAITS.iter().zip(coverage.waits).zip(possible) {
+        assert_eq!(counts.map(|count| count > 0), possible, "{wait}");
+    }
+}
+
+#[test]
+fn one_seed_gives_one_input() {
+    for kind in [
+        Kind::Table,
+        Kind::Events,
+        Kind::Busy,
+        Kind::Ticks,
+        Kind::Damaged,
+    ] {
+        assert_eq!(input(5, kind, 200), input(5, kind, 200));
+        assert_ne!(input(5, kind, 200), input(6, kind, 200));
+    }
+}
+
+#[test]
+fn events_print_an_accepted_table_and_count_good_lines() {
+    for seed in 0..50 {
+        let bytes = input(seed, Kind::Events, 100);
+        let mut lines = Lines::new(bytes.as_slice());
+        let module = read_table(&mut lines).expect("an accepted table");
+        let table = 1 + module.windows().len() + module.channels().len();
+        assert_eq!(bytes.len(), (table + 100) * 61);
+        let codes = codes(&bytes);
+        assert_eq!(codes.len(), 100);
+        assert!(codes.iter().all(|&code| code != 11));
+    }
+}
+
+#[test]
+fn busy_lines_are_mostly_accepted_calls() {
+    let codes = codes(&input(3, Kind::Busy, 20_000));
+    let accepted = codes.iter().filter(|&&code| code == 0 || code == 7).count();
+    assert!(accepted * 10 > codes.len() * 8);
+    assert!(codes.iter().all(|code| ![8, 9, 11, 13].contains(code)));
+}
+
+#[test]
+fn ticks_follow_a_set_up_where_every_partition_is_in_normal() {
+    let bytes = input(3, Kind::Ticks, 5_000);
+    assert!(codes(&bytes).iter().all(|&code| code == 0));
+    let module = final_record(bytes.as_slice());
+    assert!(module.t() >= 5_000);
+    for partition in module.partitions() {
+        assert_eq!(
+            (partition.mode.number(), partition.processes.len()),
+            (3, 16)
+        );
+        assert!(partition
+            .processes
+            .iter()
+            .all(|process| process.wake.is_some()));
+    }
+}
+
+#[test]
+fn damaged_input_has_bad_and_good_lines() {
+    let mut bad = 0;
+    for seed in 0..40 {
+        let codes = codes(&input(seed, Kind::Damaged, 200));
+        bad += codes.iter().filter(|&&code| code == 11).count();
+        assert!(codes.iter().any(|&code| code != 11));
+    }
+    assert!(bad > 1000);
+}
+
+#[test]
+fn made_up_tables_are_accepted_and_refused() {
+    let (mut accepted, mut by_11, mut by_12) = (0, 0, 0);
+    for seed in 0..400 {
+        let bytes = input(seed, Kind::Table, 0);
+        match read_table(&mut Lines::new(bytes.as_slice())) {
+            Ok(_) => accepted += 1,
+            Err(refusal) if refusal.code == 11 => by_11 += 1,
+            Err(_) => by_12 += 1,
+        }
+    }
+    assert!(
+        accepted > 30 && by_11 > 60 && by_12 > 60,
+        "{accepted} {by_11} {by_12}"
+    );
+}

@@ -1,0 +1,305 @@
+//! The programs from standard input to standard output.
+
+mod common;
+
+use common::{text, ONE, TWO};
+use separate::generate::{generate, Kind};
+use separate::replay::replay;
+use std::io::{self, BufRead, BufReader, Read, Write};
+use std::process::{Child, Command, Output, Stdio};
+
+const REPLAY: &str = env!("CARGO_BIN_EXE_replay");
+const DUMP: &str = env!("CARGO_BIN_EXE_dump");
+const GENERATE: &str = env!("CARGO_BIN_EXE_generate");
+const COVERAGE: &str = env!("CARGO_BIN_EXE_coverage");
+
+fn start(program: &str, arguments: &[&str]) -> Child {
+    Command::new(program)
+        .args(arguments)
+        .stdin(Stdio::piped())
+        .stdout(Stdio::piped())
+        .stderr(Stdio::piped())
+        .spawn()
+        .expect("the program starts")
+}
+
+fn run(program: &str, arguments: &[&str], input: &[u8]) -> Output {
+    let mut child = start(program, arguments);
+    let mut stdin = child.stdin.take().expect("a pipe");
+    let input = input.to_vec();
+    let writer = std::thread::spawn(move || stdin.write_all(&input));
+    let output = child.wait_with_output().expect("the program ends");
+    // A program that ends early closes its input.
+    let _ = writer.join().expect("the writer ends");
+    output
+}
+
+/// What `replay` prints; it ends with status 0 and writes nothing else.
+fn replayed(input: &[u8]) -> String {
+    let output = run(REPLAY, &[], input);
+    assert!(output.status.success());
+    assert_eq!(output.stderr, b"");
+    String::from_utf8(output.stdout).expect("ASCII")
+}
+
+fn lines(six: &[[i64; 6]]) -> String {
+    String::from_utf8(text(six)).expect("ASCII")
+}
+
+/// A good table and some event bytes.
+fn with_table(table: &[[i64; 6]], events: &[u8]) -> Vec<u8> {
+    let mut input = text(table);
+    input.extend_from_slice(events);
+    input
+}
+
+#[test]
+fn the_worked_example_byte_by_byte() {
+    let events = [
+        [1, 2, 7, 50, -1, 5],
+        [1, 3, 1, 0, 0, 0],
+        [1, 1, 3, 0, 0, 0],
+        [2, 1, 3, 0, 0, 0],
+        [1, 9, 4, 0, 0, 0],
+        [0, 0, 0, 0, 0, 0],
+    ];
+    let expected = "         0         1         0         0         1         0
+         0         0         0         0         1         0
+         0         0         0         0         1         1
+         8         0         0         0         1         0
+         7         0         0         0         1         0
+         0         0         0         1         1         0
+";
+    assert_eq!(replayed(&with_table(&TWO, &text(&events))), expected);
+}
+
+#[test]
+fn a_table_alone_prints_nothing() {
+    assert_eq!(replayed(&text(&TWO)), "");
+}
+
+#[test]
+fn a_bad_table_prints_one_line_and_ends_with_status_0() {
+    let mut table = TWO;
+    table[2][0] = 5;
+    let events = text(&[[0; 6]; 3]);
+    assert_eq!(
+        replayed(&with_table(&table, &events)),
+        lines(&[[12, 3, 0, 0, 0, 0]])
+    );
+    assert_eq!(replayed(b""), lines(&[[11, 1, 0, 0, 0, 0]]));
+    assert_eq!(replayed(&text(&TWO)[..122]), lines(&[[11, 3, 0, 0, 0, 0]]));
+    table = TWO;
+    table[1][3] = 0;
+    assert_eq!(
+        replayed(&with_table(&table, &events)),
+        lines(&[[12, 0, 0, 0, 0, 0]])
+    );
+}
+
+#[test]
+fn a_bad_line_runs_to_its_own_lf_and_costs_one_11() {
+    let tick = lines(&[[0; 6]]);
+    let events = format!("{tick}short\n\n{tick}{}\n{tick}", "x".repeat(200));
+    let expected = [
+        [0, 0, 0, 1, 1, 0],
+        [11, 0, 0, 1, 1, 0],
+        [11, 0, 0, 1, 1, 0],
+        [0, 0, 0, 2, 1, 0],
+        [11, 0, 0, 2, 1, 0],
+        [0, 0, 0, 3, 1, 0],
+    ];
+    assert_eq!(
+        replayed(&with_table(&ONE, events.as_bytes())),
+        lines(&expected)
+    );
+}
+
+#[test]
+fn sixty_good_columns_at_the_end_are_11() {
+    let tick = text(&[[0; 6]]);
+    assert_eq!(
+        replayed(&with_table(&ONE, &tick[..60])),
+        lines(&[[11, 0, 0, 0, 1, 0]])
+    );
+    assert_eq!(
+        replayed(&with_table(&ONE, b"x")),
+        lines(&[[11, 0, 0, 0, 1, 0]])
+    );
+}
+
+#[test]
+fn a_bad_line_shows_no_running_process() {
+    let events = [[1, 2, 7, 50, -1, 5], [1, 3, 1, 0, 0, 0], [1, 1, 3, 0, 0, 0]];
+    let mut bytes = text(&events);
+    bytes.extend(b"\n");
+    let answers = replayed(&with_table(&TWO, &bytes));
+    assert!(answers.ends_with(&lines(&[[0, 0, 0, 0, 1, 1], [11, 0, 0, 0, 1, 0]])));
+}
+
+#[test]
+fn lines_of_any_length_are_one_line() {
+    for length in [60, 61, 62, 122, 65_535, 65_536, 65_537, 3_000_000] {
+        let tick = lines(&[[0; 6]]);
+        let events = format!("{}\n{tick}", " ".repeat(length));
+        let expected = lines(&[[11, 0, 0, 0, 1, 0], [0, 0, 0, 1, 1, 0]]);
+        assert_eq!(
+            replayed(&with_table(&ONE, events.as_bytes())),
+            expected,
+            "{length}"
+        );
+        let unended = " ".repeat(length);
+        let expected = lines(&[[11, 0, 0, 0, 1, 0]]);
+        assert_eq!(
+            replayed(&with_table(&ONE, unended.as_bytes())),
+            expected,
+            "{length}"
+        );
+    }
+}
+
+/// Gives its bytes in small pieces.
+struct Pieces<'a> {
+    bytes: &'a [u8],
+    size: usize,
+}
+
+impl Read for Pieces<'_> {
+    fn read(&mut self, buffer: &mut [u8]) -> io::Result<usize> {
+        let count = self.size.min(self.bytes.len()).min(buffer.len());
+        let (now, later) = self.bytes.split_at(count);
+        buffer[..count].copy_from_slice(now);
+        self.bytes = later;
+        Ok(count)
+    }
+}
+
+#[test]
+fn the_answers_do_not_depend_on_how_the_input_arrives() {
+    for seed in 0..20 {
+        let mut input = Vec::new();
+        generate(seed, Kind::Damaged, 300, &mut input).expect("a vector takes every byte");
+        let mut whole = Vec::new();
+        replay(input.as_slice(), &mut whole).expect("a vector takes every byte");
+        for size in [1, 7, 60, 61, 62, 1000] {
+            let mut pieces = Vec::new();
+            replay(
+                Pieces {
+                    bytes: &input,
+                    size,
+                },
+                &mut pieces,
+            )
+            .expect("a vector takes it");
+            assert!(pieces == whole, "seed {seed} in pieces of {size}");
+        }
+    }
+}
+
+/// The lines of an input as the paper has them, found the plain way.
+fn plain_lines(mut input: &[u8]) -> Vec<separate::line::Line> {
+    let mut lines = Vec::new();
+    while !input.is_empty() {
+        let end = input
+            .iter()
+            .position(|&byte| byte == b'\n')
+            .map_or(input.len(), |at| at + 1);
+        lines.push(separate::line::read(&input[..end]));
+        input = &input[end..];
+    }
+    lines
+}
+
+#[test]
+fn the_input_splits_into_lines_at_each_lf() {
+    for seed in 0..50 {
+        let mut input = Vec::new();
+        generate(seed, Kind::Damaged, 200, &mut input).expect("a vector takes every byte");
+        let mut lines = separate::replay::Lines::new(input.as_slice());
+        let mut read = Vec::new();
+        while let Some(line) = lines.next_line() {
+            read.push(line);
+        }
+        assert_eq!(read, plain_lines(&input));
+    }
+}
+
+#[test]
+fn answers_come_while_the_input_is_still_open() {
+    let mut child = start(REPLAY, &[]);
+    let mut stdin = child.stdin.take().expect("a pipe");
+    let mut stdout = BufReader::new(child.stdout.take().expect("a pipe"));
+    stdin
+        .write_all(&with_table(&ONE, &text(&[[0; 6]])))
+        .expect("open");
+    let mut answer = String::new();
+    stdout.read_line(&mut answer).expect("an answer");
+    assert_eq!(answer, lines(&[[0, 0, 0, 1, 1, 0]]));
+    stdin.write_all(b"bad\n").expect("open");
+    answer.clear();
+    stdout.read_line(&mut answer).expect("an answer");
+    assert_eq!(answer, lines(&[[11, 0, 0, 1, 1, 0]]));
+    drop(stdin);
+    assert!(child.wait().expect("the program ends").success());
+}
+
+#[test]
+fn a_closed_pipe_ends_the_program_quietly() {
+    let mut child = start(REPLAY, &[]);
+    drop(child.stdout.take());
+    let mut stdin = child.stdin.take().expect("a pipe");
+    let ticks = text(&[[0; 6]; 5000]);
+    // The program stops reading at some point, so the write may fail.
+    let _ = stdin.write_all(&with_table(&ONE, &ticks));
+    drop(stdin);
+    let output = child.wait_with_output().expect("the program ends");
+    assert!(output.status.success());
+    assert_eq!(output.stderr, b"");
+}
+
+#[test]
+fn dump_prints_the_record_at_the_end() {
+    let output = run(DUMP, &[], &with_table(&ONE, &text(&[[0; 6]; 3])));
+    assert!(output.status.success());
+    let expected = "\
+module t 3 current 1 running 0 frame 10 partitions 1 windows 1 channels 0
+window 1 start 0 duration 10 partition 1 flag 1
+partition 1 mode 1 processes 0 semaphores 0 events 0
+arrival
+";
+    assert_eq!(String::from_utf8(output.stdout).expect("ASCII"), expected);
+    assert_eq!(run(DUMP, &[], b"\n").stdout, b"empty\n");
+}
+
+#[test]
+fn generate_prints_what_the_library_makes() {
+    for (name, kind) in [("events", Kind::Events), ("damaged", Kind::Damaged)] {
+        let mut expected = Vec::new();
+        generate(9, kind, 50, &mut expected).expect("a vector takes every byte");
+        let output = run(GENERATE, &["9", name, "50"], b"");
+        assert!(output.status.success() && output.stdout == expected);
+    }
+}
+
+#[test]
+fn generate_and_coverage_refuse_other_arguments() {
+    for arguments in [
+        &["1", "events"][..],
+        &["x", "events", "1"],
+        &["1", "other", "1"],
+    ] {
+        let output = run(GENERATE, arguments, b"");
+        assert!(!output.status.success() && output.stdout.is_empty());
+    }
+    for arguments in [&["1", "2"][..], &["1", "2", "x"]] {
+        assert!(!run(COVERAGE, arguments, b"").status.success());
+    }
+}
+
+#[test]
+fn coverage_names_what_was_not_reached() {
+    let output = run(COVERAGE, &["1", "1", "0"], b"");
+    let printed = String::from_utf8(output.stdout).expect("ASCII");
+    assert!(printed.contains("  call 22 READ code 5\n"));
+    assert!(printed.contains("  call 0 tick code 13\n"));
+}

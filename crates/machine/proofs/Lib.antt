@@ -13,6 +13,7 @@ pub mod Run
 pub mod TextField
 pub mod TextLine
 pub mod TextInput
+pub mod TextCases
 pub mod Lists
 pub mod Bounds
 pub mod Folds

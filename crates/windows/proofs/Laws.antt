@@ -1,13 +1,13 @@
 -- Loops over the windows of a table: what is left from window i on. Assumes nothing.
 use Prim.Native.Nat.{ℕ, _+_, _-_, _*_, _/_, _≤_, _<_, min}
 use mathlib.Core.Bool.{Bool, true, false, not}
-use mathlib.Core.List.{List, [], _∷_, map}
+use mathlib.Core.List.{[], _∷_}
 use mathlib.Core.Path.{_≡_, ap, sym, _∙_}
 use native.Mathlib.Nat.{min-eq-left, min-eq-right, div-mul-le-self, div-le-self}
 use native.Mathlib.Numerals.{add-one}
 use native.Mathlib.Omega.{arith}
 use lib.IntN.{ℤ}
-use lib.ListN.{length, getD, drop, length-take, length-map, drop-of-length-le}
+use lib.ListN.{length, getD, drop, length-take, drop-of-length-le}
 use lib.Seq.{drop-cons, getD-take}
 use borrow.Author.Tests.{not-true, not-false}
 use Rattle.machine.specs.Field.{field, between, numberOf}
@@ -16,10 +16,6 @@ use Rattle.machine.specs.Module.{noWindow, windows, covers, owner, flaggedFor, 
 use Rattle.machine.specs.declared.Field.{Field}
 use Rattle.machine.specs.declared.Table.{Table}
 use Rattle.windows.specs.Nearest.{nearer, nearest, nearestStart, waitingOf}
-
--- what owning an array of structs tells of its list stands at `map`
-pub length-mapped : (X Y : Type 0) (f : X → Y) (l : List X) (n : ℕ) → length (map f l) ≡ n → length l ≡ n
-length-mapped X Y f l n h = sym (length-map l f) ∙ h
 
 length-windows : (T : Table) → length (T .windows) ≡ windowLimit → length (windows T) ≡ min (T .windowCount) windowLimit
 length-windows T h = length-take (T .windowCount) (T .windows) ∙ ap (min (T .windowCount)) h

@@ -3,7 +3,8 @@ use native.Mathlib.Omega.{arith}
 use lib.ListN.{length}
 use borrow.Author.Needs.{needs}
 use Rattle.machine.specs.Limits.{windowLimit}
-use Rattle.windows.proofs.Laws.{length-mapped, count-low, count-high}
+use Rattle.machine.proofs.Lists.{length-mapped}
+use Rattle.windows.proofs.Laws.{count-low, count-high}
 use Rattle.windows.proofs.count.Statement.{statement}
 use Rattle.windows.proofs.count.Tie as tie
 

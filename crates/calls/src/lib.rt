@@ -69,11 +69,11 @@ fn caller_of(c: Context) -> u32
 }
 
 // WARM_START is not entered from COLD_START.
-fn is_warm_from_cold(p: Partition, a: Field) -> bool
-    ensures { λ r. ⌜ r ≡ isNumber 2 a && eqb (p .mode) 1 ⌝ }
+fn is_warm_from_cold(mode: u8, a: Field) -> bool
+    ensures { λ r. ⌜ r ≡ isNumber 2 a && eqb mode 1 ⌝ }
 {
     if fields::is_number(a, 2) {
-        p.mode == 1
+        mode == 1
     } else {
         false
     }
@@ -95,7 +95,7 @@ pub fn set_mode(p: Partition, c: Context, a: Field) -> Called
         }
         return answered(partition::enter_normal(p, c), 0);
     }
-    if is_warm_from_cold(p, a) {
+    if is_warm_from_cold(p.mode, a) {
         return answered(p, 5);
     }
     let mode = fields::number_of(a) as u8;

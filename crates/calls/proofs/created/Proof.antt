@@ -3,18 +3,13 @@ use Rattle.calls.proofs.Laws.{taken-low, taken-high}
 use borrow.Author.Needs.{needs}
 use Rattle.calls.proofs.created.Statement.{statement}
 use Rattle.calls.proofs.created.Tie as tie
-use Rattle.calls.proofs.created.Reads as reads
-use Rattle.calls.proofs.created.Lts as lts
 
--- src/lib.rt:105:13
 cast-n : tie.Need-cast-n
 cast-n c = search needs
 
--- src/lib.rt:102:1
 returns : tie.Need-returns
 returns c = (taken-low _ (c .before .before .args .p .processes) _ (c .before .before .good .0 .1 .1 .1 .0 .1 .0 .1) _ (c .if1 .taken), omega arith)
 
--- src/lib.rt:102:1
 returns-2 : tie.Need-returns-2
 returns-2 c = (taken-high _ (c .before .before .args .p .processes) _ (c .before .before .good .0 .1 .1 .1 .0 .1 .0 .1) _ (c .if1 .left), omega arith)
 

@@ -1,14 +1,10 @@
 use borrow.Author.Tests.{eq-eqb, ne-eqb}
 use Rattle.calls.proofs.is_unknown.Statement.{statement}
 use Rattle.calls.proofs.is_unknown.Tie as tie
-use Rattle.calls.proofs.is_unknown.Reads as reads
-use Rattle.calls.proofs.is_unknown.Lts as lts
 
--- src/lib.rt:59:1
 returns : tie.Need-returns
 returns c = rw (eq-eqb _ _ (c .if1 .taken))
 
--- src/lib.rt:59:1
 returns-2 : tie.Need-returns-2
 returns-2 c = rw (ne-eqb _ _ (c .if1 .left))
 

@@ -1,56 +1,16 @@
 use borrow.Author.Tests.{eq-eqb, ne-eqb}
 use Rattle.machine.specs.Calls.{checked, periodicWait}
-use borrow.Author.Needs.{needs}
 use Rattle.calls.proofs.periodic_wait.Statement.{statement}
 use Rattle.calls.proofs.periodic_wait.Tie as tie
-use Rattle.calls.proofs.periodic_wait.Reads as reads
-use Rattle.calls.proofs.periodic_wait.Lts as lts
-use Rattle.calls.proofs.answered.Reads as answered-reads
-use Rattle.calls.proofs.block.Reads as block-reads
-use Rattle.calls.proofs.caller_of.Reads as caller-of-reads
-use Rattle.partition.proofs.process_at.Reads as process-at-reads
-use Rattle.process.proofs.is_periodic.Reads as is-periodic-reads
-use Rattle.process.proofs.next_release.Reads as next-release-reads
 
--- src/lib.rt:378:9
-answered-requires : tie.Need-answered-requires
-answered-requires c κs = search needs
-
--- src/lib.rt:378:9
 returns : tie.Need-returns
 unfolding periodicWait checked
 returns c = rw (c .answered .ensures, ne-eqb _ _ (c .before .if1 .taken))
 
--- src/lib.rt:380:9
-caller-of-requires : tie.Need-caller-of-requires
-caller-of-requires c κs = search needs
-
--- src/lib.rt:381:9
-process-at-requires : tie.Need-process-at-requires
-process-at-requires c κs = search needs
-
--- src/lib.rt:382:9
-is-periodic-requires : tie.Need-is-periodic-requires
-is-periodic-requires c κs = search needs
-
--- src/lib.rt:383:9
-answered-requires-2 : tie.Need-answered-requires-2
-answered-requires-2 c κs = search needs
-
--- src/lib.rt:383:9
 returns-2 : tie.Need-returns-2
 unfolding periodicWait checked
 returns-2 c = rw (c .answered2 .ensures, eq-eqb _ _ (c .before .before .before .before .before .if1 .left), ← c .before .before .before .before .caller-of .ensures, ← c .before .before .before .process-at .ensures, ← c .before .before .is-periodic .ensures, c .before .if2 .taken)
 
--- src/lib.rt:385:18
-next-release-requires : tie.Need-next-release-requires
-next-release-requires c κs = search needs
-
--- src/lib.rt:385:5
-block-requires : tie.Need-block-requires
-block-requires c κs = search needs
-
--- src/lib.rt:374:1
 returns-3 : tie.Need-returns-3
 unfolding periodicWait checked
 returns-3 c = rw (c .block .ensures, c .before .next-release .ensures, eq-eqb _ _ (c .before .before .before .before .before .before .if1 .left), ← c .before .before .before .before .before .caller-of .ensures, ← c .before .before .before .before .process-at .ensures, ← c .before .before .before .is-periodic .ensures, c .before .before .if2 .left)
@@ -59,13 +19,13 @@ pub periodic-wait-spec : {M : Type 1} → statement M
 periodic-wait-spec =
     tie.close
     (tie.spec
-    answered-requires
+    (λ _ _. tt)
     returns
-    caller-of-requires
-    process-at-requires
-    is-periodic-requires
-    answered-requires-2
+    (λ _ _. tt)
+    (λ _ _. tt)
+    (λ _ _. tt)
+    (λ _ _. tt)
     returns-2
-    next-release-requires
-    block-requires
+    (λ _ _. tt)
+    (λ _ _. tt)
     returns-3)

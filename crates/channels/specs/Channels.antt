@@ -2,12 +2,11 @@
 use Prim.Native.Nat.{ℕ, zero, suc}
 use mathlib.Core.Bool.{Bool, true, cond, not}
 use mathlib.Core.List.{List, [], _∷_}
-use lib.Dec.{eqb}
 use lib.ListN.{set}
 use Rattle.machine.specs.Calls.{coded, valued, checked}
 use Rattle.machine.specs.Field.{isDuration, numberOf}
 use Rattle.machine.specs.Limits.{channelLimit}
-use Rattle.machine.specs.Module.{noMessage, channel, namedChannel, channelChecks, age}
+use Rattle.machine.specs.Module.{noMessage, channel, namedChannel, channelChecks, age, leadsInto}
 use Rattle.machine.specs.declared.Message.{Message}
 use Rattle.machine.specs.declared.Reply.{Reply}
 use Rattle.machine.specs.declared.Request.{Request}
@@ -34,7 +33,7 @@ readReply T t k r x =
 -- the messages of the first n channels into partition k erased
 unfoldable pub erasedUpTo : Table → ℕ → ℕ → List Message → List Message
 erasedUpTo T k zero l = l
-erasedUpTo T k (suc n) l = cond (eqb (channel T n .destination) k) (set (erasedUpTo T k n l) n noMessage) (erasedUpTo T k n l)
+erasedUpTo T k (suc n) l = cond (leadsInto k (channel T n)) (set (erasedUpTo T k n l) n noMessage) (erasedUpTo T k n l)
 
 abbrev pub erasedIn : Table → ℕ → Messages → Messages
 erasedIn T k m = record { items = erasedUpTo T k channelLimit (m .items) }

@@ -2,20 +2,16 @@
 use Prim.Native.Nat.{ℕ, suc, _+_, _-_, _≤_, _<_, min}
 use mathlib.Core.Path.{_≡_, refl, ap, sym, _∙_}
 use mathlib.Core.Bool.{Bool, true, false, cond}
-use mathlib.Core.List.{List, [], _∷_, _++_, map, append-assoc, append-nil}
+use mathlib.Core.List.{List, [], _∷_, _++_, append-assoc, append-nil}
 use native.Mathlib.Omega.{arith}
 use native.Mathlib.Numerals.{add-one}
 use native.Mathlib.Nat.{min-eq-left, min-eq-right}
-use lib.ListN.{length, getD, set, take, drop, replicate, length-append, length-take, length-map, drop-of-length-le}
+use lib.ListN.{length, getD, set, take, drop, replicate, length-append, length-take, drop-of-length-le}
 use lib.Seq.{set-append-seam, take-suc, drop-cons, take-append-seam, getD-take, take-take}
 use borrow.Author.Tests.{lt-ltb}
 use Rattle.machine.specs.declared.Ids.{Ids}
 use Rattle.machine.specs.Limits.{processLimit}
 use Rattle.machine.specs.Ids.{members, idsOf, keptIf, kept, appended}
-
--- what owning an array of structs tells of its list stands at `map`: `search (needs, length-mapped)` finds the length
-pub length-mapped : (X Y : Type 0) (f : X → Y) (l : List X) (n : ℕ) → length (map f l) ≡ n → length l ≡ n
-length-mapped X Y f l n h = sym (length-map l f) ∙ h
 
 pub length-members : (q : Ids) → length (q .items) ≡ processLimit → length (members q) ≡ min (q .len) processLimit
 length-members q h = length-take (q .len) (q .items) ∙ ap (min (q .len)) h

@@ -1,39 +1,27 @@
 -- Loops over the windows of a table: what is left from window i on. Assumes nothing.
-use Prim.Native.Nat.{ℕ, _+_, _-_, _*_, _/_, _≤_, _<_, min}
+use Prim.Native.Nat.{ℕ, _+_, _-_, _*_, _/_, _≤_, _<_}
 use mathlib.Core.Bool.{Bool, true, false, not}
 use mathlib.Core.List.{[], _∷_}
 use mathlib.Core.Path.{_≡_, ap, sym, _∙_}
-use native.Mathlib.Nat.{min-eq-left, min-eq-right, div-mul-le-self, div-le-self}
-use native.Mathlib.Numerals.{add-one}
+use native.Mathlib.Nat.{div-mul-le-self, div-le-self}
 use native.Mathlib.Omega.{arith}
 use lib.IntN.{ℤ}
-use lib.ListN.{length, getD, drop, length-take, drop-of-length-le}
-use lib.Seq.{drop-cons, getD-take}
+use lib.ListN.{length, getD, drop}
 use borrow.Author.Tests.{not-true, not-false}
 use Rattle.machine.specs.Field.{field, between, numberOf}
-use Rattle.machine.specs.Limits.{windowLimit, timeLimit}
+use Rattle.machine.specs.Limits.{timeLimit}
 use Rattle.machine.specs.Module.{noWindow, windows, covers, owner, flaggedFor, firstFlagged}
 use Rattle.machine.specs.declared.Field.{Field}
 use Rattle.machine.specs.declared.Table.{Table}
+use Rattle.machine.proofs.Taken.{taken-more, taken-done}
 use Rattle.windows.specs.Nearest.{nearer, nearest, nearestStart, waitingOf}
-
-length-windows : (T : Table) → length (T .windows) ≡ windowLimit → length (windows T) ≡ min (T .windowCount) windowLimit
-length-windows T h = length-take (T .windowCount) (T .windows) ∙ ap (min (T .windowCount)) h
-
-pub count-low : (T : Table) → length (T .windows) ≡ windowLimit → T .windowCount < windowLimit → T .windowCount ≡ length (windows T)
-count-low T h s = sym (length-windows T h ∙ min-eq-left (omega arith))
-
-pub count-high : (T : Table) → length (T .windows) ≡ windowLimit → windowLimit ≤ T .windowCount → windowLimit ≡ length (windows T)
-count-high T h s = sym (length-windows T h ∙ min-eq-right s)
 
 module _ (T : Table) (i : ℕ) where
   next-window : i < length (windows T) → drop i (windows T) ≡ getD (T .windows) i noWindow ∷ drop (i + 1) (windows T)
-  next-window h =
-      let s : i < T .windowCount = omega (arith, length-take (T .windowCount) (T .windows)) in
-      rw (add-one, drop-cons (windows T) i noWindow h, getD-take (T .windowCount) (T .windows) i noWindow s)
+  next-window = taken-more (T .windows) (T .windowCount) i noWindow
 
   no-window : length (windows T) ≤ i → drop i (windows T) ≡ []
-  no-window h = drop-of-length-le (windows T) h
+  no-window = taken-done (T .windows) (T .windowCount) i noWindow
 
   -- it owns place x, or the later ones decide, or none is left
   module _ (x : ℕ) where

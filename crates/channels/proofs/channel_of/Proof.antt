@@ -2,7 +2,7 @@ use mathlib.Core.Path.{_≡_}
 use lib.ListN.{length}
 use borrow.Author.Needs.{needs}
 use Rattle.machine.specs.Limits.{channelLimit}
-use Rattle.machine.proofs.Lists.{length-mapped}
+use Rattle.machine.proofs.Taken.{length-mapped}
 use Rattle.channels.proofs.Laws.{no-channel}
 use Rattle.channels.proofs.channel_of.Statement.{statement}
 use Rattle.channels.proofs.channel_of.Tie as tie

@@ -1,7 +1,6 @@
 use Prim.Native.Nat.{_-_, _≤_}
 use mathlib.Core.Path.{_≡_, refl, sym, _∙_}
 use native.Mathlib.Omega.{arith}
-use borrow.Author.Needs.{needs}
 use lib.ListN.{take, drop}
 use Rattle.machine.specs.declared.Semaphore.{Semaphore}
 use Rattle.machine.specs.Partition.{noSemaphore}
@@ -9,11 +8,6 @@ use Rattle.machine.specs.Calls.{semaphoreNamed}
 use Rattle.machine.proofs.Taken.{name-found, name-more, name-done}
 use Rattle.objects.proofs.is_semaphore_named.Statement.{statement}
 use Rattle.objects.proofs.is_semaphore_named.Tie as tie
-use Rattle.objects.proofs.is_semaphore_named.Reads as reads
-use Rattle.objects.proofs.is_semaphore_named.Lts as lts
-use Rattle.fields.proofs.is_number.Reads as is-number-reads
-use Rattle.objects.proofs.semaphores_made.Reads as semaphores-made-reads
-use Rattle.objects.proofs.wide.Reads as wide-reads
 
 abbrev Inv-loop : tie.InvT-loop
 Inv-loop name p n i₀ i = (i ≤ n) × (semaphoreNamed name (drop i (take (p .semaphoreCount) (p .semaphores))) ≡ semaphoreNamed name (take (p .semaphoreCount) (p .semaphores)))
@@ -21,47 +15,24 @@ Inv-loop name p n i₀ i = (i ≤ n) × (semaphoreNamed name (drop i (take (p .s
 abbrev μ-loop : tie.MeasureT-loop
 μ-loop name p n i₀ i = n - i
 
--- src/lib.rt:131:9
-semaphores-made-requires : tie.Need-semaphores-made-requires Inv-loop μ-loop
-semaphores-made-requires c κs = search needs
-
--- src/lib.rt:133:5
 loop-holds : tie.Need-loop-holds Inv-loop μ-loop
 loop-holds c = (omega arith, refl)
 
--- src/lib.rt:134:17
 mul-x : tie.Need-mul-x Inv-loop μ-loop
 mul-x c = omega (arith, c .before .before .semaphores-made .ensures .1)
 
--- src/lib.rt:134:17
 element-copy-out-x : tie.Need-element-copy-out-x Inv-loop μ-loop
 element-copy-out-x c = omega (arith, c .before .before .semaphores-made .ensures .1)
 
--- src/lib.rt:135:36
-wide-requires : tie.Need-wide-requires Inv-loop μ-loop
-wide-requires c κs = search needs
-
--- src/lib.rt:135:12
-is-number-requires : tie.Need-is-number-requires Inv-loop μ-loop
-is-number-requires c κs = search needs
-
--- src/lib.rt:136:13
 returns : tie.Need-returns Inv-loop μ-loop
 returns c = let p = c .before .before .before .before .before .before .before .args .t1 in sym (name-found (p .semaphores) (p .semaphoreCount) (c .before .before .before .before .before .loop .i) noSemaphore (λ (x : Semaphore). x .name) _ (omega (arith, c .before .before .before .before .before .before .semaphores-made .ensures .0)) (rw (← c .before .before .wide .ensures) (sym (c .before .is-number .ensures) ∙ c .if1 .taken))) ∙ c .before .before .before .before .before .loop .inv .1
 
--- src/lib.rt:138:13
 add-i : tie.Need-add-i Inv-loop μ-loop
 add-i c = omega (arith, c .before .before .before .before .before .before .semaphores-made .ensures .1)
 
--- src/lib.rt:133:5
-loop-less : tie.Need-loop-less Inv-loop μ-loop
-loop-less c = omega arith
-
--- src/lib.rt:133:5
 loop-again : tie.Need-loop-again Inv-loop μ-loop
 loop-again c = let p = c .before .before .before .before .before .before .before .args .t1 in (omega arith, sym (name-more (p .semaphores) (p .semaphoreCount) (c .before .before .before .before .before .loop .i) noSemaphore (λ (x : Semaphore). x .name) _ (omega (arith, c .before .before .before .before .before .before .semaphores-made .ensures .0)) (rw (← c .before .before .wide .ensures) (sym (c .before .is-number .ensures) ∙ c .if1 .left))) ∙ c .before .before .before .before .before .loop .inv .1)
 
--- src/lib.rt:128:1
 returns-2 : tie.Need-returns-2 Inv-loop μ-loop
 returns-2 c = let p = c .before .before .before .args .t1 in sym (name-done (p .semaphores) (p .semaphoreCount) (c .before .loop .i) noSemaphore (λ (x : Semaphore). x .name) _ (omega (arith, c .before .before .semaphores-made .ensures .0))) ∙ c .before .loop .inv .1
 
@@ -71,14 +42,14 @@ is-semaphore-named-spec =
     (tie.spec
     Inv-loop
     μ-loop
-    semaphores-made-requires
+    (λ _ _. tt)
     loop-holds
     mul-x
     element-copy-out-x
-    wide-requires
-    is-number-requires
+    (λ _ _. tt)
+    (λ _ _. tt)
     returns
     add-i
-    loop-less
+    (λ c. omega arith)
     loop-again
     returns-2)

@@ -62,7 +62,7 @@ pub fn is_unknown(id: u32, count: u8) -> bool
     if id == 0 { true } else { (count as u32) < id }
 }
 
-fn caller_of(c: Context) -> u32
+pub fn caller_of(c: Context) -> u32
     ensures { λ r. ⌜ r ≡ c .caller ⌝ }
 {
     c.caller as u32

@@ -1,13 +1,13 @@
 -- Reading: what each loop of the reader has done.
 -- Assumes nothing.
-use Prim.Native.Nat.{ℕ, zero, suc, _+_, _-_, _*_, _/_, _%_, _^_, _≤_, _<_}
+use Prim.Native.Nat.{ℕ, suc, _+_, _-_, _*_, _/_, _^_, _≤_, _<_}
 use mathlib.Core.Path.{_≡_, refl, sym, _∙_, ap}
 use mathlib.Core.Bool.{Bool, true, false, cond, _&&_, and-comm, and-assoc, and-true}
 use mathlib.Core.List.{List, [], _∷_, _++_, append-assoc, append-nil}
 use native.Mathlib.Omega.{arith}
 use native.Mathlib.Nat.{pow-succ', pow-le-pow-right}
 use native.Mathlib.Numerals.{add-one}
-use lib.ListN.{length, getD, take, drop, set, length-take, length-drop, drop-of-length-le}
+use lib.ListN.{length, getD, take, drop, set, drop-of-length-le}
 use lib.Seq.{take-suc, take-suc-set, take-all, drop-cons, drop-drop, length-take-le}
 use lib.Dec.{eqb, leb, lit<}
 use borrow.Author.Tests.{eq-eqb, ne-eqb, le-leb, lt-leb, leb-true}
@@ -16,16 +16,16 @@ use lib.IntN.{ℤ, pos, negsuc}
 use mir.Syntax.{w64}
 use mir.Val.{toZ, ofZ}
 use mir.ValLaws.{toZ-pos}
-use Rattle.machine.specs.declared.Line.{Line}
 use Rattle.machine.specs.declared.Line.the-variants.{Six, Bad}
 use Rattle.machine.specs.Limits.{numberLimit, lineLength}
-use Rattle.machine.specs.Text.{lineFeed, space, minus, zeroDigit, base, fieldWidth, inRange, column, markAfter, columns, lastDigit, numberText, fieldText, sameBytes, spelled, candidate, readField, joined, fieldCount, readNumbers, readLine, readAt, firstLength, lineEnd}
-use Rattle.machine.proofs.TextField.{byTest, columns-length, columns-more, columns-none, read-field}
-use Rattle.machine.proofs.TextLine.{reads-more, reads-none, six-length, read-line, read-six}
+use Rattle.machine.specs.Text.{lineFeed, space, minus, zeroDigit, base, fieldWidth, inRange, column, markAfter, columns, lastDigit, numberText, fieldText, sameBytes, spelled, candidate, readField, joined, fieldCount, readNumbers, readLine, firstLength, lineEnd}
+use Rattle.machine.proofs.TextField.{columns-length, columns-more, columns-none, read-field}
+use Rattle.machine.proofs.TextLine.{reads-more, reads-none, read-line}
 use Rattle.line.proofs.Signed.{range-back, ranges-back}
 use Rattle.line.specs.declared.Found.{Found}
 use Rattle.line.specs.declared.Found.the-variants.{Number, Nothing}
 use Rattle.line.specs.Found.{foundOf}
+use Rattle.machine.proofs.Bounds.{either}
 
 -- ---------------------------------------------------------------- the number that columns spell
 pub spelled-more : (l : List ℕ) (i v d r : ℕ) → i < length l → d ≡ getD l i 0 - zeroDigit → spelled (drop i l) v ≡ r
@@ -142,7 +142,7 @@ module _ (l : List ℕ) (i r : ℕ) (e : lineEnd l i ≡ r) where
   pub end-past : length l ≤ i → length l ≡ r
   unfolding firstLength
   end-past h =
-      byTest (leb i (length l))
+      either (leb i (length l))
       (λ t. let q : i + 0 ≡ r = rw (t, drop-of-length-le l {i = i} h) at e in omega (arith, leb-true i (length l) t))
       (λ t. rw t at e)
 
@@ -171,13 +171,6 @@ ahead-joined zs x (some ns) = ap some (sym (append-assoc zs (x ∷ []) ns))
 bad-line : (s : List ℕ) → readNumbers fieldCount s ≡ none → Bad ≡ readLine s
 unfolding readLine
 bad-line s e = rw e
-
-pub long-line : (s : List ℕ) → (length s ≡ lineLength → ⊥) → Bad ≡ readLine s
-long-line s h = go (readLine s) refl
-  where
-    go : (r : Line) → readLine s ≡ r → Bad ≡ readLine s
-    go Bad e = sym e
-    go (Six n) e = absurd (h (ap length (read-six s n e .0) ∙ six-length n))
 
 -- what is left to read after i numbers gives the whole
 module _ (s : List ℕ) (ns : List ℤ) (i : ℕ) (l : length ns ≡ fieldCount) (q : ahead (take i ns) (readNumbers (fieldCount - i) (drop (i * fieldWidth) s)) ≡ readNumbers fieldCount s) where
@@ -230,8 +223,3 @@ module _ (s : List ℕ) (ns : List ℤ) (i : ℕ) (l : length ns ≡ fieldCount)
         sym (closed true (eq-eqb (getD s (lineLength - 1) 0) lineFeed g)) ∙ rw append-nil
         in
         rw r (simp (ranges-back ns (read-line fieldCount s ns r .range)))
-
--- ---------------------------------------------------------------- a line in the middle of the input
-pub few-left : (input : List ℕ) (at : ℕ) → length input < at + lineLength → Bad ≡ readAt input at
-few-left input at h =
-    long-line (take lineLength (drop at input)) (λ e. omega (arith, length-take lineLength (drop at input), length-drop at input))

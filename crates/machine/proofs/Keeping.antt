@@ -1,23 +1,23 @@
 -- What storing processes, semaphores and events does to a partition's lists, one at a time or over a list of ids. Assumes nothing.
 use Prim.Native.Nat.{ℕ, zero, suc, _+_, _-_, _≤_, _<_}
 use mathlib.Core.Path.{_≡_, refl, ap, sym, _∙_}
-use mathlib.Core.Bool.{Bool, true, false, cond, not, _&&_, _||_, and-true, and-false, or-true}
-use mathlib.Core.List.{List, [], _∷_, _++_}
-use mathlib.Core.Logic.{_⊎_, ⊎-elim, inl, inr}
+use mathlib.Core.Bool.{Bool, true, false, cond, _&&_, and-true, and-false, or-true}
+use mathlib.Core.List.{List, [], _∷_}
+use mathlib.Core.Logic.{⊎-elim}
 use native.Mathlib.Omega.{arith}
 use lib.ListN.{length, getD, set, length-set}
-use lib.Dec.{eqb, ltb, leb}
-use borrow.Author.Tests.{eq-eqb, ne-eqb, lt-ltb, le-ltb, lt-leb, eqb-true, eqb-false, ltb-true, ltb-false}
+use lib.Dec.{eqb, ltb}
+use borrow.Author.Tests.{eq-eqb, ne-eqb, eqb-true, eqb-false, ltb-true, ltb-false}
 use Rattle.machine.specs.declared.Ids.{Ids}
 use Rattle.machine.specs.declared.Process.{Process}
 use Rattle.machine.specs.declared.Partition.{Partition}
-use Rattle.machine.specs.Limits.{processLimit, semaphoreLimit, eventLimit}
+use Rattle.machine.specs.Limits.{processLimit}
 use Rattle.machine.specs.Ids.{members, other, removed, follow}
 use Rattle.machine.specs.Process.{blankProcess, ready, onObject, waitEnded}
 use Rattle.machine.specs.Partition.{within, named, process, withProcesses, stored, arrivedLast, ended, endedAll, eachFrom, each}
-use Rattle.machine.specs.Valid.{Between, contains, Distinct, Tracks, Numbered, Listed, ListedIn, ObjectsIn, SoundProcess, settingOf, Valid}
+use Rattle.machine.specs.Valid.{Between, contains, Distinct, Tracks, Numbered, ListedIn, ObjectsIn, SoundProcess, settingOf, Valid}
 use Rattle.machine.proofs.Tests.{by-test, not-both}
-use Rattle.machine.proofs.Bounds.{not-so, same-or-not, or-false-parts, and-true-parts, within-in, within-out, named-in, named-same, named-other, stored-in, stored-out, either}
+use Rattle.machine.proofs.Bounds.{not-so, same-or-not, and-true-parts, within-in, within-out, named-in, named-same, named-other, stored-in, stored-out, either}
 use Rattle.machine.proofs.Tracking.{Ranged, tracks-room, tracks-append, tracks-remove, tracks-follow}
 
 -- ---------------------------------------------------------------- one of a list replaced, or the next one created
@@ -191,23 +191,33 @@ module _ (f : Process → Process) (p : Partition) (v : ListedIn p) where
 
 -- ---------------------------------------------------------------- the end of the arrival list
 -- a READY process that goes there
-pub arrived-listed : (p : Partition) → ListedIn p → (id : ℕ) → ready (process id p) ≡ true → ListedIn (arrivedLast id p)
-unfolding arrivedLast
-arrived-listed p v id h =
-    let f : ℕ → Bool = λ y. ready (process y p) in
-    let g : ℕ → Bool = λ y. f y && other id y in
-    let r = process-ranged ready refl (p .processes) in
-    let none : g id ≡ false = rw (eq-eqb id id refl) (and-false (ready (process id p))) in
-    let away : Tracks g (removed id (p .arrival)) =
-    tracks-remove f (p .arrival) (v .arrivals) g id (λ y ne. rw (ne-eqb y id ne) (and-true (ready (process y p)))) none in
-    let b = r id h in
-    record {
-      numbered = v .numbered;
-      arrivals = tracks-append g (removed id (p .arrival)) away f id
-          (λ y ne. rw (ne-eqb y id ne) (sym (and-true (ready (process y p)))))
-          (tracks-room g (removed id (p .arrival)) away (λ y t. r y (and-true-parts (f y) (other id y) t .0)) id (b .0) (b .1) none) none h;
-      waitings = v .waitings;
-    }
+module _ (p : Partition) (v : ListedIn p) (id : ℕ) (h : ready (process id p) ≡ true) where
+  -- READY, and another
+  abbrev away : ℕ → Bool
+  away y = ready (process y p) && other id y
+
+  none-away : away id ≡ false
+  none-away = rw (eq-eqb id id refl) (and-false (ready (process id p)))
+
+  same-away : (y : ℕ) → (y ≡ id → ⊥) → away y ≡ ready (process y p)
+  same-away y ne = rw (ne-eqb y id ne) (and-true (ready (process y p)))
+
+  removed-tracks : Tracks away (removed id (p .arrival))
+  removed-tracks = tracks-remove (λ y. ready (process y p)) (p .arrival) (v .arrivals) away id same-away none-away
+
+  pub removed-room : length (members (removed id (p .arrival))) < processLimit
+  removed-room =
+      let r = process-ranged ready refl (p .processes) in
+      let b = r id h in
+      tracks-room away (removed id (p .arrival)) removed-tracks (λ y t. r y (and-true-parts (ready (process y p)) (other id y) t .0)) id (b .0) (b .1) none-away
+
+  pub arrived-listed : ListedIn (arrivedLast id p)
+  unfolding arrivedLast
+  arrived-listed = record {
+    numbered = v .numbered;
+    arrivals = tracks-append away (removed id (p .arrival)) removed-tracks (λ y. ready (process y p)) id (λ y ne. sym (same-away y ne)) removed-room none-away h;
+    waitings = v .waitings;
+  }
 
 -- ---------------------------------------------------------------- a valid partition, from its parts
 pub valid-of : (frame t : ℕ) (p q : Partition) → Rest p q → p .mode ≤ 3 → ObjectsIn p → ListedIn q → ((id : ℕ) → Between 1 (p .processCount) id → SoundProcess (settingOf frame t p) (process id q)) → Valid frame t q

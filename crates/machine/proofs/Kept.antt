@@ -1,13 +1,12 @@
 -- The tick and every call keep a partition valid, and a partition with nothing created is valid. Assumes nothing.
-use Prim.Native.Nat.{ℕ, zero, suc, _+_, _-_, _%_, _≤_, _<_}
+use Prim.Native.Nat.{ℕ, _+_, _-_, _%_, _≤_, _<_}
 use mathlib.Core.Path.{_≡_, refl, ap, sym, _∙_}
-use mathlib.Core.Bool.{Bool, true, false, cond, not, _&&_, _||_, or-true, and-false}
+use mathlib.Core.Bool.{Bool, true, false, not, _||_}
 use mathlib.Core.List.{List, [], _∷_}
-use mathlib.Core.Logic.{⊎-elim}
 use native.Mathlib.Omega.{arith}
-use lib.ListN.{length, getD, set, take, replicate, length-replicate}
-use lib.Dec.{eqb, ltb, leb}
-use borrow.Author.Tests.{eq-eqb, ne-eqb, eqb-true, eqb-false, ltb-true, ltb-false, leb-true, leb-false, not-true, not-false}
+use lib.ListN.{set, replicate, length-replicate}
+use lib.Dec.{eqb, ltb}
+use borrow.Author.Tests.{eq-eqb, ne-eqb, eqb-true, eqb-false, ltb-false, leb-false, not-true, not-false}
 use Rattle.machine.specs.declared.Given.{Given}
 use Rattle.machine.specs.declared.Ids.{Ids}
 use Rattle.machine.specs.declared.Process.{Process}
@@ -18,23 +17,23 @@ use Rattle.machine.specs.declared.Request.{Request}
 use Rattle.machine.specs.declared.Field.{Field}
 use Rattle.machine.specs.declared.Field.the-variants.{Number, MinusOne, Other}
 use Rattle.machine.specs.declared.Wait.{Wait}
-use Rattle.machine.specs.declared.Wait.the-variants.{None, Normal, Delay, Timed, Period, Semaphore, Event}
+use Rattle.machine.specs.declared.Wait.the-variants.{Timed, Semaphore, Event}
 use Rattle.machine.specs.declared.Time.{Time}
 use Rattle.machine.specs.declared.Time.the-variants.{Never, At}
 use Rattle.machine.specs.Limits.{processLimit, semaphoreLimit, eventLimit, nameLimit, priorityLimit, valueLimit, durationLimit, timeLimit, greatestValue}
 use Rattle.machine.specs.Ids.{members}
 use Rattle.machine.specs.Field.{isNumber, between, isDuration, isMinusOne, isTimeout, isName, numberOf, timeOf}
-use Rattle.machine.specs.Process.{createdProcess, blankProcess, later, object, onObject, periodic, ready, waitEnded, withSuspended, withCurrent, waitingFor, suspendedUntil, startRule, startedEarly, entered, stopped, resumed, nextRelease, ticked}
-use Rattle.machine.specs.Partition.{normalMode, idleMode, named, replaced, nothingCreated, noSemaphore, noEvent, process, semaphore, event, withMode, withProcesses, stored, arrivedLast, waitsOn, waiters, ended, endedAll, each, running, tickPartition, enteredNormal, freshPartition}
-use Rattle.machine.specs.Calls.{refused, answered, answeredWith, blocked, checked, startMode, unknown, dormant, setMode, isMultiple, above, isPriority, admissible, withNewProcess, createProcess, reaches, start, stop, stopSelf, suspend, suspendSelf, timedWait, periodicWait, resume, setPriority, getStatus, createSemaphore, createEvent, withValue, withUp, queued, waitSemaphore, waitEvent, oneMore, signalled, signal, setEvent, resetEvent, partitionCall}
-use Rattle.machine.specs.Valid.{Between, contains, Distinct, Tracks, Timeout, Ahead, SoundPeriod, SoundCapacity, NotAbove, Below, SoundGiven, KnownWait, Setting, setting, SoundProcess, SoundSemaphore, SoundEvent, Numbered, Listed, ListedIn, Objects, ObjectsIn, settingOf, Valid, SoundContext}
+use Rattle.machine.specs.Process.{createdProcess, blankProcess, later, object, onObject, periodic, ready, waitEnded, withCurrent, waitingFor, entered, ticked}
+use Rattle.machine.specs.Partition.{normalMode, idleMode, named, nothingCreated, noSemaphore, noEvent, process, semaphore, event, withMode, stored, waitsOn, waiters, ended, endedAll, each, running, tickPartition, enteredNormal, freshPartition}
+use Rattle.machine.specs.Calls.{refused, blocked, startMode, dormant, setMode, isMultiple, above, isPriority, admissible, withNewProcess, createProcess, reaches, start, stop, stopSelf, suspend, suspendSelf, timedWait, periodicWait, resume, setPriority, getStatus, createSemaphore, createEvent, withValue, withUp, queued, waitSemaphore, waitEvent, oneMore, signalled, signal, setEvent, resetEvent, partitionCall}
+use Rattle.machine.specs.Valid.{Between, contains, Distinct, Tracks, Timeout, Ahead, SoundPeriod, SoundCapacity, NotAbove, Below, SoundGiven, SoundProcess, SoundSemaphore, SoundEvent, Numbered, ListedIn, settingOf, Valid, SoundContext}
 use Rattle.machine.proofs.Tests.{by-test, Passed, by-checks, not-both}
-use Rattle.machine.proofs.Bounds.{not-so, so, same-or-not, or-false-parts, and-true-parts, known-id, within-in, named-in, named-same, named-other, replaced-in, named-replicate, value-in, up-in, either}
+use Rattle.machine.proofs.Bounds.{not-so, or-false-parts, and-true-parts, known-id, within-in, named-in, named-same, named-other, replaced-in, named-replicate, value-in, up-in, either}
 use Rattle.machine.proofs.Dispatch.{by-call}
 use Rattle.machine.proofs.Fields.{in-limits}
 use Rattle.machine.proofs.Tracking.{contains-kept, distinct-kept, tracks-same}
 use Rattle.machine.proofs.Keeping.{numbered-set, all-set, process-created, process-stored, each-rest, each-listed, each-process, changedAll, ended-changed, AllCreated, changed-rest, changed-listed, changed-process, valid-of, stored-valid, arrived-valid}
-use Rattle.machine.proofs.Sound.{outside-normal, ahead-later, created-sound, start-sound, entered-sound, early-sound, stopped-sound, suspended-sound, priority-sound, resumed-sound, ended-sound, ready-released, waiting-sound, suspends-sound, next-sound, ticked-sound}
+use Rattle.machine.proofs.Sound.{outside-normal, ahead-later, created-sound, start-sound, entered-sound, early-sound, stopped-sound, suspended-sound, priority-sound, resumed-sound, ended-sound, ready-released, waiting-sound, suspends-sound, next-sound, ticked-sound, early-waits}
 use Rattle.machine.proofs.Running.{running-runs}
 
 -- ---------------------------------------------------------------- the tick
@@ -75,6 +74,10 @@ nothing-valid frame t mode h = record {
 pub fresh-valid : (frame t : ℕ) → Valid frame t freshPartition
 unfolding freshPartition
 fresh-valid frame t = let v = nothing-valid frame t 1 (omega arith) in record { mode = v .mode; lists = v .lists; objects = v .objects; eachProcess = v .eachProcess }
+
+-- outside NORMAL no process is READY
+pub none-ready : (frame t : ℕ) (p : Partition) → Valid frame t p → normalMode p ≡ false → (id : ℕ) → ready (process id p) ≡ false
+none-ready frame t p v n id = not-so (ready (process id p)) (λ k. not-both _ k (early-waits _ (process id p) (v .eachProcess id (process-created ready refl p (v .lists) id k)) n))
 
 -- ---------------------------------------------------------------- what checks tell of fields
 not-zero : (n : ℕ) → isNumber 0 (Number n) ≡ false → n ≡ 0 → ⊥

@@ -13,6 +13,7 @@ pub mod Run
 pub mod TextField
 pub mod TextLine
 pub mod TextInput
+pub mod TextCases
 pub mod Lists
 pub mod Bounds
 pub mod Folds
@@ -23,3 +24,6 @@ pub mod Sound
 pub mod Running
 pub mod Kept
 pub mod Reached
+pub mod Answers
+pub mod Plain
+pub mod Taken

@@ -1,15 +1,14 @@
 -- Laws of lists of ids, as code goes through them: what a scan keeps, what is left from a place on.
-use Prim.Native.Nat.{ℕ, zero, suc, _+_, _-_, _≤_, _<_, min}
+use Prim.Native.Nat.{ℕ, suc, _+_, _-_, _≤_, _<_, min}
 use mathlib.Core.Path.{_≡_, refl, ap, sym, _∙_}
 use mathlib.Core.Bool.{Bool, true, false, cond}
 use mathlib.Core.List.{List, [], _∷_, _++_, append-assoc, append-nil}
 use native.Mathlib.Omega.{arith}
 use native.Mathlib.Numerals.{add-one}
 use native.Mathlib.Nat.{min-eq-left, min-eq-right}
-use lib.ListN.{length, getD, set, take, drop, replicate, length-append, length-replicate, length-take, drop-of-length-le}
+use lib.ListN.{length, getD, set, take, drop, replicate, length-append, length-take, drop-of-length-le}
 use lib.Seq.{set-append-seam, take-suc, drop-cons, take-append-seam, getD-take, take-take}
-use lib.Dec.{eqb, ltb}
-use borrow.Author.Tests.{lt-ltb, le-ltb}
+use borrow.Author.Tests.{lt-ltb}
 use Rattle.machine.specs.declared.Ids.{Ids}
 use Rattle.machine.specs.Limits.{processLimit}
 use Rattle.machine.specs.Ids.{members, idsOf, keptIf, kept, appended}

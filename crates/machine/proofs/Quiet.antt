@@ -1,11 +1,9 @@
 -- A tick in which nothing is due leaves the record as it was; so a tick that passes over the partitions in which nothing is due is the plain
 -- one. Assumes nothing.
-use Prim.Native.Nat.{ℕ, zero, suc, _+_, _-_, _≤_, _<_, min}
+use Prim.Native.Nat.{ℕ, zero, suc, _+_, _≤_, _<_}
 use mathlib.Core.Path.{_≡_, refl, ap, sym, _∙_}
 use mathlib.Core.Bool.{Bool, true, false, cond}
-use mathlib.Core.List.{List}
 use native.Mathlib.Omega.{arith}
-use lib.ListN.{getD, set}
 use lib.Seq.{set-getD, getD-set-other}
 use lib.Dec.{leb}
 use borrow.Author.Tests.{lt-leb, leb-false}
@@ -18,7 +16,7 @@ use Rattle.machine.specs.declared.Time.the-variants.{Never, At}
 use Rattle.machine.specs.Limits.{processLimit}
 use Rattle.machine.specs.Ids.{follow}
 use Rattle.machine.specs.Process.{blankProcess, ready, onObject, due, woken, expired, ticked}
-use Rattle.machine.specs.Partition.{within, replaced, process, normalMode, withProcesses, stored, eachFrom, each, tickPartition, sooner, soonestFrom, soonestOf, withSoonest, noted}
+use Rattle.machine.specs.Partition.{within, replaced, process, normalMode, withProcesses, stored, eachFrom, tickPartition, sooner, soonestFrom, soonestOf, withSoonest, noted}
 use Rattle.machine.specs.Module.{noPartition, part, withPart, tickAt, tickTo}
 use Rattle.machine.specs.Valid.{plainTickTo, Noted}
 use Rattle.machine.proofs.Tests.{by-test}

@@ -1,14 +1,14 @@
 -- Every record that a run reaches is valid, and a tick that passes over partitions is the plain one there. Assumes nothing.
 use Prim.Native.Nat.{ℕ, zero, suc, _+_, _-_, _*_, _/_, _%_, _≤_, _<_}
-use mathlib.Core.Path.{_≡_, refl, ap, sym, _∙_}
-use mathlib.Core.Bool.{Bool, true, false, cond, not, _&&_, _||_}
+use mathlib.Core.Path.{_≡_, refl, ap, _∙_}
+use mathlib.Core.Bool.{Bool, false}
 use mathlib.Core.List.{List, [], _∷_}
-use mathlib.Core.Logic.{_⊎_, ⊎-elim, inl, inr}
+use mathlib.Core.Logic.{⊎-elim, inl, inr}
 use native.Mathlib.Omega.{arith}
 use native.Mathlib.Nat.{lt-div-mul-add, div-mul-le-self}
-use lib.ListN.{length, getD, set, replicate, length-set, getD-replicate}
+use lib.ListN.{length, getD, set, length-set, getD-replicate}
 use lib.Seq.{getD-set-same, getD-set-other}
-use lib.Dec.{eqb, ltb, leb}
+use lib.Dec.{eqb}
 use borrow.Author.Tests.{le-leb, ne-eqb, eqb-true, eqb-false, leb-false, not-false}
 use Rattle.machine.specs.declared.Window.{Window}
 use Rattle.machine.specs.declared.Table.{Table}
@@ -16,21 +16,19 @@ use Rattle.machine.specs.declared.Message.{Message}
 use Rattle.machine.specs.declared.Partition.{Partition}
 use Rattle.machine.specs.declared.Module.{Module}
 use Rattle.machine.specs.declared.Request.{Request}
-use Rattle.machine.specs.declared.Called.{Called}
 use Rattle.machine.specs.declared.Done.{Done}
 use Rattle.machine.specs.declared.Event.{Event as EventT}
-use Rattle.machine.specs.Limits.{durationLimit, timeLimit, frameLimit, partitionLimit, channelLimit, greatestTime}
-use Rattle.machine.specs.Field.{requestOf, numberOf, isDuration, between}
-use Rattle.machine.specs.Process.{capped}
+use Rattle.machine.specs.Limits.{durationLimit, timeLimit, partitionLimit, channelLimit, greatestTime}
+use Rattle.machine.specs.Field.{requestOf, numberOf}
 use Rattle.machine.specs.Partition.{process, tickPartition, sooner, soonestFrom, soonestOf, withSoonest, noted, freshPartition}
 use Rattle.machine.specs.Calls.{checked, partitionCall}
-use Rattle.machine.specs.Module.{noPartition, noMessage, emptyTable, emptyModule, freshModule, windows, channel, flaggedFor, covers, owner, lookup, firstFlagged, releasePoint, part, message, current, withPart, withMessage, withTime, tickTo, partitionCount, tickModule, refuse, channelChecks, write, read, erasedTo, restarts, restarted, accepts, storedCall, contextOf, callDone, malformed, noCaller, done, step}
+use Rattle.machine.specs.Module.{noPartition, noMessage, emptyTable, emptyModule, freshModule, windows, channel, flaggedFor, covers, owner, lookup, firstFlagged, releasePoint, part, current, withPart, withMessage, withTime, tickTo, partitionCount, tickModule, refuse, channelChecks, write, read, erasedTo, restarts, restarted, accepts, contextOf, callDone, noCaller, done, step}
 use Rattle.machine.specs.Table.{readTable}
 use Rattle.machine.specs.Valid.Reached.{stepped}
-use Rattle.machine.specs.Valid.{Between, Valid, SoundContext, SoundWindows, SoundTable, SoundMessage, Noted, SoundModule, ValidModule, Reached, plainTickTo, plainTick}
-use Rattle.machine.proofs.Tests.{by-test, not-both, by-checks, Passed}
+use Rattle.machine.specs.Valid.{Valid, SoundContext, SoundWindows, SoundTable, SoundMessage, Noted, SoundModule, ValidModule, Reached, plainTickTo, plainTick}
+use Rattle.machine.proofs.Tests.{by-test, by-checks, Passed}
 use Rattle.machine.proofs.Fields.{in-limits}
-use Rattle.machine.proofs.Bounds.{either, same-or-not, and-true-parts, or-false-parts, getD-replicate-any}
+use Rattle.machine.proofs.Bounds.{either, same-or-not, getD-replicate-any}
 use Rattle.machine.proofs.Kept.{tick-valid, fresh-valid, call-valid}
 use Rattle.machine.proofs.Quiet.{tick-to-plain}
 use Rattle.machine.proofs.Tables.{table-read}
@@ -204,7 +202,7 @@ restarted-sound m s b k j h p v = by-test (λ (q : Module). SoundModule (withPar
     part-sound (erasedTo k channelLimit m) e j (rw same h) p (rw same v))
     (λ _. part-sound m s j h p v)
 
-abbrev SoundAfter : Done → Type 0
+abbrev pub SoundAfter : Done → Type 0
 SoundAfter d = SoundModule (d .state)
 
 module _ (m : Module) (s : SoundModule m) (k : ℕ) (some : k ≡ 0 → ⊥) (now : current m ≡ k) (calls : noCaller (part m (k - 1)) ≡ false) where
@@ -234,7 +232,7 @@ module _ (m : Module) (s : SoundModule m) (k : ℕ) (some : k ≡ 0 → ⊥) (no
       (λ _. restarted-sound m s (restarts n r) k (k - 1) place _ (call-valid (contextOf m k) n r (part m (k - 1)) (s .eachPartition (k - 1) place) context-sound))
       (λ _. s)))
 
-done-sound : (m : Module) → SoundModule m → (r : Request) → SoundAfter (done m r)
+pub done-sound : (m : Module) → SoundModule m → (r : Request) → SoundAfter (done m r)
 unfolding Passed
 done-sound m s r =
     let k = numberOf (r .partition) in
@@ -286,3 +284,24 @@ empty-tick = refl
 pub tick-module-plain : (m : Module) → ValidModule m → tickModule m ≡ plainTick m
 tick-module-plain m (inl h) = rw h empty-tick
 tick-module-plain m (inr s) = tick-plain m s
+
+-- ---------------------------------------------------------------- what holds of both kinds of valid record
+pub record Sized (m : Module) : Type 0 where
+  pub partitions : length (m .partitions) ≡ partitionLimit
+  pub messages : length (m .messages) ≡ channelLimit
+  pub time : m .t ≤ timeLimit
+  pub size : m .table .size ≤ partitionLimit
+
+empty-sized : Sized emptyModule
+unfolding emptyModule emptyTable
+empty-sized = record { partitions = refl; messages = refl; time = omega arith; size = omega arith }
+
+pub valid-sized : (m : Module) → ValidModule m → Sized m
+valid-sized m (inl h) = rw h empty-sized
+valid-sized m (inr s) = record { partitions = s .partitionsSize; messages = s .messagesSize; time = s .time; size = s .table .size .1 }
+
+-- a record that has a partition has a sound table
+pub valid-sound : (m : Module) → ValidModule m → (i : ℕ) → i < m .table .size → SoundModule m
+unfolding emptyModule emptyTable
+valid-sound m (inl h) i l = absurd (omega (arith, ap (λ (q : Module). q .table .size) h))
+valid-sound m (inr s) i l = s

@@ -1,8 +1,8 @@
 -- The running process: where one runs, it is READY, of greatest current priority, and first among its equals in the arrival list. Assumes
 -- nothing.
-use Prim.Native.Nat.{ℕ, zero, suc, _+_, _-_, _≤_, _<_}
+use Prim.Native.Nat.{ℕ, _≤_, _<_}
 use mathlib.Core.Path.{_≡_, refl, ap, sym, _∙_}
-use mathlib.Core.Bool.{Bool, true, false, cond, _||_, or-true}
+use mathlib.Core.Bool.{true, _||_, or-true}
 use mathlib.Core.List.{List, [], _∷_, _++_}
 use mathlib.Core.Logic.{_↔_}
 use native.Mathlib.Omega.{arith}
@@ -12,8 +12,8 @@ use Rattle.machine.specs.declared.Partition.{Partition}
 use Rattle.machine.specs.declared.Choice.{Choice}
 use Rattle.machine.specs.Ids.{members}
 use Rattle.machine.specs.Process.{ready}
-use Rattle.machine.specs.Partition.{normalMode, process, preferred, chosen, running}
-use Rattle.machine.specs.Valid.{Between, contains, ListedIn, Runs}
+use Rattle.machine.specs.Partition.{normalMode, process, chosen, running}
+use Rattle.machine.specs.Valid.{contains, ListedIn, Runs}
 use Rattle.machine.proofs.Tests.{by-test, not-both}
 use Rattle.machine.proofs.Bounds.{so, either}
 use Rattle.machine.proofs.Keeping.{process-created}

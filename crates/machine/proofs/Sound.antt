@@ -1,13 +1,12 @@
 -- A process by itself: what each rule makes of a sound process is sound, and every time stays within its bound. Assumes nothing.
-use Prim.Native.Nat.{ℕ, zero, suc, _+_, _-_, _≤_, _<_}
-use mathlib.Core.Path.{_≡_, refl, ap, sym, _∙_}
-use mathlib.Core.Bool.{Bool, true, false, cond, not, _&&_, _||_, and-false}
-use mathlib.Core.Logic.{_⊎_, inl, inr}
+use Prim.Native.Nat.{ℕ, _+_, _≤_, _<_}
+use mathlib.Core.Path.{_≡_, refl, ap}
+use mathlib.Core.Bool.{Bool, true, false, not, _&&_, and-false}
+use mathlib.Core.Logic.{inl, inr}
 use native.Mathlib.Omega.{arith}
-use lib.Dec.{eqb, ltb, leb}
-use borrow.Author.Tests.{le-leb, lt-leb, leb-true, leb-false, eqb-true, eqb-false, ne-eqb, not-true, not-false}
+use lib.Dec.{eqb, leb}
+use borrow.Author.Tests.{le-leb, leb-true, leb-false, eqb-false, not-true, not-false}
 use Rattle.machine.specs.declared.Given.{Given}
-use Rattle.machine.specs.declared.Times.{Times}
 use Rattle.machine.specs.declared.Process.{Process}
 use Rattle.machine.specs.declared.Context.{Context}
 use Rattle.machine.specs.declared.Wait.{Wait}
@@ -15,10 +14,10 @@ use Rattle.machine.specs.declared.Wait.the-variants.{None, Normal, Delay
 use Rattle.machine.specs.declared.Time.{Time}
 use Rattle.machine.specs.declared.Time.the-variants.{Never, At}
 use Rattle.machine.specs.Limits.{priorityLimit, durationLimit, timeLimit, frameLimit, greatestTime}
-use Rattle.machine.specs.Process.{createdProcess, capped, later, due, isNever, periodic, onObject, object, waitsForNothing, waitsForNormal, ready, releasedAt, withWake, withDeadline, withDelay, waitEnded, withSuspended, withCurrent, waitingFor, suspendedUntil, woken, deadlineMissed, expired, ticked, begun, startedAperiodic, startedPeriodic, startRule, startedEarly, entered, stopped, resumed, nextRelease}
-use Rattle.machine.specs.Valid.{Between, latestWake, latestDeadline, AtMost, NotAfter, Ahead, Timeout, SoundPeriod, NotAbove, Below, SoundCapacity, SoundGiven, Timeless, Dormant, Early, KnownWait, SoundWake, Released, SoundRelease, Setting, setting, Going, Lasting, LastingIn, SoundCode, SoundMark, SoundProcess}
+use Rattle.machine.specs.Process.{createdProcess, capped, later, due, isNever, periodic, onObject, object, waitsForNothing, waitsForNormal, ready, withDeadline, waitEnded, withSuspended, withCurrent, waitingFor, suspendedUntil, woken, expired, ticked, begun, startRule, startedEarly, entered, stopped, resumed, nextRelease}
+use Rattle.machine.specs.Valid.{Between, latestWake, latestDeadline, AtMost, NotAfter, Ahead, Timeout, SoundPeriod, Below, SoundCapacity, SoundGiven, Timeless, Bounded, Dormant, Early, KnownWait, SoundWake, Released, SoundRelease, Setting, setting, Going, Lasting, LastingIn, SoundCode, SoundMark, SoundProcess}
 use Rattle.machine.proofs.Tests.{by-test, not-both}
-use Rattle.machine.proofs.Bounds.{not-so, so, and-true-parts}
+use Rattle.machine.proofs.Bounds.{either, not-so, so, and-true-parts}
 
 -- ---------------------------------------------------------------- sums of times
 pub later-plain : (m n : ℕ) → m + n ≤ greatestTime → later (At m) (At n) ≡ At (m + n)
@@ -41,19 +40,19 @@ later-at-most m n k (At a) (At b) ha hb h = capped-at-most (a + b) k (omega arit
 pub ahead-later : (t n : ℕ) → t ≤ timeLimit → (n ≡ 0 → ⊥) → n ≤ durationLimit → Ahead t (later (At t) (At n))
 ahead-later t n h some short = rw (le-leb (t + n) greatestTime (omega arith)) (omega arith, omega arith)
 
-at-most-more : (m n : ℕ) (a : Time) → AtMost m a → m ≤ n → AtMost n a
+pub at-most-more : (m n : ℕ) (a : Time) → AtMost m a → m ≤ n → AtMost n a
 at-most-more m n Never h le = h
 at-most-more m n (At a) h le = omega arith
 
-at-most-not-after : (n : ℕ) (a : Time) → AtMost n a → NotAfter n a
+pub at-most-not-after : (n : ℕ) (a : Time) → AtMost n a → NotAfter n a
 at-most-not-after n Never h = tt
 at-most-not-after n (At a) h = h
 
-capacity-bound : (period c : Time) → SoundCapacity period c → NotAfter durationLimit c
+pub capacity-bound : (period c : Time) → SoundCapacity period c → NotAfter durationLimit c
 capacity-bound period Never h = tt
 capacity-bound period (At n) h = h .0 .1
 
-period-bound : (frame : ℕ) (p : Time) → SoundPeriod frame p → isNever p ≡ false → AtMost durationLimit p
+pub period-bound : (frame : ℕ) (p : Time) → SoundPeriod frame p → isNever p ≡ false → AtMost durationLimit p
 period-bound frame Never h e = not-both _ refl e
 period-bound frame (At n) h e = h .0 .1
 
@@ -102,7 +101,7 @@ released-at-most : (t : ℕ) (p r : Time) → isNever p ≡ false → AtMost t r
 released-at-most t Never r e h = not-both _ refl e
 released-at-most t (At n) r e h = h
 
-at-most-released : (t : ℕ) (p r : Time) → isNever p ≡ false → Released t p r → AtMost t r
+pub at-most-released : (t : ℕ) (p r : Time) → isNever p ≡ false → Released t p r → AtMost t r
 at-most-released t Never r e h = not-both _ refl e
 at-most-released t (At n) r e h = h
 
@@ -413,3 +412,67 @@ expired-sound s t x h =
 
 pub ticked-sound : (frame t a b : ℕ) (normal : Bool) → normal ≡ true → (x : Process) → SoundProcess (setting frame t normal a b) x → SoundProcess (setting frame (t + 1) normal a b) (ticked (t + 1) x)
 ticked-sound frame t a b normal n x h = expired-sound _ (t + 1) _ (woken-sound frame t a b normal n x h)
+
+-- ---------------------------------------------------------------- what follows
+ahead-bound : (t : ℕ) (w : Time) → t ≤ timeLimit → Timeout t w → NotAfter latestWake w
+ahead-bound t Never ends h = tt
+ahead-bound t (At n) ends h = omega (arith, h .1)
+
+ahead-timeout : (t : ℕ) (w : Time) → Ahead t w → Timeout t w
+ahead-timeout t Never h = tt
+ahead-timeout t (At n) h = h
+
+never-bound : (n : ℕ) (w : Time) → w ≡ Never → NotAfter n w
+never-bound n w e = rw e tt
+
+wake-bound : (t : ℕ) (mark : Bool) (r : Time) (v : Wait) (w : Time) → t ≤ timeLimit → NotAfter latestWake r → SoundWake t mark r v w → NotAfter latestWake w
+wake-bound t true r None w ends k h = ahead-bound t w ends h
+wake-bound t false r None w ends k h = never-bound latestWake w h
+wake-bound t mark r Normal w ends k h = absurd h
+wake-bound t mark r Delay w ends k h = ahead-bound t w ends (ahead-timeout t w h)
+wake-bound t mark r Timed w ends k h = ahead-bound t w ends (ahead-timeout t w h)
+wake-bound t mark r Period w ends k h = rw h k
+wake-bound t mark r (Semaphore j) w ends k h = ahead-bound t w ends h
+wake-bound t mark r (Event j) w ends k h = ahead-bound t w ends h
+
+released-bound : (t : ℕ) (p r : Time) → t ≤ timeLimit → Released t p r → NotAfter latestWake r
+released-bound t Never r ends h = never-bound latestWake r h
+released-bound t (At p) r ends h = at-most-not-after latestWake r (at-most-more t latestWake r h (omega arith))
+
+release-bound : (t : ℕ) (p : Time) (v : Wait) (r : Time) → t ≤ timeLimit → SoundRelease t p v r → NotAfter latestWake r
+release-bound t p None r ends h = released-bound t p r ends h
+release-bound t p Normal r ends h = absurd h
+release-bound t p Delay r ends h = never-bound latestWake r (h .1)
+release-bound t p Timed r ends h = released-bound t p r ends h
+release-bound t p Period r ends h = at-most-not-after latestWake r (h .1)
+release-bound t p (Semaphore k) r ends h = released-bound t p r ends h
+release-bound t p (Event k) r ends h = released-bound t p r ends h
+
+module _ (s : Setting) (x : Process) (h : SoundProcess s x) where
+  timeless-bounded : Timeless (x .times) → Bounded (x .times)
+  timeless-bounded k = record { release = never-bound latestWake _ (k .release); deadline = never-bound latestDeadline _ (k .deadline); wake = never-bound latestWake _ (k .wake) }
+
+  -- r and w are at most 110,019,996, d at most 120,019,995
+  pub times-bounded : s .time ≤ timeLimit → Bounded (x .times)
+  times-bounded ends = either (x .started)
+      (λ e. either (s .normal)
+      (λ n.
+      let g = h .going e n in
+      let r = release-bound (s .time) (x .given .period) (x .wait) (x .times .release) ends (g .release) in
+      record { release = r; deadline = g .deadline; wake = wake-bound (s .time) (x .suspended) (x .times .release) (x .wait) (x .times .wake) ends r (g .wake) })
+      (λ n. timeless-bounded (h .early e n .times)))
+      (λ e. timeless-bounded (h .dormant e .times))
+
+  -- a wake time with neither a wait nor the mark is never reached
+  pub wake-marked : x .wait ≡ None → x .suspended ≡ false → x .times .wake ≡ Never
+  wake-marked k u = either (x .started)
+      (λ e. either (s .normal)
+      (λ n. rw (k, u) at (h .going e n .wake))
+      (λ n. h .early e n .times .wake))
+      (λ e. h .dormant e .times .wake)
+
+  -- outside NORMAL none is READY
+  pub early-waits : s .normal ≡ false → ready x ≡ false
+  early-waits n = not-so (ready x) (λ k.
+      let r = ready-parts x k in
+      not-both _ (ap waitsForNothing (r .2)) (ap waitsForNothing (h .early (r .0) n .wait)))

@@ -2,23 +2,19 @@
 -- Assumes nothing.
 use Prim.Native.Nat.{ℕ, zero, suc, _+_, _-_, _*_, _/_, _%_, _^_, _≤_, _<_}
 use mathlib.Core.Path.{_≡_, refl, sym, _∙_, ap}
-use mathlib.Core.Bool.{Bool, true, false, cond, _&&_, and-eq-true-iff}
+use mathlib.Core.Bool.{true, _&&_, and-eq-true-iff}
 use mathlib.Core.List.{List, [], _∷_, _++_}
-use mathlib.Core.Option.{Option, none, some}
+use mathlib.Core.Option.{none, some}
 use native.Mathlib.Omega.{arith}
 use native.Mathlib.Nat.{pow-succ'}
 use native.Mathlib.Numerals.{add-one}
 use lib.ListN.{length, getD, length-append}
-use lib.Dec.{leb, eqb}
+use lib.Dec.{eqb}
 use lib.IntN.{ℤ, pos, negsuc}
-use borrow.Author.Tests.{leb-true, eqb-true, eq-eqb, ne-eqb}
+use borrow.Author.Tests.{leb-true, eqb-true, eq-eqb}
 use Rattle.machine.specs.Limits.{numberLimit}
-use Rattle.machine.specs.Text.{space, minus, zeroDigit, base, fieldWidth, inRange, column, markAfter, columns, lastDigit, numberText, fieldText, sameBytes, spelled, candidate, readField}
-
--- by the two cases of a test
-pub byTest : {A : Type 0} (b : Bool) → (b ≡ true → A) → (b ≡ false → A) → A
-byTest true f g = f refl
-byTest false f g = g refl
+use Rattle.machine.specs.Text.{space, minus, zeroDigit, base, fieldWidth, inRange, column, markAfter, columns, numberText, fieldText, sameBytes, spelled, candidate, readField}
+use Rattle.machine.proofs.Bounds.{either}
 
 -- ---------------------------------------------------------------- bytes that are the same
 pub same-refl : (l : List ℕ) → sameBytes l l ≡ true
@@ -72,11 +68,11 @@ spelled-last (a ∷ l) b v = spelled-last l b (v * base + (a - zeroDigit))
 
 column-digit : (rest : ℕ) → column rest space - zeroDigit ≡ rest % base
 unfolding column
-column-digit rest = byTest (eqb rest 0) (λ e. rw e (rw (eqb-true rest 0 e))) (λ e. rw e (omega arith))
+column-digit rest = either (eqb rest 0) (λ e. rw e (rw (eqb-true rest 0 e))) (λ e. rw e (omega arith))
 
 mark-space : (rest : ℕ) → markAfter rest space ≡ space
 unfolding markAfter
-mark-space rest = byTest (eqb rest 0) (λ e. rw e) (λ e. rw e)
+mark-space rest = either (eqb rest 0) (λ e. rw e) (λ e. rw e)
 
 spelled-columns : (n rest : ℕ) → rest < base ^ n → spelled (columns n rest space) 0 ≡ rest
 unfolding columns spelled
@@ -111,7 +107,7 @@ candidate-text : (z : ℤ) → inRange z ≡ true → candidate (fieldText z) �
 unfolding candidate fieldText inRange
 candidate-text (pos n) r =
     let h : n ≤ numberLimit = leb-true n numberLimit r in
-    byTest (sameBytes (numberText n space) (fieldText (negsuc 0)))
+    either (sameBytes (numberText n space) (fieldText (negsuc 0)))
     (λ e. absurd (not-minus-one n h (same-true (numberText n space) (fieldText (negsuc 0)) e)))
     (λ e. rw e (ap pos (number-spelled n h)))
 candidate-text (negsuc n) r = rw (eqb-true n 0 r, same-refl (fieldText (negsuc 0)))
@@ -125,7 +121,7 @@ field-read z r = rw (candidate-text z r, r, same-refl (fieldText z))
 pub read-field : (bs : List ℕ) (z : ℤ) → readField bs ≡ some z → (bs ≡ fieldText z) × (inRange z ≡ true)
 unfolding readField
 read-field bs z h =
-    byTest (inRange (candidate bs) && sameBytes bs (fieldText (candidate bs)))
+    either (inRange (candidate bs) && sameBytes bs (fieldText (candidate bs)))
     (λ t.
     let p = and-eq-true-iff (inRange (candidate bs)) (sameBytes bs (fieldText (candidate bs))) .0 t in
     let s : some (candidate bs) ≡ some z = rw t at h in

@@ -1,22 +1,22 @@
 -- The lines of an input: they are the input, each ends at its LF or at the input's end, and a line of numbers is one of them,
 -- so that a reader may look at 61 bytes. Assumes nothing.
-use Prim.Native.Nat.{ℕ, zero, suc, _+_, _-_, _/_, _%_, _≤_, _<_}
+use Prim.Native.Nat.{ℕ, zero, suc, _+_, _-_, _/_, _≤_, _<_}
 use mathlib.Core.Path.{_≡_, refl, sym, _∙_, ap}
-use mathlib.Core.Bool.{Bool, true, false, cond, not, _&&_, _||_, and-eq-true-iff, or-true}
+use mathlib.Core.Bool.{Bool, true, false, not, _&&_, _||_, and-eq-true-iff, or-true}
 use mathlib.Core.List.{List, [], _∷_, _++_, flatten, append-assoc}
 use native.Mathlib.Omega.{arith}
-use lib.ListN.{length, take, drop, length-append, length-drop, take-append-drop}
+use lib.ListN.{length, take, drop, length-append, length-take, length-drop, take-append-drop, drop-of-length-le}
 use lib.Seq.{take-append-seam, drop-append-seam, drop-drop}
 use lib.Dec.{leb, eqb}
 use lib.IntN.{ℤ, pos, negsuc}
-use borrow.Author.Tests.{not-true, ne-eqb, le-leb, lt-leb}
+use borrow.Author.Tests.{not-true, ne-eqb, le-leb}
 use Rattle.machine.specs.declared.Numbers.{Numbers}
 use Rattle.machine.specs.declared.Line.{Line}
 use Rattle.machine.specs.declared.Line.the-variants.{Six, Bad}
 use Rattle.machine.specs.Limits.{lineLength}
-use Rattle.machine.specs.Text.{lineFeed, space, minus, zeroDigit, base, fieldWidth, column, markAfter, columns, lastDigit, numberText, fieldText, lineText, numberList, readLine, inFirst, lines, firstLength, lineEnd, readAt}
-use Rattle.machine.proofs.TextField.{byTest}
-use Rattle.machine.proofs.TextLine.{line-length, six-length, read-six}
+use Rattle.machine.specs.Text.{lineFeed, space, minus, base, fieldWidth, column, markAfter, columns, lastDigit, numberText, fieldText, lineText, numberList, readLine, inFirst, lines, firstLength, lineEnd, readAt}
+use Rattle.machine.proofs.TextLine.{line-length, six-length, read-six, read-other}
+use Rattle.machine.proofs.Bounds.{either}
 
 -- ---------------------------------------------------------------- what a line is
 -- no LF among these bytes
@@ -46,7 +46,7 @@ pub lines-input : (bs : List ℕ) → flatten (lines bs) ≡ bs
 unfolding lines flatten
 lines-input [] = refl
 lines-input (b ∷ bs) =
-    byTest (eqb b lineFeed)
+    either (eqb b lineFeed)
     (λ e. rw e (ap (_∷_ b) (lines-input bs)))
     (λ e. rw e (first (lines bs) ∙ ap (_∷_ b) (lines-input bs)))
   where
@@ -69,7 +69,7 @@ module _ (b : ℕ) where
   unfolding areLines noFeed ended
   first-lines [] e h = rw e
   first-lines (l ∷ []) e h =
-      byTest (ended l)
+      either (ended l)
       (λ t. rw (ended-more l e, t))
       (λ t. let u : unended l ≡ true = rw t at h in rw (unended-more l e u, or-true))
   first-lines (l ∷ m ∷ ls) e h = rw (ended-more l e) h
@@ -83,7 +83,7 @@ pub lines-are : (bs : List ℕ) → areLines (lines bs) ≡ true
 unfolding lines areLines
 lines-are [] = refl
 lines-are (b ∷ bs) =
-    byTest (eqb b lineFeed)
+    either (eqb b lineFeed)
     (λ e. rw e (fed-lines b (lines bs) e (lines-are bs)))
     (λ e. rw e (first-lines b (lines bs) e (lines-are bs)))
 
@@ -91,7 +91,7 @@ lines-are (b ∷ bs) =
 lines-first : (bs : List ℕ) → 0 < length bs → lines bs ≡ take (firstLength bs) bs ∷ lines (drop (firstLength bs) bs)
 unfolding lines firstLength
 lines-first [] h = absurd (omega arith)
-lines-first (b ∷ bs) h = byTest (eqb b lineFeed) (λ e. rw e) (λ e. rw e (rest bs (lines-first bs)))
+lines-first (b ∷ bs) h = either (eqb b lineFeed) (λ e. rw e) (λ e. rw e (rest bs (lines-first bs)))
   where
     rest : (bs : List ℕ) → (0 < length bs → lines bs ≡ take (firstLength bs) bs ∷ lines (drop (firstLength bs) bs))
         → inFirst b (lines bs) ≡ (b ∷ take (firstLength bs) bs) ∷ lines (drop (firstLength bs) bs)
@@ -101,12 +101,12 @@ lines-first (b ∷ bs) h = byTest (eqb b lineFeed) (λ e. rw e) (λ e. rw e (res
 first-within : (bs : List ℕ) → firstLength bs ≤ length bs
 unfolding firstLength
 first-within [] = omega arith
-first-within (b ∷ bs) = byTest (eqb b lineFeed) (λ e. rw e (omega arith)) (λ e. rw e (omega (arith, first-within bs)))
+first-within (b ∷ bs) = either (eqb b lineFeed) (λ e. rw e (omega arith)) (λ e. rw e (omega (arith, first-within bs)))
 
 first-some : (bs : List ℕ) → 0 < length bs → 0 < firstLength bs
 unfolding firstLength
 first-some [] h = absurd (omega arith)
-first-some (b ∷ bs) h = byTest (eqb b lineFeed) (λ e. rw e (omega arith)) (λ e. rw e (omega arith))
+first-some (b ∷ bs) h = either (eqb b lineFeed) (λ e. rw e (omega arith)) (λ e. rw e (omega arith))
 
 -- ---------------------------------------------------------------- a line of numbers is the first line
 unfed-append : (p q : List ℕ) → noFeed p ≡ true → noFeed q ≡ true → noFeed (p ++ q) ≡ true
@@ -120,7 +120,7 @@ columns-unfed : (n rest mark : ℕ) → eqb mark lineFeed ≡ false → noFeed (
 unfolding columns column markAfter noFeed
 columns-unfed zero rest mark h = refl
 columns-unfed (suc n) rest mark h =
-    byTest (eqb rest 0)
+    either (eqb rest 0)
     (λ e. rw e (unfed-append (columns n (rest / base) space) (mark ∷ []) (columns-unfed n (rest / base) space refl) (rw h)))
     (λ e. rw e (unfed-append (columns n (rest / base) mark) (lastDigit rest ∷ []) (columns-unfed n (rest / base) mark h) (rw (ne-eqb (lastDigit rest) lineFeed (λ q. omega arith)))))
 
@@ -191,6 +191,17 @@ line-at input at h =
       after = rw e (omega (arith, first-some (drop at input) (omega arith)));
       within = rw e (omega (arith, first-within (drop at input)));
     }
+
+-- no line from the input's end on
+pub lines-end : (input : List ℕ) (at : ℕ) → length input ≤ at → lines (drop at input) ≡ []
+unfolding lines
+lines-end input at h = rw (drop-of-length-le input {i = at} h)
+
+-- where fewer than 61 bytes are left, no six numbers are
+pub few-left : (input : List ℕ) (at : ℕ) → length input < at + lineLength → Bad ≡ readAt input at
+few-left input at h =
+    read-other (take lineLength (drop at input))
+    (λ e. omega (arith, length-take lineLength (drop at input), length-drop at input))
 
 -- the line of six numbers at a position is 61 bytes long
 pub six-end : (input : List ℕ) (at : ℕ) (n : Numbers) → readAt input at ≡ Six n → lineEnd input at ≡ at + lineLength

@@ -2,8 +2,8 @@
 -- is their text. Assumes nothing.
 use Prim.Native.Nat.{ℕ, zero, suc, _+_, _-_, _*_, _≤_, _<_}
 use mathlib.Core.Path.{_≡_, refl, sym, _∙_, ap}
-use mathlib.Core.Bool.{Bool, true, false, cond, _&&_, and-eq-true-iff}
-use mathlib.Core.List.{List, [], _∷_, _++_}
+use mathlib.Core.Bool.{true, cond, and-eq-true-iff}
+use mathlib.Core.List.{List, [], _∷_}
 use mathlib.Core.Option.{Option, none, some}
 use native.Mathlib.Omega.{arith}
 use lib.ListN.{length, take, drop, length-append, length-drop, take-append-drop}
@@ -15,8 +15,9 @@ use Rattle.machine.specs.declared.Numbers.{Numbers}
 use Rattle.machine.specs.declared.Line.{Line}
 use Rattle.machine.specs.declared.Line.the-variants.{Six, Bad}
 use Rattle.machine.specs.Limits.{lineLength}
-use Rattle.machine.specs.Text.{lineFeed, fieldWidth, fieldCount, inRange, fieldText, lineText, sameBytes, readField, joined, readNumbers, numberList, numbersOf, lineOf, readLine, allInRange, canWrite, written}
-use Rattle.machine.proofs.TextField.{byTest, same-refl, same-true, field-length, field-read, read-field}
+use Rattle.machine.specs.Text.{lineFeed, fieldWidth, fieldCount, inRange, fieldText, lineText, sameBytes, readField, joined, readNumbers, numberList, numbersOf, readLine, allInRange, canWrite, written}
+use Rattle.machine.proofs.TextField.{same-refl, same-true, field-length, field-read, read-field}
+use Rattle.machine.proofs.Bounds.{either}
 
 pub line-length : (ns : List ℤ) → length (lineText ns) ≡ length ns * fieldWidth + 1
 unfolding lineText
@@ -73,7 +74,7 @@ joined-text n bs (some z) (some zs) ns f g h =
 pub read-line : (n : ℕ) (bs : List ℕ) (ns : List ℤ) → readNumbers n bs ≡ some ns → IsText n bs ns
 unfolding readNumbers lineText allInRange
 read-line zero bs ns h =
-    byTest (sameBytes bs (lineFeed ∷ []))
+    either (sameBytes bs (lineFeed ∷ []))
     (λ t.
     let e : [] ≡ ns = let s : some [] ≡ some ns = rw t at h in cc in
     rw (← e) (record { text = same-true bs (lineFeed ∷ []) t; range = refl; count = refl }))
@@ -115,16 +116,33 @@ read-six bs n h = go (readNumbers fieldCount bs) refl
         let l : numberList n ≡ zs = ap numberList (sym m) ∙ six-list zs (t .count) in
         (rw l (t .text), rw l (t .range))
 
+-- a line of another length is refused
+pub read-other : (bs : List ℕ) → (length bs ≡ lineLength → ⊥) → Bad ≡ readLine bs
+read-other bs h = go (readLine bs) refl
+  where
+    go : (r : Line) → readLine bs ≡ r → Bad ≡ readLine bs
+    go Bad e = sym e
+    go (Six n) e = absurd (h (ap length (read-six bs n e .0) ∙ six-length n))
+
 -- ---------------------------------------------------------------- writing
 pub written-length : (out : List ℕ) (ns : List ℤ) → length (written out ns) ≡ length out
 unfolding written
 written-length out ns =
-    byTest (canWrite (length out) ns)
+    either (canWrite (length out) ns)
     (λ t.
     let h : length (lineText ns) ≤ length out =
     leb-true (length (lineText ns)) (length out) (and-eq-true-iff (leb (length (lineText ns)) (length out)) (allInRange ns) .0 t .0)
     in
     rw t (simp (length-append, length-drop) (omega arith)))
+    (λ t. rw t)
+
+-- past the line's bytes nothing changes
+pub written-after : (out : List ℕ) (n : Numbers) → drop lineLength (written out (numberList n)) ≡ drop lineLength out
+unfolding written
+written-after out n =
+    either (canWrite (length out) (numberList n))
+    (λ t.
+    rw (t, drop-at (lineText (numberList n)) (drop (length (lineText (numberList n))) out) lineLength (six-length n), six-length n))
     (λ t. rw t)
 
 -- what was written reads as the numbers

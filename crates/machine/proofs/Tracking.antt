@@ -1,11 +1,11 @@
 -- Laws of what a list tracks; a list of process ids that lacks one has room. Assumes nothing.
-use Prim.Native.Nat.{ℕ, zero, suc, _+_, _-_, _≤_, _<_}
+use Prim.Native.Nat.{ℕ, zero, suc, _≤_, _<_}
 use mathlib.Core.Path.{_≡_, refl, ap, sym, _∙_}
 use mathlib.Core.Bool.{Bool, true, false, not, _&&_, _||_, or-false, and-false}
 use mathlib.Core.List.{List, [], _∷_, _++_}
 use mathlib.Core.Logic.{⊎-elim}
 use native.Mathlib.Omega.{arith}
-use lib.ListN.{length}
+use lib.ListN.{length, length-append, length-replicate}
 use lib.Dec.{eqb}
 use borrow.Author.Tests.{eq-eqb, ne-eqb, eqb-true, eqb-false}
 use Rattle.machine.specs.declared.Ids.{Ids}
@@ -97,6 +97,13 @@ module _ (f : ℕ → Bool) (q : Ids) (tr : Tracks f q) where
       ranged : (x : ℕ) (b : Bool) → eqb id x ≡ b → (b || contains x (members q)) ≡ true → (1 ≤ x) × (x ≤ processLimit)
       ranged x true e c = let s = eqb-true id x e in (omega arith, omega arith)
       ranged x false e c = r x (sym (tr .exact x) ∙ c)
+
+  -- it holds at most the ids that there are, and its array has a place for each of these
+  pub tracks-few : Ranged f → length (members q) ≤ processLimit
+  tracks-few r = pigeonhole processLimit (members q) (tr .distinct) (λ x c. r x (sym (tr .exact x) ∙ c))
+
+  pub tracks-size : Ranged f → length (q .items) ≡ processLimit
+  tracks-size r = ap (λ (y : Ids). length (y .items)) (tr .canonical) ∙ simp (length-append, length-replicate) (omega (arith, tracks-few r))
 
   -- the plain meaning of an append
   pub appended-plain : (id : ℕ) → length (members q) < processLimit → appended id q ≡ idsOf (members q ++ (id ∷ []))

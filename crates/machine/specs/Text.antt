@@ -140,7 +140,7 @@ unfoldable pub allInRange : List ℤ → Bool
 allInRange [] = true
 allInRange (z ∷ zs) = inRange z && allInRange zs
 
--- Writing: a number outside that range, or under 61 bytes of output
+-- Writing is refused for a number outside that range, or under 61 bytes of output.
 abbrev pub canWrite : ℕ → List ℤ → Bool
 canWrite room ns = leb (length (lineText ns)) room && allInRange ns
 

@@ -82,6 +82,12 @@ abbrev pub Timeout : ℕ → Time → Type 0
 Timeout t Never = Unit {0}
 Timeout t (At n) = (t < n) × (n ≤ t + durationLimit)
 
+-- a time after another with no bound: −1 where one of them is −1
+abbrev pub plainLater : Time → Time → Time
+plainLater Never b = Never
+plainLater (At m) Never = Never
+plainLater (At m) (At n) = At (m + n)
+
 -- ---------------------------------------------------------------- a process by itself
 -- −1 or a multiple of M in 1..9,999,999
 abbrev pub SoundPeriod : ℕ → Time → Type 0
@@ -114,6 +120,12 @@ pub record Timeless (s : Times) : Type 0 where
   pub release : s .release ≡ Never
   pub deadline : s .deadline ≡ Never
   pub wake : s .wake ≡ Never
+
+-- no time comes after the latest
+pub record Bounded (s : Times) : Type 0 where
+  pub release : NotAfter latestWake (s .release)
+  pub deadline : NotAfter latestDeadline (s .deadline)
+  pub wake : NotAfter latestWake (s .wake)
 
 -- DORMANT
 pub record Dormant (v : Wait) (mark : Bool) (s : Times) : Type 0 where

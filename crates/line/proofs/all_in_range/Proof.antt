@@ -1,20 +1,15 @@
-use Rattle.machine.specs.Text.{inRange}
-use mathlib.Core.Path.{ap, _∙_}
+-- `all_in_range` meets its contract. The loop: the numbers from i on are in range as all are.
+use Rattle.machine.specs.Text.{inRange, fieldCount, numberList, allInRange}
+use mathlib.Core.Path.{ap, _∙_, _≡_, refl}
 use mir.Syntax.{w64}
 use mir.ValLaws.{toZ-ofZ}
 use Prim.Native.Nat.{_≤_, _-_}
-use mathlib.Core.Path.{_≡_, refl}
 use native.Mathlib.Omega.{arith}
 use borrow.Author.Needs.{needs}
 use lib.ListN.{drop}
-use Rattle.machine.specs.Text.{fieldCount, numberList, allInRange}
 use Rattle.line.proofs.Writing.{range-out, range-in, range-end}
 use Rattle.line.proofs.all_in_range.Statement.{statement}
 use Rattle.line.proofs.all_in_range.Tie as tie
-use Rattle.line.proofs.all_in_range.Reads as reads
-use Rattle.line.proofs.all_in_range.Lts as lts
-use Rattle.line.proofs.in_range.Reads as in-range-reads
-use Rattle.line.proofs.number.Reads as number-reads
 
 abbrev Inv-loop : tie.InvT-loop
 Inv-loop n i₀ i = (i ≤ fieldCount) × (allInRange (drop i (numberList n)) ≡ allInRange (numberList n))
@@ -22,35 +17,41 @@ Inv-loop n i₀ i = (i ≤ fieldCount) × (allInRange (drop i (numberList n)) �
 abbrev μ-loop : tie.MeasureT-loop
 μ-loop n i₀ i = fieldCount - i
 
--- src/lib.rt:216:5
 loop-holds : tie.Need-loop-holds Inv-loop μ-loop
 loop-holds c = (omega arith, refl)
 
--- src/lib.rt:217:22
 number-requires : tie.Need-number-requires Inv-loop μ-loop
 number-requires c κs = search needs
 
--- src/lib.rt:217:13
 in-range-requires : tie.Need-in-range-requires Inv-loop μ-loop
 in-range-requires c κs = search needs
 
--- src/lib.rt:218:13
 returns : tie.Need-returns Inv-loop μ-loop
-returns c = range-out (numberList (c .before .before .before .before .before .args .n)) (c .before .before .before .before .loop .i) (omega arith) _ (c .before .before .number .ensures) _ (c .before .in-range .ensures ∙ ap inRange (toZ-ofZ w64 (c .before .before .number .result) (omega (arith, c .before .before .number .ok)))) (c .if1 .taken) _ (c .before .before .before .before .loop .inv .1)
+returns c =
+    let start = c .before .before .before .before .before in
+    let loop = c .before .before .before .before .loop in
+    let number = c .before .before .number in
+    range-out (numberList (start .args .n)) (loop .i) (omega arith) _ (number .ensures) _
+    (c .before .in-range .ensures ∙ ap inRange (toZ-ofZ w64 (number .result) (omega (arith, number .ok)))) (c .if1 .taken) _
+    (loop .inv .1)
 
--- src/lib.rt:220:9
 add-i : tie.Need-add-i Inv-loop μ-loop
 add-i c = search needs
 
--- src/lib.rt:216:5
 loop-less : tie.Need-loop-less Inv-loop μ-loop
 loop-less c = search needs
 
--- src/lib.rt:216:5
 loop-again : tie.Need-loop-again Inv-loop μ-loop
-loop-again c = (omega arith, range-in (numberList (c .before .before .before .before .before .args .n)) (c .before .before .before .before .loop .i) (omega arith) _ (c .before .before .number .ensures) _ (c .before .in-range .ensures ∙ ap inRange (toZ-ofZ w64 (c .before .before .number .result) (omega (arith, c .before .before .number .ok)))) (c .if1 .left) _ (c .before .before .before .before .loop .inv .1))
+loop-again c =
+    let start = c .before .before .before .before .before in
+    let loop = c .before .before .before .before .loop in
+    let number = c .before .before .number in (
+      omega arith,
+      range-in (numberList (start .args .n)) (loop .i) (omega arith) _ (number .ensures) _
+          (c .before .in-range .ensures ∙ ap inRange (toZ-ofZ w64 (number .result) (omega (arith, number .ok)))) (c .if1 .left) _
+          (loop .inv .1),
+    )
 
--- src/lib.rt:212:1
 returns-2 : tie.Need-returns-2 Inv-loop μ-loop
 returns-2 c = range-end (numberList (c .before .before .args .n)) (c .before .loop .i) _ (omega arith) (c .before .loop .inv .1)
 

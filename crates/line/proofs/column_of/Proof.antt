@@ -1,23 +1,17 @@
+-- `column_of` meets its contract.
 use Rattle.machine.specs.Text.{column}
-use mathlib.Core.Path.{refl}
 use borrow.Author.Tests.{eq-eqb, ne-eqb}
 use borrow.Author.Needs.{needs}
 use Rattle.line.proofs.column_of.Statement.{statement}
 use Rattle.line.proofs.column_of.Tie as tie
-use Rattle.line.proofs.column_of.Reads as reads
-use Rattle.line.proofs.column_of.Lts as lts
-use Rattle.line.proofs.last_digit.Reads as last-digit-reads
 
--- src/lib.rt:66:9
 returns : tie.Need-returns
 unfolding column
 returns c = rw (eq-eqb _ 0 (c .if1 .taken))
 
--- src/lib.rt:68:5
 last-digit-requires : tie.Need-last-digit-requires
 last-digit-requires c κs = search needs
 
--- src/lib.rt:62:1
 returns-2 : tie.Need-returns-2
 unfolding column
 returns-2 c = rw (ne-eqb _ 0 (c .before .if1 .left)) (c .last-digit .ensures)

@@ -1,3 +1,4 @@
+-- `field_at` meets its contract.
 use native.Mathlib.Omega.{arith}
 use lib.ListN.{take, drop}
 use Prim.Native.Nat.{ℕ, _+_, _-_}
@@ -7,33 +8,27 @@ use Rattle.line.specs.Found.{foundOf}
 use borrow.Author.Needs.{needs}
 use Rattle.line.proofs.field_at.Statement.{statement}
 use Rattle.line.proofs.field_at.Tie as tie
-use Rattle.line.proofs.field_at.Reads as reads
-use Rattle.line.proofs.field_at.Lts as lts
-use Rattle.line.proofs.field.Reads as field-reads
 
--- src/lib.rt:124:15
 add-end : tie.Need-add-end
 add-end c = search needs
 
--- src/lib.rt:125:11
 sub-field : tie.Need-sub-field
 sub-field c = search needs
 
--- src/lib.rt:125:11
 part-field-start : tie.Need-part-field-start
 part-field-start c = search needs
 
--- src/lib.rt:125:11
 part-field-end : tie.Need-part-field-end
 part-field-end c = search needs
 
--- src/lib.rt:125:5
 field-requires : tie.Need-field-requires
 field-requires c κs = search needs
 
--- src/lib.rt:120:1
 returns : tie.Need-returns
-returns c = let e : c .before .before .before .args .at + fieldWidth - c .before .before .before .args .at ≡ fieldWidth = omega arith in c .field .ensures ∙ ap (λ (k : ℕ). foundOf (readField (take k (drop (c .before .before .before .args .at) (c .before .before .before .args .s .now))))) e
+returns c =
+    let start = c .before .before .before in
+    let e : start .args .at + fieldWidth - start .args .at ≡ fieldWidth = omega arith in c .field .ensures ∙ ap
+    (λ (k : ℕ). foundOf (readField (take k (drop (start .args .at) (start .args .s .now))))) e
 
 pub field-at-spec : {M : Type 1} → statement M
 field-at-spec =

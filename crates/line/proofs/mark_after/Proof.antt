@@ -1,16 +1,13 @@
+-- `mark_after` meets its contract.
 use Rattle.machine.specs.Text.{markAfter}
 use borrow.Author.Tests.{eq-eqb, ne-eqb}
 use Rattle.line.proofs.mark_after.Statement.{statement}
 use Rattle.line.proofs.mark_after.Tie as tie
-use Rattle.line.proofs.mark_after.Reads as reads
-use Rattle.line.proofs.mark_after.Lts as lts
 
--- src/lib.rt:73:9
 returns : tie.Need-returns
 unfolding markAfter
 returns c = rw (eq-eqb _ 0 (c .if1 .taken))
 
--- src/lib.rt:69:1
 returns-2 : tie.Need-returns-2
 unfolding markAfter
 returns-2 c = rw (ne-eqb _ 0 (c .if1 .left))

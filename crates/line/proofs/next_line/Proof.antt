@@ -1,14 +1,12 @@
+-- `next_line` meets its contract. The loop: the line at i ends where the line at the start does.
 use Prim.Native.Nat.{_-_}
 use mathlib.Core.Path.{_≡_, refl}
 use native.Mathlib.Omega.{arith}
-use borrow.Author.Needs.{needs}
 use lib.ListN.{length}
 use Rattle.machine.specs.Text.{lineEnd}
 use Rattle.line.proofs.Reading.{end-more, end-found, end-past}
 use Rattle.line.proofs.next_line.Statement.{statement}
 use Rattle.line.proofs.next_line.Tie as tie
-use Rattle.line.proofs.next_line.Reads as reads
-use Rattle.line.proofs.next_line.Lts as lts
 
 abbrev Inv-loop : tie.InvT-loop
 Inv-loop s at i₀ i = lineEnd s i ≡ lineEnd s at
@@ -16,35 +14,33 @@ Inv-loop s at i₀ i = lineEnd s i ≡ lineEnd s at
 abbrev μ-loop : tie.MeasureT-loop
 μ-loop s at i₀ i = length s - i
 
--- src/lib.rt:176:5
 loop-holds : tie.Need-loop-holds Inv-loop μ-loop
 loop-holds c = refl
 
--- src/lib.rt:177:12
 shared-slice-read-if1 : tie.Need-shared-slice-read-if1 Inv-loop μ-loop
 shared-slice-read-if1 c = omega arith
 
--- src/lib.rt:178:20
 add-result : tie.Need-add-result Inv-loop μ-loop
 add-result c = omega arith
 
--- src/lib.rt:178:13
 returns : tie.Need-returns Inv-loop μ-loop
-returns c = end-found (c .before .before .before .before .args .s .now) _ _ (c .before .before .before .loop .inv) (c .before .before .loop-test .taken) (c .if1 .taken)
+returns c =
+    let start = c .before .before .before .before in
+    let loop = c .before .before .before .loop in
+    end-found (start .args .s .now) _ _ (loop .inv) (c .before .before .loop-test .taken) (c .if1 .taken)
 
--- src/lib.rt:180:9
 add-i : tie.Need-add-i Inv-loop μ-loop
 add-i c = omega arith
 
--- src/lib.rt:176:5
 loop-less : tie.Need-loop-less Inv-loop μ-loop
 loop-less c = omega arith
 
--- src/lib.rt:176:5
 loop-again : tie.Need-loop-again Inv-loop μ-loop
-loop-again c = end-more (c .before .before .before .before .args .s .now) _ _ (c .before .before .before .loop .inv) (c .before .before .loop-test .taken) (c .if1 .left)
+loop-again c =
+    let start = c .before .before .before .before in
+    let loop = c .before .before .before .loop in
+    end-more (start .args .s .now) _ _ (loop .inv) (c .before .before .loop-test .taken) (c .if1 .left)
 
--- src/lib.rt:172:1
 returns-2 : tie.Need-returns-2 Inv-loop μ-loop
 returns-2 c = end-past (c .before .before .args .s .now) _ _ (c .before .loop .inv) (c .loop-test .left)
 

@@ -1,40 +1,39 @@
+-- `put_field` meets its contract.
 use mathlib.Core.Path.{ap, _∙_}
 use lib.Seq.{sets}
 use Rattle.line.proofs.Signed.{minus-one-text, magnitude-fits, magnitude-text}
 use borrow.Author.Needs.{needs}
 use Rattle.line.proofs.put_field.Statement.{statement}
 use Rattle.line.proofs.put_field.Tie as tie
-use Rattle.line.proofs.put_field.Reads as reads
-use Rattle.line.proofs.put_field.Lts as lts
-use Rattle.line.proofs.put_number.Reads as put-number-reads
 
--- src/lib.rt:247:9
 put-number-requires : tie.Need-put-number-requires
 put-number-requires c κs = search needs
 
--- src/lib.rt:249:29
 cast-put-number : tie.Need-cast-put-number
-cast-put-number c = magnitude-fits _ (c .before .before .before .fits .x) (c .before .before .before .pre .1) (c .before .if1 .left)
+cast-put-number c =
+    let start = c .before .before .before in
+    magnitude-fits _ (start .fits .x) (start .pre .1) (c .before .if1 .left)
 
--- src/lib.rt:249:9
 put-number-requires-2 : tie.Need-put-number-requires-2
 put-number-requires-2 c κs = search needs
 
--- src/lib.rt:242:1
 same-length : tie.Need-same-length
 same-length c = search needs
 
--- src/lib.rt:242:1
 returns : tie.Need-returns
-returns c = c .before .before .put-number .ensures ∙ ap (sets _ _) (minus-one-text _ (c .before .before .before .before .before .before .fits .x) (c .before .before .before .before .if1 .taken))
+returns c =
+    let start = c .before .before .before .before .before .before in
+    let if1 = c .before .before .before .before .if1 in
+    c .before .before .put-number .ensures ∙ ap (sets _ _) (minus-one-text _ (start .fits .x) (if1 .taken))
 
--- src/lib.rt:242:1
 same-length-2 : tie.Need-same-length-2
 same-length-2 c = search needs
 
--- src/lib.rt:242:1
 returns-2 : tie.Need-returns-2
-returns-2 c = c .before .before .put-number2 .ensures ∙ ap (sets _ _) (magnitude-text _ (c .before .before .before .before .before .before .fits .x) (c .before .before .before .before .before .before .pre .1) (c .before .before .before .before .if1 .left))
+returns-2 c =
+    let start = c .before .before .before .before .before .before in
+    let if1 = c .before .before .before .before .if1 in
+    c .before .before .put-number2 .ensures ∙ ap (sets _ _) (magnitude-text _ (start .fits .x) (start .pre .1) (if1 .left))
 
 pub put-field-spec : {M : Type 1} → statement M
 put-field-spec =

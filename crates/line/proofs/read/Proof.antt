@@ -1,111 +1,113 @@
+-- `read` meets its contract. The loop: the numbers so far, ahead of what is left to read, are what the line reads as.
 use lib.ListN.{length, take, drop, length-set}
-use Rattle.line.proofs.Reading.{ahead, ahead-nil, long-line, number-more, number-none, feed-none, feed-found}
+use Rattle.line.proofs.Reading.{ahead, ahead-nil, number-more, number-none, feed-none, feed-found}
 use Prim.Native.Nat.{_≤_, _*_, _-_}
 use mathlib.Core.Path.{_≡_, refl}
 use native.Mathlib.Omega.{arith}
 use borrow.Author.Needs.{needs}
-use lib.ListN.{length, take, drop}
 use Rattle.machine.specs.Text.{fieldWidth, fieldCount, readNumbers}
-use Rattle.line.proofs.Reading.{ahead}
+use Rattle.machine.proofs.TextLine.{read-other}
 use Rattle.line.proofs.read.Statement.{statement}
 use Rattle.line.proofs.read.Tie as tie
-use Rattle.line.proofs.read.Reads as reads
-use Rattle.line.proofs.read.Lts as lts
-use Rattle.line.proofs.field_at.Reads as field-at-reads
 
 abbrev Inv-loop : tie.InvT-loop
-Inv-loop s ns₀ i₀ ns i = (i ≤ fieldCount) × (length ns ≡ fieldCount) × (ahead (take i ns) (readNumbers (fieldCount - i) (drop (i * fieldWidth) s)) ≡ readNumbers fieldCount s)
+Inv-loop s ns₀ i₀ ns i =
+    (i ≤ fieldCount)
+    × (length ns ≡ fieldCount)
+    × (ahead (take i ns) (readNumbers (fieldCount - i) (drop (i * fieldWidth) s)) ≡ readNumbers fieldCount s)
 
 abbrev μ-loop : tie.MeasureT-loop
 μ-loop s ns₀ i₀ ns i = fieldCount - i
 
--- src/lib.rt:133:9
 returns : tie.Need-returns Inv-loop μ-loop
-returns c = long-line (c .before .before .args .s .now) (λ e. omega arith)
+returns c = read-other (c .before .before .args .s .now) (λ e. omega arith)
 
--- src/lib.rt:137:5
 loop-holds : tie.Need-loop-holds Inv-loop μ-loop
 loop-holds c = (omega arith, refl, ahead-nil _)
 
--- src/lib.rt:138:44
 mul-field-at : tie.Need-mul-field-at Inv-loop μ-loop
 mul-field-at c = search needs
 
--- src/lib.rt:138:32
 field-at-requires : tie.Need-field-at-requires Inv-loop μ-loop
 field-at-requires c κs = search needs
 
--- src/lib.rt:138:27
 enum-known-x : tie.Need-enum-known-x Inv-loop μ-loop
 enum-known-x c = search needs
 
--- src/lib.rt:139:13
 enum-told : tie.Need-enum-told Inv-loop μ-loop
 enum-told c = search needs
 
--- src/lib.rt:139:13
 returns-2 : tie.Need-returns-2 Inv-loop μ-loop
-returns-2 c = number-none (c .before .before .before .before .before .before .before .args .s .now) (c .before .before .before .before .loop .ns) (c .before .before .before .before .loop .i) (c .before .before .before .before .loop .inv .1) (c .before .before .before .before .loop .inv .2) (c .before .before .before .loop-test .taken) _ (c .before .before .field-at .ensures) (c .enum-told .given .1)
+returns-2 c =
+    let start = c .before .before .before .before .before .before .before in
+    let loop = c .before .before .before .before .loop in
+    let loop-test = c .before .before .before .loop-test in
+    number-none (start .args .s .now) (loop .ns) (loop .i) (loop .inv .1) (loop .inv .2) (loop-test .taken) _
+    (c .before .before .field-at .ensures) (c .enum-told .given .1)
 
--- src/lib.rt:141:9
 mul-ns : tie.Need-mul-ns Inv-loop μ-loop
 mul-ns c = search needs
 
--- src/lib.rt:141:9
 array-set-from-ns : tie.Need-array-set-from-ns Inv-loop μ-loop
 array-set-from-ns c = search needs
 
--- src/lib.rt:142:9
 add-i : tie.Need-add-i Inv-loop μ-loop
 add-i c = search needs
 
--- src/lib.rt:137:5
 loop-less : tie.Need-loop-less Inv-loop μ-loop
 loop-less c = search needs
 
--- src/lib.rt:137:5
 loop-again : tie.Need-loop-again Inv-loop μ-loop
-loop-again c = (omega arith, simp length-set (c .before .before .before .before .before .loop .inv .1), number-more (c .before .before .before .before .before .before .before .before .args .s .now) (c .before .before .before .before .before .loop .ns) (c .before .before .before .before .before .loop .i) (c .before .before .before .before .before .loop .inv .1) (c .before .before .before .before .before .loop .inv .2) (c .before .before .before .before .loop-test .taken) _ (c .before .before .before .field-at .ensures) _ (c .before .x .given .1))
+loop-again c =
+    let start = c .before .before .before .before .before .before .before .before in
+    let loop = c .before .before .before .before .before .loop in
+    let loop-test = c .before .before .before .before .loop-test in
+    let field-at = c .before .before .before .field-at in (
+      omega arith,
+      simp length-set (loop .inv .1),
+      number-more (start .args .s .now) (loop .ns) (loop .i) (loop .inv .1) (loop .inv .2) (loop-test .taken) _
+          (field-at .ensures) _ (c .before .x .given .1),
+    )
 
--- src/lib.rt:144:10
 sub-if2 : tie.Need-sub-if2 Inv-loop μ-loop
 sub-if2 c = search needs
 
--- src/lib.rt:144:8
 shared-slice-read-if2 : tie.Need-shared-slice-read-if2 Inv-loop μ-loop
 shared-slice-read-if2 c = search needs
 
--- src/lib.rt:145:9
 returns-3 : tie.Need-returns-3 Inv-loop μ-loop
-returns-3 c = feed-none (c .before .before .before .before .before .before .args .s .now) (c .before .before .before .loop .ns) (c .before .before .before .loop .i) (c .before .before .before .loop .inv .1) (c .before .before .before .loop .inv .2) (c .before .before .loop-test .left) (c .before .before .before .loop .inv .0) (omega arith) (c .if2 .taken)
+returns-3 c =
+    let start = c .before .before .before .before .before .before in
+    let loop = c .before .before .before .loop in
+    feed-none (start .args .s .now) (loop .ns) (loop .i) (loop .inv .1) (loop .inv .2) (c .before .before .loop-test .left)
+    (loop .inv .0) (omega arith) (c .if2 .taken)
 
--- src/lib.rt:148:13
 array-copy-out-t16 : tie.Need-array-copy-out-t16 Inv-loop μ-loop
 array-copy-out-t16 c = search needs
 
--- src/lib.rt:149:13
 array-copy-out-t19 : tie.Need-array-copy-out-t19 Inv-loop μ-loop
 array-copy-out-t19 c = search needs
 
--- src/lib.rt:150:13
 array-copy-out-t22 : tie.Need-array-copy-out-t22 Inv-loop μ-loop
 array-copy-out-t22 c = search needs
 
--- src/lib.rt:151:13
 array-copy-out-t25 : tie.Need-array-copy-out-t25 Inv-loop μ-loop
 array-copy-out-t25 c = search needs
 
--- src/lib.rt:152:13
 array-copy-out-t28 : tie.Need-array-copy-out-t28 Inv-loop μ-loop
 array-copy-out-t28 c = search needs
 
--- src/lib.rt:153:13
 array-copy-out-t31 : tie.Need-array-copy-out-t31 Inv-loop μ-loop
 array-copy-out-t31 c = search needs
 
--- src/lib.rt:129:1
 returns-4 : tie.Need-returns-4 Inv-loop μ-loop
-returns-4 c = feed-found (c .before .before .before .before .before .before .before .before .before .before .before .before .args .s .now) (c .before .before .before .before .before .before .before .before .before .loop .ns) (c .before .before .before .before .before .before .before .before .before .loop .i) (c .before .before .before .before .before .before .before .before .before .loop .inv .1) (c .before .before .before .before .before .before .before .before .before .loop .inv .2) (c .before .before .before .before .before .before .before .before .loop-test .left) (c .before .before .before .before .before .before .before .before .before .loop .inv .0) (omega arith) (c .before .before .before .before .before .before .if2 .left)
+returns-4 c =
+    let start = c .before .before .before .before .before .before .before .before .before .before .before .before in
+    let loop = c .before .before .before .before .before .before .before .before .before .loop in
+    let loop-test = c .before .before .before .before .before .before .before .before .loop-test in
+    let if2 = c .before .before .before .before .before .before .if2 in
+    feed-found (start .args .s .now) (loop .ns) (loop .i) (loop .inv .1) (loop .inv .2) (loop-test .left) (loop .inv .0)
+    (omega arith) (if2 .left)
 
 pub read-spec : {M : Type 1} → statement M
 read-spec =

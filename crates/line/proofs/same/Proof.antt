@@ -1,3 +1,4 @@
+-- `same` meets its contract. The loop: the columns left of j are left to compare.
 use Prim.Native.Nat.{_≤_, _-_}
 use mathlib.Core.Path.{_≡_}
 use native.Mathlib.Omega.{arith}
@@ -7,67 +8,62 @@ use Rattle.machine.specs.Text.{fieldWidth, columns, numberText, sameBytes}
 use Rattle.line.proofs.Reading.{number-differs, number-agrees, column-differs, column-agrees, columns-agree}
 use Rattle.line.proofs.same.Statement.{statement}
 use Rattle.line.proofs.same.Tie as tie
-use Rattle.line.proofs.same.Reads as reads
-use Rattle.line.proofs.same.Lts as lts
-use Rattle.line.proofs.column_of.Reads as column-of-reads
-use Rattle.line.proofs.last_digit.Reads as last-digit-reads
-use Rattle.line.proofs.mark_after.Reads as mark-after-reads
 
 abbrev Inv-loop : tie.InvT-loop
-Inv-loop s magnitude sign j₀ rest₀ mark₀ j rest mark = (j ≤ fieldWidth - 1) × (sameBytes (take j s) (columns j rest mark) ≡ sameBytes s (numberText magnitude sign))
+Inv-loop s magnitude sign j₀ rest₀ mark₀ j rest mark =
+    (j ≤ fieldWidth - 1)
+    × (sameBytes (take j s) (columns j rest mark) ≡ sameBytes s (numberText magnitude sign))
 
 abbrev μ-loop : tie.MeasureT-loop
 μ-loop s magnitude sign j₀ rest₀ mark₀ j rest mark = j
 
--- src/lib.rt:83:17
 sub-j : tie.Need-sub-j Inv-loop μ-loop
 sub-j c = search needs
 
--- src/lib.rt:84:8
 shared-slice-read-if1 : tie.Need-shared-slice-read-if1 Inv-loop μ-loop
 shared-slice-read-if1 c = search needs
 
--- src/lib.rt:84:16
 last-digit-requires : tie.Need-last-digit-requires Inv-loop μ-loop
 last-digit-requires c κs = search needs
 
--- src/lib.rt:85:9
 returns : tie.Need-returns Inv-loop μ-loop
 returns c = number-differs _ _ _ _ (c .before .before .before .before .pre) (c .before .last-digit .ensures) (c .if1 .taken)
 
--- src/lib.rt:89:5
 loop-holds : tie.Need-loop-holds Inv-loop μ-loop
-loop-holds c = (omega arith, number-agrees _ _ _ _ (c .before .before .before .before .pre) (c .before .last-digit .ensures) (c .if1 .left))
+loop-holds c =
+    let start = c .before .before .before .before in
+    (omega arith, number-agrees _ _ _ _ (start .pre) (c .before .last-digit .ensures) (c .if1 .left))
 
--- src/lib.rt:90:9
 sub-j-2 : tie.Need-sub-j-2 Inv-loop μ-loop
 sub-j-2 c = search needs
 
--- src/lib.rt:91:12
 shared-slice-read-if2 : tie.Need-shared-slice-read-if2 Inv-loop μ-loop
 shared-slice-read-if2 c = search needs
 
--- src/lib.rt:91:20
 column-of-requires : tie.Need-column-of-requires Inv-loop μ-loop
 column-of-requires c κs = search needs
 
--- src/lib.rt:92:13
 returns-2 : tie.Need-returns-2 Inv-loop μ-loop
-returns-2 c = column-differs _ _ _ _ _ _ (c .before .before .before .loop-test .taken) (omega arith) (c .before .column-of .ensures) (c .before .before .before .before .loop .inv .1) (c .if2 .taken)
+returns-2 c =
+    let loop = c .before .before .before .before .loop in
+    let loop-test = c .before .before .before .loop-test in
+    column-differs _ _ _ _ _ _ (loop-test .taken) (omega arith) (c .before .column-of .ensures) (loop .inv .1) (c .if2 .taken)
 
--- src/lib.rt:94:9
 mark-after-requires : tie.Need-mark-after-requires Inv-loop μ-loop
 mark-after-requires c κs = search needs
 
--- src/lib.rt:89:5
 loop-less : tie.Need-loop-less Inv-loop μ-loop
 loop-less c = search needs
 
--- src/lib.rt:89:5
 loop-again : tie.Need-loop-again Inv-loop μ-loop
-loop-again c = (omega arith, column-agrees _ _ _ _ _ _ (c .before .before .before .before .loop-test .taken) (omega arith) (c .before .before .column-of .ensures) (c .before .before .before .before .before .loop .inv .1) _ (c .mark-after .ensures) (c .before .if2 .left))
+loop-again c =
+    let loop = c .before .before .before .before .before .loop in
+    let loop-test = c .before .before .before .before .loop-test in (
+      omega arith,
+      column-agrees _ _ _ _ _ _ (loop-test .taken) (omega arith) (c .before .before .column-of .ensures) (loop .inv .1) _
+          (c .mark-after .ensures) (c .before .if2 .left),
+    )
 
--- src/lib.rt:79:1
 returns-3 : tie.Need-returns-3 Inv-loop μ-loop
 returns-3 c = columns-agree _ _ _ _ _ (c .loop-test .left) (c .before .loop .inv .1)
 

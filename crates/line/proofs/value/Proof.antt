@@ -1,3 +1,4 @@
+-- `value` meets its contract. The loop: what is left to read after v gives the whole; v is small enough for ten bytes.
 use Prim.Native.Nat.{_≤_, _+_, _*_, _-_, _^_}
 use mathlib.Core.Path.{_≡_}
 use native.Mathlib.Omega.{arith}
@@ -7,9 +8,6 @@ use Rattle.machine.specs.Text.{base, fieldWidth, spelled}
 use Rattle.line.proofs.Reading.{spelled-more, spelled-end, spelled-bound, spelled-fits}
 use Rattle.line.proofs.value.Statement.{statement}
 use Rattle.line.proofs.value.Tie as tie
-use Rattle.line.proofs.value.Reads as reads
-use Rattle.line.proofs.value.Lts as lts
-use Rattle.line.proofs.digit.Reads as digit-reads
 
 abbrev Inv-loop : tie.InvT-loop
 Inv-loop s v₀ i₀ v i = (i ≤ fieldWidth) × (v + 23 ≤ 23 * base ^ i) × (spelled (drop i s) v ≡ spelled s 0)
@@ -17,41 +15,43 @@ Inv-loop s v₀ i₀ v i = (i ≤ fieldWidth) × (v + 23 ≤ 23 * base ^ i) × (
 abbrev μ-loop : tie.MeasureT-loop
 μ-loop s v₀ i₀ v i = fieldWidth - i
 
--- src/lib.rt:44:5
 loop-holds : tie.Need-loop-holds Inv-loop μ-loop
 loop-holds c = search needs
 
--- src/lib.rt:45:13
 mul-v : tie.Need-mul-v Inv-loop μ-loop
 mul-v c = omega (arith, spelled-fits _ _ (c .loop-test .taken) (c .before .loop .inv .1))
 
--- src/lib.rt:45:28
 shared-slice-read-digit : tie.Need-shared-slice-read-digit Inv-loop μ-loop
 shared-slice-read-digit c = search needs
 
--- src/lib.rt:45:22
 digit-requires : tie.Need-digit-requires Inv-loop μ-loop
 digit-requires c κs = search needs
 
--- src/lib.rt:45:13
 add-v : tie.Need-add-v Inv-loop μ-loop
-add-v c = omega (arith, spelled-fits _ _ (c .before .before .loop-test .taken) (c .before .before .before .loop .inv .1), c .before .shared-slice-known2 .given (c .before .before .before .loop .i))
+add-v c =
+    let loop = c .before .before .before .loop in
+    omega
+    (arith, spelled-fits _ _ (c .before .before .loop-test .taken) (loop .inv .1), c .before .shared-slice-known2 .given (loop .i))
 
--- src/lib.rt:46:9
 add-i : tie.Need-add-i Inv-loop μ-loop
 add-i c = search needs
 
--- src/lib.rt:44:5
 loop-less : tie.Need-loop-less Inv-loop μ-loop
 loop-less c = search needs
 
--- src/lib.rt:44:5
 loop-again : tie.Need-loop-again Inv-loop μ-loop
-loop-again c = (omega arith, spelled-bound _ _ _ (omega (arith, c .before .shared-slice-known2 .given (c .before .before .before .loop .i))) (c .before .before .before .loop .inv .1), spelled-more (c .before .before .before .before .before .args .s .now) (c .before .before .before .loop .i) _ _ _ (omega arith) (c .digit .ensures) (c .before .before .before .loop .inv .2))
+loop-again c =
+    let start = c .before .before .before .before .before in
+    let loop = c .before .before .before .loop in (
+      omega arith,
+      spelled-bound _ _ _ (omega (arith, c .before .shared-slice-known2 .given (loop .i))) (loop .inv .1),
+      spelled-more (start .args .s .now) (loop .i) _ _ _ (omega arith) (c .digit .ensures) (loop .inv .2),
+    )
 
--- src/lib.rt:38:1
 returns : tie.Need-returns Inv-loop μ-loop
-returns c = spelled-end (c .before .before .before .args .s .now) (c .before .loop .i) _ _ (omega arith) (c .before .loop .inv .2)
+returns c =
+    let loop = c .before .loop in
+    spelled-end (c .before .before .before .args .s .now) (loop .i) _ _ (omega arith) (loop .inv .2)
 
 pub value-spec : {M : Type 1} → statement M
 value-spec =

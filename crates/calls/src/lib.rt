@@ -62,7 +62,7 @@ pub fn is_unknown(id: u32, count: u8) -> bool
     if id == 0 { true } else { (count as u32) < id }
 }
 
-fn caller_of(c: Context) -> u32
+pub fn caller_of(c: Context) -> u32
     ensures { λ r. ⌜ r ≡ c .caller ⌝ }
 {
     c.caller as u32
@@ -166,20 +166,18 @@ fn is_period(f: Field, frame: u16) -> bool
     ensures { λ r. ⌜ r ≡ isMinusOne f || isMultiple frame f ⌝ }
 {
     if fields::is_minus_one(f) {
-        true
-    } else {
-        is_multiple(f, frame)
+        return true;
     }
+    is_multiple(f, frame)
 }
 
 fn is_capacity(f: Field) -> bool
     ensures { λ r. ⌜ r ≡ isMinusOne f || between 1 durationLimit f ⌝ }
 {
     if fields::is_minus_one(f) {
-        true
-    } else {
-        fields::is_between(f, 1, Module::DURATION)
+        return true;
     }
+    fields::is_between(f, 1, Module::DURATION)
 }
 
 // What CREATE_PROCESS admits.
@@ -306,11 +304,10 @@ pub fn stop_self(p: Partition, c: Context) -> Called
 fn is_unsuspendable(x: Process) -> bool
     ensures { λ r. ⌜ r ≡ dormant x || periodic x ⌝ }
 {
-    if x.started {
-        process::is_periodic(x)
-    } else {
-        true
+    if !x.started {
+        return true;
     }
+    process::is_periodic(x)
 }
 
 // 7 SUSPEND.
@@ -406,7 +403,8 @@ pub fn resume_process(p: Partition, c: Context, id: u32) -> Called
     if !x.suspended {
         return answered(p, 1);
     }
-    answered(partition::store(p, id, process::resume(x)), 0)
+    let y = process::resume(x);
+    answered(partition::store(p, id, y), 0)
 }
 
 // 12 SET_PRIORITY.

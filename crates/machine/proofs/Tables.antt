@@ -44,20 +44,20 @@ end-snoc previous [] w = refl
 end-snoc previous (x ∷ ws) w = end-snoc (x .start + x .duration) ws w
 
 -- a table while it is read
-record SoundDraft (n : ℕ) (d : Draft) : Type 0 where
-  frame : Between 1 frameLimit (d .table .frame)
-  size : Between 1 partitionLimit (d .table .size)
-  windowsSize : length (d .table .windows) ≡ windowLimit
-  channelsSize : length (d .table .channels) ≡ channelLimit
-  announced : Between 1 windowLimit (d .windows)
-  announcedChannels : d .channels ≤ channelLimit
-  left : d .table .windowCount + d .table .channelCount + n ≡ d .windows + d .channels
-  ordered : (d .table .windowCount ≤ d .windows) × (d .table .windowCount < d .windows → d .table .channelCount ≡ 0)
-  eachWindow : SoundWindows 0 (d .table .frame) (d .table .size) (windows (d .table))
-  end : endAfter 0 (windows (d .table)) ≡ d .previous
-  eachChannel : (i : ℕ) → i < d .table .channelCount → SoundChannel (d .table .size) (channel (d .table) i)
+pub record SoundDraft (n : ℕ) (d : Draft) : Type 0 where
+  pub frame : Between 1 frameLimit (d .table .frame)
+  pub size : Between 1 partitionLimit (d .table .size)
+  pub windowsSize : length (d .table .windows) ≡ windowLimit
+  pub channelsSize : length (d .table .channels) ≡ channelLimit
+  pub announced : Between 1 windowLimit (d .windows)
+  pub announcedChannels : d .channels ≤ channelLimit
+  pub left : d .table .windowCount + d .table .channelCount + n ≡ d .windows + d .channels
+  pub ordered : (d .table .windowCount ≤ d .windows) × (d .table .windowCount < d .windows → d .table .channelCount ≡ 0)
+  pub eachWindow : SoundWindows 0 (d .table .frame) (d .table .size) (windows (d .table))
+  pub end : endAfter 0 (windows (d .table)) ≡ d .previous
+  pub eachChannel : (i : ℕ) → i < d .table .channelCount → SoundChannel (d .table .size) (channel (d .table) i)
 
-window-sound : (d : Draft) (r : Row) → T.windowGood d r ≡ true → SoundWindow (d .previous) (d .table .frame) (d .table .size) (T.windowOf r)
+pub window-sound : (d : Draft) (r : Row) → T.windowGood d r ≡ true → SoundWindow (d .previous) (d .table .frame) (d .table .size) (T.windowOf r)
 window-sound d r h =
     let h₂ = and-right (between (d .previous) (d .table .frame) (r .f1)) _ h in
     let h₃ = and-right (between 1 (d .table .frame) (r .f2)) _ h₂ in
@@ -69,7 +69,7 @@ window-sound d r h =
       owner = in-limits _ _ (r .f3) (and-left (between 1 (d .table .size) (r .f3)) _ h₄);
     }
 
-channel-sound : (d : Draft) (r : Row) → T.channelGood d r ≡ true → SoundChannel (d .table .size) (T.channelOf r)
+pub channel-sound : (d : Draft) (r : Row) → T.channelGood d r ≡ true → SoundChannel (d .table .size) (T.channelOf r)
 channel-sound d r h =
     let h₂ = and-right (between 1 (d .table .size) (r .f1)) _ h in
     let h₃ = and-right (between 1 (d .table .size) (r .f2)) _ h₂ in
@@ -172,7 +172,7 @@ checked-read d line s =
     (λ h. record { accepted = λ _. (draft-table d s h, refl); refused = λ n. absurd (n refl) })
     (λ h. table-refused 12 0 (λ q. omega arith))
 
-row-draft : (n : ℕ) (d : Draft) (r : Row) → SoundDraft (suc n) d → T.rowGood d r ≡ true → SoundDraft n (T.withRow d r)
+pub row-draft : (n : ℕ) (d : Draft) (r : Row) → SoundDraft (suc n) d → T.rowGood d r ≡ true → SoundDraft n (T.withRow d r)
 row-draft n d r s = go (T.windowNext d) refl
   where
     go : (b : Bool) → T.windowNext d ≡ b → cond b (T.windowGood d r) (T.channelGood d r) ≡ true → SoundDraft n (cond b (T.withWindow d r) (T.withChannel d r))
@@ -189,7 +189,7 @@ from-read (suc n) line d (Six x ∷ ls) s =
     (λ h. from-read n (line + 1) (T.withRow d (rowOf x)) ls (row-draft n d (rowOf x) s h))
     (λ h. table-refused _ _ (λ q. omega arith))
 
-head-draft : (r : Row) → T.headGood r ≡ true → SoundDraft (T.headDraft r .windows + T.headDraft r .channels) (T.headDraft r)
+pub head-draft : (r : Row) → T.headGood r ≡ true → SoundDraft (T.headDraft r .windows + T.headDraft r .channels) (T.headDraft r)
 unfolding SoundWindows
 head-draft r h =
     let h₂ = and-right (between 1 frameLimit (r .f1)) _ h in

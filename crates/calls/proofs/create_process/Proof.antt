@@ -1,8 +1,9 @@
+use Rattle.machine.proofs.Bounds.{replaced-next}
 use native.Mathlib.Omega.{arith}
 use borrow.Author.Tests.{eq-eqb, ne-eqb, le-leb, lt-leb}
 use Rattle.machine.specs.Limits.{processLimit}
 use Rattle.machine.specs.Calls.{checked, createProcess}
-use Rattle.calls.proofs.Laws.{replaced-next, admitted-name, admitted-priority}
+use Rattle.calls.proofs.Laws.{admitted-name, admitted-priority}
 use borrow.Author.Needs.{needs}
 use Rattle.calls.proofs.create_process.Statement.{statement}
 use Rattle.calls.proofs.create_process.Tie as tie
@@ -49,7 +50,7 @@ cast-answered-with c = search needs
 
 returns-5 : tie.Need-returns-5
 unfolding createProcess checked
-returns-5 c = rw (c .answered-with .ensures, c .before .created-process .ensures, c .before .before .time-of2 .ensures, c .before .before .before .time-of .ensures, c .before .before .before .before .number-of2 .ensures, c .before .before .before .before .before .number-of .ensures, lt-leb _ _ (c .before .before .before .before .before .before .before .before .before .before .before .before .if1 .left), ← c .before .before .before .before .before .before .before .before .before .before .before .is-process-named .ensures, c .before .before .before .before .before .before .before .before .before .before .if2 .left, ← c .before .before .before .before .before .before .before .before .before .is-admissible .ensures, c .before .before .before .before .before .before .before .before .if3 .left, ne-eqb _ _ (c .before .before .before .before .before .before .if4 .left), replaced-next processLimit _ (c .before .before .before .before .before .before .before .before .before .before .before .before .if1 .left))
+returns-5 c = rw (c .answered-with .ensures, c .before .created-process .ensures, c .before .before .time-of2 .ensures, c .before .before .before .time-of .ensures, c .before .before .before .before .number-of2 .ensures, c .before .before .before .before .before .number-of .ensures, lt-leb _ _ (c .before .before .before .before .before .before .before .before .before .before .before .before .if1 .left), ← c .before .before .before .before .before .before .before .before .before .before .before .is-process-named .ensures, c .before .before .before .before .before .before .before .before .before .before .if2 .left, ← c .before .before .before .before .before .before .before .before .before .is-admissible .ensures, c .before .before .before .before .before .before .before .before .if3 .left, ne-eqb _ _ (c .before .before .before .before .before .before .if4 .left), replaced-next processLimit _ _ _ (c .before .before .before .before .before .before .before .before .before .before .before .before .if1 .left))
 
 pub create-process-spec : {M : Type 1} → statement M
 create-process-spec =

@@ -4,7 +4,9 @@ use mathlib.Core.Path.{_≡_, refl, sym, _∙_}
 use native.Mathlib.Omega.{arith}
 use lib.ListN.{take, drop}
 use Rattle.machine.specs.Calls.{processNamed}
-use Rattle.calls.proofs.Laws.{name-here, name-next, name-nowhere}
+use Rattle.machine.specs.declared.Process.{Process}
+use Rattle.machine.specs.Process.{blankProcess}
+use Rattle.machine.proofs.Taken.{name-found, name-more, name-done}
 use Rattle.calls.proofs.is_process_named.Statement.{statement}
 use Rattle.calls.proofs.is_process_named.Tie as tie
 
@@ -27,7 +29,7 @@ cast-is-number : tie.Need-cast-is-number Inv-loop μ-loop
 cast-is-number c = search needs
 
 returns : tie.Need-returns Inv-loop μ-loop
-returns c = let a = c .before .before .before .before .before .before .before .before .args in sym (name-here (a .name) (a .t1 .processCount) (c .before .before .before .before .before .before .loop .i) (a .t1 .processes) (omega (arith, c .before .before .before .before .before .before .before .created .ensures .0)) (sym (c .before .is-number .ensures) ∙ c .if1 .taken)) ∙ c .before .before .before .before .before .before .loop .inv .1
+returns c = let a = c .before .before .before .before .before .before .before .before .args in sym (name-found (a .t1 .processes) (a .t1 .processCount) (c .before .before .before .before .before .before .loop .i) blankProcess (λ (x : Process). x .given .name) (a .name) (omega (arith, c .before .before .before .before .before .before .before .created .ensures .0)) (sym (c .before .is-number .ensures) ∙ c .if1 .taken)) ∙ c .before .before .before .before .before .before .loop .inv .1
 
 add-i : tie.Need-add-i Inv-loop μ-loop
 add-i c = omega (arith, c .before .before .before .before .before .before .before .created .ensures .1)
@@ -36,10 +38,10 @@ loop-less : tie.Need-loop-less Inv-loop μ-loop
 loop-less c = omega arith
 
 loop-again : tie.Need-loop-again Inv-loop μ-loop
-loop-again c = let a = c .before .before .before .before .before .before .before .before .args in (omega arith, sym (name-next (a .name) (a .t1 .processCount) (c .before .before .before .before .before .before .loop .i) (a .t1 .processes) (omega (arith, c .before .before .before .before .before .before .before .created .ensures .0)) (sym (c .before .is-number .ensures) ∙ c .if1 .left)) ∙ c .before .before .before .before .before .before .loop .inv .1)
+loop-again c = let a = c .before .before .before .before .before .before .before .before .args in (omega arith, sym (name-more (a .t1 .processes) (a .t1 .processCount) (c .before .before .before .before .before .before .loop .i) blankProcess (λ (x : Process). x .given .name) (a .name) (omega (arith, c .before .before .before .before .before .before .before .created .ensures .0)) (sym (c .before .is-number .ensures) ∙ c .if1 .left)) ∙ c .before .before .before .before .before .before .loop .inv .1)
 
 returns-2 : tie.Need-returns-2 Inv-loop μ-loop
-returns-2 c = let a = c .before .before .before .args in sym (name-nowhere (a .name) (a .t1 .processCount) (c .before .loop .i) (a .t1 .processes) (omega (arith, c .before .before .created .ensures .0))) ∙ c .before .loop .inv .1
+returns-2 c = let a = c .before .before .before .args in sym (name-done (a .t1 .processes) (a .t1 .processCount) (c .before .loop .i) blankProcess (λ (x : Process). x .given .name) (a .name) (omega (arith, c .before .before .created .ensures .0))) ∙ c .before .loop .inv .1
 
 pub is-process-named-spec : {M : Type 1} → statement M
 is-process-named-spec =

@@ -1,0 +1,84 @@
+-- `is_head_good` meets its contract.
+use Rattle.table.proofs.Laws.{and-no, and-yes}
+use borrow.Author.Needs.{needs}
+use Rattle.table.proofs.is_head_good.Statement.{statement}
+use Rattle.table.proofs.is_head_good.Tie as tie
+
+is-between-requires : tie.Need-is-between-requires
+is-between-requires c κs = search needs
+
+cast-is-between : tie.Need-cast-is-between
+cast-is-between c = search needs
+
+is-between-requires-2 : tie.Need-is-between-requires-2
+is-between-requires-2 c κs = search needs
+
+cast-is-between-2 : tie.Need-cast-is-between-2
+cast-is-between-2 c = search needs
+
+is-between-requires-3 : tie.Need-is-between-requires-3
+is-between-requires-3 c κs = search needs
+
+cast-is-between-3 : tie.Need-cast-is-between-3
+cast-is-between-3 c = search needs
+
+is-between-requires-4 : tie.Need-is-between-requires-4
+is-between-requires-4 c κs = search needs
+
+is-last-two-zero-requires : tie.Need-is-last-two-zero-requires
+is-last-two-zero-requires c κs = search needs
+
+returns : tie.Need-returns
+returns c =
+    let is-between = c .before .before .before .before .before .before .before .before .is-between in
+    let if1 = c .before .before .before .before .before .before .before .if1 in
+    let is-between2 = c .before .before .before .before .before .before .is-between2 in
+    let if2 = c .before .before .before .before .before .if2 in
+    let is-between3 = c .before .before .before .before .is-between3 in
+    and-yes _ (is-between .ensures) (if1 .taken) (and-yes _ (is-between2 .ensures) (if2 .taken) (and-yes _
+    (is-between3 .ensures) (c .before .before .before .if3 .taken)
+    (and-yes _ (c .before .before .is-between4 .ensures) (c .before .if4 .taken) (c .is-last-two-zero .ensures))))
+
+returns-2 : tie.Need-returns-2
+returns-2 c =
+    let is-between = c .before .before .before .before .before .before .before .is-between in
+    let if1 = c .before .before .before .before .before .before .if1 in
+    let is-between2 = c .before .before .before .before .before .is-between2 in
+    let if2 = c .before .before .before .before .if2 in
+    let is-between3 = c .before .before .before .is-between3 in
+    and-yes _ (is-between .ensures) (if1 .taken) (and-yes _ (is-between2 .ensures) (if2 .taken) (and-yes _
+    (is-between3 .ensures) (c .before .before .if3 .taken) (and-no _ (c .before .is-between4 .ensures) (c .if4 .left))))
+
+returns-3 : tie.Need-returns-3
+returns-3 c =
+    let is-between = c .before .before .before .before .before .is-between in
+    let if1 = c .before .before .before .before .if1 in
+    let is-between2 = c .before .before .before .is-between2 in
+    and-yes _ (is-between .ensures) (if1 .taken) (and-yes _ (is-between2 .ensures) (c .before .before .if2 .taken)
+    (and-no _ (c .before .is-between3 .ensures) (c .if3 .left)))
+
+returns-4 : tie.Need-returns-4
+returns-4 c =
+    let is-between = c .before .before .before .is-between in
+    and-yes _ (is-between .ensures) (c .before .before .if1 .taken) (and-no _ (c .before .is-between2 .ensures) (c .if2 .left))
+
+returns-5 : tie.Need-returns-5
+returns-5 c = and-no _ (c .before .is-between .ensures) (c .if1 .left)
+
+pub is-head-good-spec : {M : Type 1} → statement M
+is-head-good-spec =
+    tie.close
+    (tie.spec
+    is-between-requires
+    cast-is-between
+    is-between-requires-2
+    cast-is-between-2
+    is-between-requires-3
+    cast-is-between-3
+    is-between-requires-4
+    is-last-two-zero-requires
+    returns
+    returns-2
+    returns-3
+    returns-4
+    returns-5)

@@ -110,11 +110,11 @@ module _ (input : List ℕ) (at : ℕ) where
   one-left : at < length input → linesFrom input at ≡ readAt input at ∷ linesFrom input (lineEnd input at)
   one-left h = let l = line-at input at h in rw (l .first, l .reads)
 
-  six-left : at + lineLength ≤ length input → (k : Numbers) → readAt input at ≡ Six k → linesFrom input at ≡ Six k ∷ linesFrom input (at + lineLength)
+  pub six-left : at + lineLength ≤ length input → (k : Numbers) → readAt input at ≡ Six k → linesFrom input at ≡ Six k ∷ linesFrom input (at + lineLength)
   six-left h k e = one-left (omega arith) ∙ rw (e, six-end input at k e)
 
   -- no line is left, or a line that is refused
-  no-six : (P : List Line → Type 0) → P [] → P (Bad ∷ linesFrom input (lineEnd input at)) → readAt input at ≡ Bad → P (linesFrom input at)
+  pub no-six : (P : List Line → Type 0) → P [] → P (Bad ∷ linesFrom input (lineEnd input at)) → readAt input at ≡ Bad → P (linesFrom input at)
   no-six P f g e =
       either (ltb at (length input))
       (λ t. rw (one-left (ltb-true _ _ t), e) g)
@@ -174,6 +174,6 @@ module _ (input : List ℕ) (at total line : ℕ) (d : Draft) (more : line < tot
         rw w (row-draft (total - (line + 1)) d row (rw n at s) good, rw good at row-next)
 
 -- no line is left to read
-pub table-end : (total line : ℕ) (d : Draft) (ls : List Line) (x : Reading) → total ≤ line → tableFrom (total - line) line d ls ≡ x → checkedTable (d .table) line ≡ x
+pub lines-done : (total line : ℕ) (d : Draft) (ls : List Line) (x : Reading) → total ≤ line → tableFrom (total - line) line d ls ≡ x → checkedTable (d .table) line ≡ x
 unfolding tableFrom
-table-end total line d ls x h q = let e : total - line ≡ 0 = omega arith in rw e at q
+lines-done total line d ls x h q = let e : total - line ≡ 0 = omega arith in rw e at q

@@ -11,7 +11,7 @@ use Rattle.machine.specs.declared.Table.{Table}
 use Rattle.machine.specs.declared.Message.{Message}
 use Rattle.machine.specs.declared.Module.{Module}
 use Rattle.machine.specs.Partition.{noted, tickPartition}
-use Rattle.machine.specs.Module.{part, message, channel, withPart, withMessage, withTime, tickAt, tickTo, erasedTo, noMessage}
+use Rattle.machine.specs.Module.{part, message, channel, withPart, withMessage, withTime, dueAt, tickAt, tickTo, leadsInto, erasedTo, noMessage}
 use Rattle.machine.proofs.Tests.{by-test, by-tests, set-both, not-both}
 
 pub record Agree (T : Table) (S : ℕ → Bool) (m n : Module) : Type 0 where
@@ -82,25 +82,22 @@ module _ (T : Table) (S : ℕ → Bool) where
     inbound = λ j s. getD-set-other (m .messages) i j x _ (λ e. not-both (S (channel T j .destination)) s (ap (λ (k : ℕ). S (channel T k .destination)) e ∙ f)) ∙ a .inbound j s;
   }
 
+  tick-at-free : (i : ℕ) (m : Module) → m .table ≡ T → S (suc i) ≡ false → Agree T S (tickAt i m) m
+  unfolding tickAt
+  tick-at-free i m e f = by-test (λ (x : Module). Agree T S x m) (dueAt i m) (λ _. part-free m m i _ (agree-same m e) f) (λ _. agree-same m e)
+
   -- one partition at a tick: in S it is equal on both sides, outside S nothing of it is seen
   tick-at-both : (i : ℕ) (m n : Module) → Agree T S m n → Agree T S (tickAt i m) (tickAt i n)
   unfolding tickAt
   tick-at-both i m n a = go (S (suc i)) refl
     where
-      free-left : S (suc i) ≡ false → (o : Module) → Agree T S m o → Agree T S (cond (leb (part m i .soonest) (m .t)) (withPart i (tickPartition (m .t) (part m i)) m) m) o
-      free-left f o b = by-test (λ (x : Module). Agree T S x o) (leb (part m i .soonest) (m .t)) (λ q. part-free m o i _ b f) (λ q. b)
-
-      free-right : S (suc i) ≡ false → Agree T S (cond (leb (part n i .soonest) (n .t)) (withPart i (tickPartition (n .t) (part n i)) n) n) m
-      free-right f = by-test (λ (x : Module). Agree T S x m) (leb (part n i .soonest) (n .t)) (λ q. part-free n m i _ (agree-back m n a) f) (λ q. agree-back m n a)
-
-      go : (b : Bool) → S (suc i) ≡ b
-          → Agree T S (cond (leb (part m i .soonest) (m .t)) (withPart i (tickPartition (m .t) (part m i)) m) m) (cond (leb (part n i .soonest) (n .t)) (withPart i (tickPartition (n .t) (part n i)) n) n)
+      go : (b : Bool) → S (suc i) ≡ b → Agree T S (tickAt i m) (tickAt i n)
       go true s =
           let p = a .parts i s in
-          by-tests (Agree T S) _ _ (ap₂ (λ (x : Partition) (t : ℕ). leb (x .soonest) t) p (a .time))
-          (λ q. part-both m n i _ _ a (λ _. ap₂ tickPartition (a .time) p))
-          (λ q. a)
-      go false f = free-left f _ (agree-back _ m (free-right f))
+          let t = a .time in
+          let q : m .table ≡ n .table = a .left ∙ sym (a .right) in
+          by-tests (Agree T S) (dueAt i m) (dueAt i n) (cc) (λ _. part-both m n i _ _ a (λ _. ap₂ tickPartition t p)) (λ _. a)
+      go false f = agree-along _ m _ (tick-at-free i m (a .left) f) (agree-along m n _ a (agree-back _ n (tick-at-free i n (a .right) f)))
 
   -- the two folds: a tick of all partitions, and the messages into one partition erased
   pub tick-both : (k : ℕ) (m n : Module) → Agree T S m n → Agree T S (tickTo k m) (tickTo k n)
@@ -113,7 +110,8 @@ module _ (T : Table) (S : ℕ → Bool) where
   erase-both k zero m n a = a
   erase-both k (suc c) m n a =
       let h = erase-both k c m n a in
-      by-tests (Agree T S) _ _ (ap (λ (x : Table). eqb (channel x c .destination) k) (a .left ∙ sym (a .right)))
+      let q : m .table ≡ n .table = a .left ∙ sym (a .right) in
+      by-tests (Agree T S) (leadsInto k (channel (m .table) c)) (leadsInto k (channel (n .table) c)) (cc)
       (λ q. message-both (erasedTo k c m) (erasedTo k c n) c noMessage noMessage h (λ s. refl))
       (λ q. h)
 
@@ -122,6 +120,6 @@ module _ (T : Table) (S : ℕ → Bool) where
   erase-free k zero m n a f = a
   erase-free k (suc c) m n a f =
       let h = erase-free k c m n a f in
-      by-test (λ (x : Module). Agree T S x n) (eqb (channel (m .table) c .destination) k)
+      by-test (λ (x : Module). Agree T S x n) (leadsInto k (channel (m .table) c))
       (λ q. message-free (erasedTo k c m) n c noMessage h (ap (λ (x : Table). S (channel x c .destination)) (sym (a .left)) ∙ ap S (eqb-true _ _ q) ∙ f))
       (λ q. h)

@@ -1,6 +1,6 @@
 -- What a test settles, and what an id inside its limit names, and one outside. Assumes nothing.
-use Prim.Native.Nat.{ℕ, _-_, _≤_, _<_}
-use mathlib.Core.Path.{_≡_, refl, _∙_}
+use Prim.Native.Nat.{ℕ, _+_, _-_, _≤_, _<_}
+use mathlib.Core.Path.{_≡_, refl, ap, _∙_}
 use mathlib.Core.Bool.{Bool, true, false, cond, _&&_, _||_, and-false}
 use mathlib.Core.List.{List}
 use mathlib.Core.Logic.{_⊎_, inl, inr}
@@ -94,6 +94,12 @@ module _ (limit id : ℕ) where
         go : (b : Bool) → cond b (set l (id - 1) (cond b (getD l (id - 1) d) d)) l ≡ l
         go true = set-getD l (id - 1) d
         go false = refl
+
+-- one more, with the next id
+pub replaced-next : {A : Type 0} (limit n : ℕ) (a : A) (l : List A) → n < limit → replaced limit (n + 1) a l ≡ set l n a
+replaced-next limit n a l h =
+    let e : n + 1 - 1 ≡ n = omega arith in
+    replaced-in limit (n + 1) a l (within-in limit (n + 1) (omega arith) (omega arith)) ∙ ap (λ (i : ℕ). set l i a) e
 
 pub getD-replicate-any : {A : Type 0} (n i : ℕ) (a : A) → getD (replicate n a) i a ≡ a
 getD-replicate-any n i a = either (ltb i n)

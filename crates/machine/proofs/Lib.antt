@@ -26,3 +26,4 @@ pub mod Kept
 pub mod Reached
 pub mod Answers
 pub mod Plain
+pub mod Taken

@@ -75,18 +75,19 @@ setMode c a p =
     ∷ [])
     (answered 0 (cond (isNumber 3 a) (enteredNormal c p) (nothingCreated (numberOf a))))
 
--- the name is one of these
-unfoldable pub processNamed : Field → List Process → Bool
-processNamed name [] = false
-processNamed name (x ∷ l) = isNumber (x .given .name) name || processNamed name l
+-- name exists: the name is that of one of these
+unfoldable pub nameTaken : {A : Type 0} → (A → ℕ) → Field → List A → Bool
+nameTaken nameOf name [] = false
+nameTaken nameOf name (x ∷ l) = isNumber (nameOf x) name || nameTaken nameOf name l
 
-unfoldable pub semaphoreNamed : Field → List SemaphoreT → Bool
-semaphoreNamed name [] = false
-semaphoreNamed name (s ∷ l) = isNumber (s .name) name || semaphoreNamed name l
+abbrev pub processNamed : Field → List Process → Bool
+processNamed name l = nameTaken (λ (x : Process). x .given .name) name l
 
-unfoldable pub eventNamed : Field → List EventState → Bool
-eventNamed name [] = false
-eventNamed name (s ∷ l) = isNumber (s .name) name || eventNamed name l
+abbrev pub semaphoreNamed : Field → List SemaphoreT → Bool
+semaphoreNamed name l = nameTaken (λ (x : SemaphoreT). x .name) name l
+
+abbrev pub eventNamed : Field → List EventState → Bool
+eventNamed name l = nameTaken (λ (x : EventState). x .name) name l
 
 -- a multiple of M in 1..9,999,999
 abbrev pub isMultiple : ℕ → Field → Bool

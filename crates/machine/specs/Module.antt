@@ -128,9 +128,13 @@ abbrev pub withTime : ℕ → Module → Module
 withTime t m = record { table = m .table; t = t; messages = m .messages; partitions = m .partitions }
 
 -- ---------------------------------------------------------------- tick
+-- a wake time or a deadline of partition number i + 1 may have come
+abbrev pub dueAt : ℕ → Module → Bool
+dueAt i m = leb (part m i .soonest) (m .t)
+
 -- partition number i + 1 at a tick; where nothing of it is due it is left as it is
 unfoldable pub tickAt : ℕ → Module → Module
-tickAt i m = cond (leb (part m i .soonest) (m .t)) (withPart i (tickPartition (m .t) (part m i)) m) m
+tickAt i m = cond (dueAt i m) (withPart i (tickPartition (m .t) (part m i)) m) m
 
 -- the first n partitions
 unfoldable pub tickTo : ℕ → Module → Module
@@ -187,10 +191,13 @@ read m k r =
     (checked (refuse m) ((not (x .present), 1) ∷ [])
     (record { state = m; reply = valued (x .value) (age (m .t) x (namedChannel (m .table) r)) }))
 
+abbrev pub leadsInto : ℕ → Channel → Bool
+leadsInto k c = eqb (c .destination) k
+
 -- the messages of the first n channels into partition k erased
 unfoldable pub erasedTo : ℕ → ℕ → Module → Module
 erasedTo k zero m = m
-erasedTo k (suc n) m = let h = erasedTo k n m in cond (eqb (channel (m .table) n .destination) k) (withMessage n noMessage h) h
+erasedTo k (suc n) m = let h = erasedTo k n m in cond (leadsInto k (channel (m .table) n)) (withMessage n noMessage h) h
 
 -- ---------------------------------------------------------------- calls
 -- modes 0, 1, 2

@@ -108,7 +108,12 @@ pub fn store(p: Partition, id: u32, x: Process) -> Partition
     let a = p.arrival;
     let w = p.waiting;
     let arrival = followed(a, process::is_ready(old), process::is_ready(x), short);
-    let waiting = followed(w, process::is_on_object(old), process::is_on_object(x), short);
+    let waiting = followed(
+        w,
+        process::is_on_object(old),
+        process::is_on_object(x),
+        short,
+    );
     let mut q = p;
     q.processes[i] = x;
     q.arrival = arrival;

@@ -6,20 +6,12 @@ use Rattle.machine.proofs.Lists.{count-low, count-high}
 use borrow.Author.Needs.{needs}
 use Rattle.partition.proofs.count.Statement.{statement}
 use Rattle.partition.proofs.count.Tie as tie
-use Rattle.partition.proofs.count.Reads as reads
-use Rattle.partition.proofs.count.Lts as lts
 
--- src/lib.rt:27:13
-cast-n : tie.Need-cast-n
-cast-n c = search needs
-
--- src/lib.rt:24:1
 returns : tie.Need-returns
 returns c = let h : length (c .before .before .args .q .items) ≡ processLimit = search needs in (count-low (c .before .before .args .q) h (c .if1 .taken), omega arith)
 
--- src/lib.rt:24:1
 returns-2 : tie.Need-returns-2
 returns-2 c = let h : length (c .before .before .args .q .items) ≡ processLimit = search needs in (count-high (c .before .before .args .q) h (c .if1 .left), omega arith)
 
 pub count-spec : {M : Type 1} → statement M
-count-spec = tie.close (tie.spec cast-n returns returns-2)
+count-spec = tie.close (tie.spec (λ c. search needs) returns returns-2)

@@ -1,18 +1,13 @@
 use borrow.Author.Tests.{eq-eqb, ne-eqb, lt-ltb, le-ltb}
 use Rattle.partition.proofs.or_later.Statement.{statement}
 use Rattle.partition.proofs.or_later.Tie as tie
-use Rattle.partition.proofs.or_later.Reads as reads
-use Rattle.partition.proofs.or_later.Lts as lts
 
--- src/lib.rt:134:9
 returns : tie.Need-returns
 returns c = rw (eq-eqb _ _ (c .if1 .taken))
 
--- src/lib.rt:137:9
 returns-2 : tie.Need-returns-2
 returns-2 c = rw (ne-eqb _ _ (c .before .before .if1 .left), lt-ltb _ _ (c .if2 .taken))
 
--- src/lib.rt:130:1
 returns-3 : tie.Need-returns-3
 returns-3 c = rw (ne-eqb _ _ (c .before .before .if1 .left), le-ltb _ _ (c .if2 .left))
 

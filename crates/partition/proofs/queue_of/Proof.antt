@@ -1,4 +1,4 @@
-use Prim.Native.Nat.{_+_, _-_, _≤_, _<_}
+use Prim.Native.Nat.{_-_, _≤_, _<_}
 use mathlib.Core.Path.{_≡_, refl, _∙_}
 use native.Mathlib.Omega.{arith}
 use lib.ListN.{length, take}
@@ -9,11 +9,6 @@ use Rattle.machine.specs.Partition.{waitsOn, waiters}
 use Rattle.machine.proofs.Lists.{scan-next, scan-done}
 use Rattle.partition.proofs.queue_of.Statement.{statement}
 use Rattle.partition.proofs.queue_of.Tie as tie
-use Rattle.partition.proofs.queue_of.Reads as reads
-use Rattle.partition.proofs.queue_of.Lts as lts
-use Rattle.partition.proofs.append_if.Reads as append-if-reads
-use Rattle.partition.proofs.count.Reads as count-reads
-use Rattle.partition.proofs.waits_on.Reads as waits-on-reads
 
 abbrev Inv-loop : tie.InvT-loop
 Inv-loop p object waiting n found₀ i₀ found i = (i ≤ n) × (found ≡ idsOf (kept (waitsOn object p) (take i (waiting .items))))
@@ -21,40 +16,19 @@ Inv-loop p object waiting n found₀ i₀ found i = (i ≤ n) × (found ≡ idsO
 abbrev μ-loop : tie.MeasureT-loop
 μ-loop p object waiting n found₀ i₀ found i = n - i
 
--- src/lib.rt:174:9
-count-requires : tie.Need-count-requires Inv-loop μ-loop
-count-requires c κs = search needs
-
--- src/lib.rt:180:5
 loop-holds : tie.Need-loop-holds Inv-loop μ-loop
 unfolding kept
 loop-holds c = (omega arith, refl)
 
--- src/lib.rt:181:17
 element-copy-out-x : tie.Need-element-copy-out-x Inv-loop μ-loop
 element-copy-out-x c = omega (arith, c .before .before .count .ensures .1)
 
--- src/lib.rt:182:34
-waits-on-requires : tie.Need-waits-on-requires Inv-loop μ-loop
-waits-on-requires c κs = search needs
-
--- src/lib.rt:182:9
-append-if-requires : tie.Need-append-if-requires Inv-loop μ-loop
-append-if-requires c κs = search needs
-
--- src/lib.rt:183:13
 add-i : tie.Need-add-i Inv-loop μ-loop
 add-i c = omega (arith, c .before .before .before .before .before .count .ensures .1)
 
--- src/lib.rt:180:5
-loop-less : tie.Need-loop-less Inv-loop μ-loop
-loop-less c = omega arith
-
--- src/lib.rt:180:5
 loop-again : tie.Need-loop-again Inv-loop μ-loop
 loop-again c = let a = c .before .before .before .before .before .before .before .args in let h : length (a .p .waiting .items) ≡ processLimit = search needs in let s : c .before .before .before .before .loop .i < processLimit = omega (arith, c .before .before .before .before .before .count .ensures .1) in (omega arith, rw (c .append-if .ensures, c .before .before .before .before .loop .inv .1) (scan-next (waitsOn (a .object) (a .p)) (a .p .waiting .items) (c .before .before .before .before .loop .i) (omega arith) s _ (c .before .waits-on .ensures)))
 
--- src/lib.rt:170:1
 returns : tie.Need-returns Inv-loop μ-loop
 unfolding waiters
 returns c = let a = c .before .before .before .before .args in c .before .loop .inv .1 ∙ scan-done (waitsOn (a .object) (a .p)) (a .p .waiting) (c .before .loop .i) (omega (arith, c .before .before .count .ensures .0))
@@ -65,12 +39,12 @@ queue-of-spec =
     (tie.spec
     Inv-loop
     μ-loop
-    count-requires
+    (λ _ _. tt)
     loop-holds
     element-copy-out-x
-    waits-on-requires
-    append-if-requires
+    (λ _ _. tt)
+    (λ _ _. tt)
     add-i
-    loop-less
+    (λ c. omega arith)
     loop-again
     returns)

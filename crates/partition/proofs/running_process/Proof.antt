@@ -1,8 +1,7 @@
-use Prim.Native.Nat.{_+_, _-_, _≤_, _<_}
+use Prim.Native.Nat.{_-_, _≤_}
 use mathlib.Core.Path.{_≡_, refl, ap, sym, _∙_}
 use native.Mathlib.Omega.{arith}
-use lib.ListN.{length, drop}
-use borrow.Author.Needs.{needs}
+use lib.ListN.{drop}
 use borrow.Author.Tests.{eq-eqb, ne-eqb}
 use Rattle.machine.specs.declared.Choice.{Choice}
 use Rattle.machine.specs.Ids.{members}
@@ -10,12 +9,6 @@ use Rattle.machine.specs.Partition.{chosen, running}
 use Rattle.machine.proofs.Folds.{chosen-more, chosen-done}
 use Rattle.partition.proofs.running_process.Statement.{statement}
 use Rattle.partition.proofs.running_process.Tie as tie
-use Rattle.partition.proofs.running_process.Reads as reads
-use Rattle.partition.proofs.running_process.Lts as lts
-use Rattle.partition.proofs.count.Reads as count-reads
-use Rattle.partition.proofs.or_later.Reads as or-later-reads
-use Rattle.partition.proofs.process_at.Reads as process-at-reads
-use Rattle.partition.proofs.wide.Reads as wide-reads
 
 abbrev Inv-loop : tie.InvT-loop
 Inv-loop p arrival n best₀ i₀ best i = (i ≤ n) × (chosen p best (drop i (members arrival)) ≡ chosen p best₀ (members arrival))
@@ -23,48 +16,22 @@ Inv-loop p arrival n best₀ i₀ best i = (i ≤ n) × (chosen p best (drop i (
 abbrev μ-loop : tie.MeasureT-loop
 μ-loop p arrival n best₀ i₀ best i = n - i
 
--- src/lib.rt:146:9
 returns : tie.Need-returns Inv-loop μ-loop
 unfolding running
 returns c = rw (ne-eqb _ _ (c .if1 .taken))
 
--- src/lib.rt:149:9
-count-requires : tie.Need-count-requires Inv-loop μ-loop
-count-requires c κs = search needs
-
--- src/lib.rt:152:5
 loop-holds : tie.Need-loop-holds Inv-loop μ-loop
 loop-holds c = (omega arith, refl)
 
--- src/lib.rt:153:18
 element-copy-out-id : tie.Need-element-copy-out-id Inv-loop μ-loop
 element-copy-out-id c = omega (arith, c .before .before .count .ensures .1)
 
--- src/lib.rt:154:31
-wide-requires : tie.Need-wide-requires Inv-loop μ-loop
-wide-requires c κs = search needs
-
--- src/lib.rt:154:13
-process-at-requires : tie.Need-process-at-requires Inv-loop μ-loop
-process-at-requires c κs = search needs
-
--- src/lib.rt:155:9
-or-later-requires : tie.Need-or-later-requires Inv-loop μ-loop
-or-later-requires c κs = search needs
-
--- src/lib.rt:156:13
 add-i : tie.Need-add-i Inv-loop μ-loop
 add-i c = omega (arith, c .before .before .before .before .before .before .count .ensures .1)
 
--- src/lib.rt:152:5
-loop-less : tie.Need-loop-less Inv-loop μ-loop
-loop-less c = omega arith
-
--- src/lib.rt:152:5
 loop-again : tie.Need-loop-again Inv-loop μ-loop
 loop-again c = let p = c .before .before .before .before .before .before .before .before .before .before .args .p in (omega arith, rw (c .or-later .ensures, c .before .process-at .ensures, c .before .before .wide .ensures) (sym (chosen-more (p .arrival) (c .before .before .before .before .before .loop .i) p (c .before .before .before .before .before .loop .best) (omega (arith, c .before .before .before .before .before .before .count .ensures .0))) ∙ c .before .before .before .before .before .loop .inv .1))
 
--- src/lib.rt:142:1
 returns-2 : tie.Need-returns-2 Inv-loop μ-loop
 unfolding running
 returns-2 c = let p = c .before .before .before .before .before .before .args .p in rw (eq-eqb _ _ (c .before .before .before .before .if1 .left)) (ap (λ (x : Choice). x .id) (sym (chosen-done (p .arrival) (c .before .loop .i) p (c .before .loop .best) (omega (arith, c .before .before .count .ensures .0))) ∙ c .before .loop .inv .1))
@@ -76,13 +43,13 @@ running-process-spec =
     Inv-loop
     μ-loop
     returns
-    count-requires
+    (λ _ _. tt)
     loop-holds
     element-copy-out-id
-    wide-requires
-    process-at-requires
-    or-later-requires
+    (λ _ _. tt)
+    (λ _ _. tt)
+    (λ _ _. tt)
     add-i
-    loop-less
+    (λ c. omega arith)
     loop-again
     returns-2)

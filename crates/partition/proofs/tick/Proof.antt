@@ -1,5 +1,4 @@
-use borrow.Author.Needs.{needs}
-use Prim.Native.Nat.{ℕ, _+_, _-_, _≤_, _<_}
+use Prim.Native.Nat.{ℕ, _+_, _-_, _≤_}
 use mathlib.Core.Path.{_≡_, refl, sym, ap, _∙_}
 use native.Mathlib.Omega.{arith}
 use borrow.Author.Tests.{eq-eqb, ne-eqb}
@@ -9,10 +8,6 @@ use Rattle.machine.proofs.Folds.{each-more, each-done}
 use Rattle.partition.proofs.Laws.{each-start}
 use Rattle.partition.proofs.tick.Statement.{statement}
 use Rattle.partition.proofs.tick.Tie as tie
-use Rattle.partition.proofs.tick.Reads as reads
-use Rattle.partition.proofs.tick.Lts as lts
-use Rattle.partition.proofs.tick_process.Reads as tick-process-reads
-use Rattle.partition.proofs.wide.Reads as wide-reads
 
 abbrev Inv-loop : tie.InvT-loop
 Inv-loop t n q₀ id₀ q id = (id ≤ n) × (eachFrom (ticked t) (n - id) (id + 1) q ≡ eachFrom (ticked t) n 1 q₀)
@@ -20,36 +15,16 @@ Inv-loop t n q₀ id₀ q id = (id ≤ n) × (eachFrom (ticked t) (n - id) (id +
 abbrev μ-loop : tie.MeasureT-loop
 μ-loop t n q₀ id₀ q id = n - id
 
--- src/lib.rt:223:9
 returns : tie.Need-returns Inv-loop μ-loop
 unfolding tickPartition
 returns c = rw (ne-eqb _ _ (c .if1 .taken))
 
--- src/lib.rt:225:9
-wide-requires : tie.Need-wide-requires Inv-loop μ-loop
-wide-requires c κs = search needs
-
--- src/lib.rt:228:5
 loop-holds : tie.Need-loop-holds Inv-loop μ-loop
 loop-holds c = (omega arith, each-start _ _ 0 _ refl)
 
--- src/lib.rt:229:14
-add-id : tie.Need-add-id Inv-loop μ-loop
-add-id c = omega arith
-
--- src/lib.rt:230:9
-tick-process-requires : tie.Need-tick-process-requires Inv-loop μ-loop
-tick-process-requires c κs = search needs
-
--- src/lib.rt:228:5
-loop-less : tie.Need-loop-less Inv-loop μ-loop
-loop-less c = omega arith
-
--- src/lib.rt:228:5
 loop-again : tie.Need-loop-again Inv-loop μ-loop
 loop-again c = (omega arith, rw (c .tick-process .ensures) (sym (each-more (c .before .before .before .wide .result) (c .before .before .loop .id) (c .before .before .loop .q) (ticked (c .before .before .before .before .before .before .args .t)) (omega arith)) ∙ c .before .before .loop .inv .1))
 
--- src/lib.rt:219:1
 returns-2 : tie.Need-returns-2 Inv-loop μ-loop
 unfolding tickPartition
 returns-2 c = rw (eq-eqb _ _ (c .before .before .before .if1 .left)) (sym (each-done (c .before .before .wide .result) (c .before .loop .id) (c .before .loop .q) (ticked (c .before .before .before .before .before .args .t)) (omega arith)) ∙ c .before .loop .inv .1 ∙ ap (λ (x : ℕ). eachFrom (ticked (c .before .before .before .before .before .args .t)) x 1 (c .before .before .before .before .before .args .p)) (c .before .before .wide .ensures))
@@ -61,10 +36,10 @@ tick-spec =
     Inv-loop
     μ-loop
     returns
-    wide-requires
+    (λ _ _. tt)
     loop-holds
-    add-id
-    tick-process-requires
-    loop-less
+    (λ c. omega arith)
+    (λ _ _. tt)
+    (λ c. omega arith)
     loop-again
     returns-2)

@@ -1,0 +1,47 @@
+use borrow.Author.Tests.{eq-eqb, ne-eqb}
+use Rattle.machine.specs.Calls.{checked, suspendSelf}
+use Rattle.calls.proofs.suspend_self.Statement.{statement}
+use Rattle.calls.proofs.suspend_self.Tie as tie
+
+returns : tie.Need-returns
+unfolding suspendSelf checked
+returns c = rw (c .answered .ensures, ne-eqb _ _ (c .before .if1 .taken))
+
+returns-2 : tie.Need-returns-2
+unfolding suspendSelf checked
+returns-2 c = rw (c .answered2 .ensures, eq-eqb _ _ (c .before .before .before .before .before .if1 .left), ← c .before .before .before .before .caller-of .ensures, ← c .before .before .before .process-at .ensures, ← c .before .before .is-periodic .ensures, c .before .if2 .taken)
+
+returns-3 : tie.Need-returns-3
+unfolding suspendSelf checked
+returns-3 c = rw (c .answered3 .ensures, eq-eqb _ _ (c .before .before .before .before .before .before .before .if1 .left), ← c .before .before .before .before .before .before .caller-of .ensures, ← c .before .before .before .before .before .process-at .ensures, ← c .before .before .before .before .is-periodic .ensures, c .before .before .before .if2 .left, ← c .before .before .is-timeout .ensures, c .before .if3 .taken)
+
+returns-4 : tie.Need-returns-4
+unfolding suspendSelf checked
+returns-4 c = rw (c .answered4 .ensures, eq-eqb _ _ (c .before .before .before .before .before .before .before .before .before .if1 .left), ← c .before .before .before .before .before .before .before .before .caller-of .ensures, ← c .before .before .before .before .before .before .before .process-at .ensures, ← c .before .before .before .before .before .before .is-periodic .ensures, c .before .before .before .before .before .if2 .left, ← c .before .before .before .before .is-timeout .ensures, c .before .before .before .if3 .left, ← c .before .before .is-number .ensures, c .before .if4 .taken)
+
+returns-5 : tie.Need-returns-5
+unfolding suspendSelf checked
+returns-5 c = rw (c .block .ensures, c .before .suspended-until .ensures, c .before .before .later-time .ensures, c .before .before .before .time-of .ensures, eq-eqb _ _ (c .before .before .before .before .before .before .before .before .before .before .before .before .if1 .left), ← c .before .before .before .before .before .before .before .before .before .before .before .caller-of .ensures, ← c .before .before .before .before .before .before .before .before .before .before .process-at .ensures, ← c .before .before .before .before .before .before .before .before .before .is-periodic .ensures, c .before .before .before .before .before .before .before .before .if2 .left, ← c .before .before .before .before .before .before .before .is-timeout .ensures, c .before .before .before .before .before .before .if3 .left, ← c .before .before .before .before .before .is-number .ensures, c .before .before .before .before .if4 .left)
+
+pub suspend-self-spec : {M : Type 1} → statement M
+suspend-self-spec =
+    tie.close
+    (tie.spec
+    (λ _ _. tt)
+    returns
+    (λ _ _. tt)
+    (λ _ _. tt)
+    (λ _ _. tt)
+    (λ _ _. tt)
+    returns-2
+    (λ _ _. tt)
+    (λ _ _. tt)
+    returns-3
+    (λ _ _. tt)
+    (λ _ _. tt)
+    returns-4
+    (λ _ _. tt)
+    (λ _ _. tt)
+    (λ _ _. tt)
+    (λ _ _. tt)
+    returns-5)

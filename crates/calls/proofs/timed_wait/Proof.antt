@@ -1,0 +1,41 @@
+use borrow.Author.Tests.{eq-eqb, ne-eqb}
+use Rattle.machine.specs.Calls.{checked, timedWait}
+use Rattle.calls.proofs.timed_wait.Statement.{statement}
+use Rattle.calls.proofs.timed_wait.Tie as tie
+
+returns : tie.Need-returns
+unfolding timedWait checked
+returns c = rw (c .answered .ensures, ne-eqb _ _ (c .before .if1 .taken))
+
+returns-2 : tie.Need-returns-2
+unfolding timedWait checked
+returns-2 c = rw (c .answered2 .ensures, eq-eqb _ _ (c .before .before .before .if1 .left), ← c .before .before .is-duration .ensures, c .before .if2 .taken)
+
+returns-3 : tie.Need-returns-3
+unfolding timedWait checked
+returns-3 c = rw (c .answered3 .ensures, c .before .arrive-last .ensures, eq-eqb _ _ (c .before .before .before .before .before .before .if1 .left), ← c .before .before .before .before .before .is-duration .ensures, c .before .before .before .before .if2 .left, ← c .before .before .before .is-number .ensures, c .before .before .if3 .taken)
+
+returns-4 : tie.Need-returns-4
+unfolding timedWait checked
+returns-4 c = rw (c .block .ensures, c .before .waiting-for .ensures, c .before .before .later-time .ensures, c .before .before .before .time-of .ensures, eq-eqb _ _ (c .before .before .before .before .before .before .before .before .before .before .if1 .left), ← c .before .before .before .before .before .before .before .before .before .is-duration .ensures, c .before .before .before .before .before .before .before .before .if2 .left, ← c .before .before .before .before .before .before .before .is-number .ensures, c .before .before .before .before .before .before .if3 .left, c .before .before .before .before .process-at .ensures, c .before .before .before .before .before .caller-of .ensures)
+
+pub timed-wait-spec : {M : Type 1} → statement M
+timed-wait-spec =
+    tie.close
+    (tie.spec
+    (λ _ _. tt)
+    returns
+    (λ _ _. tt)
+    (λ _ _. tt)
+    returns-2
+    (λ _ _. tt)
+    (λ _ _. tt)
+    (λ _ _. tt)
+    returns-3
+    (λ _ _. tt)
+    (λ _ _. tt)
+    (λ _ _. tt)
+    (λ _ _. tt)
+    (λ _ _. tt)
+    (λ _ _. tt)
+    returns-4)

@@ -1,0 +1,462 @@
+// Calls 1 to 13: what each makes of its partition's record, and its answer.
+ghost use mathlib.Core.Path.{_≡_};
+ghost use Prim.Native.Nat.{_≤_};
+ghost use mathlib.Core.Bool.{not, _&&_, _||_};
+ghost use lib.Dec.{eqb};
+ghost use lib.ListN.{length, take};
+ghost use Rattle.machine.specs.Limits.{processLimit, durationLimit};
+ghost use Rattle.machine.specs.Field.{isNumber, isMinusOne, between, isDuration, numberOf};
+ghost use Rattle.machine.specs.Process.{periodic};
+ghost use Rattle.machine.specs.Calls.{answered, answeredWith, blocked, unknown, dormant, setMode, processNamed, isMultiple, above, isPriority, admissible, createProcess, reaches, start, stop, stopSelf, suspend, suspendSelf, timedWait, periodicWait, resume, setPriority, status, getStatus};
+use machine::Called;
+use machine::Context;
+use machine::Field;
+use machine::Given;
+use machine::Module;
+use machine::Partition;
+use machine::Process;
+use machine::Reply;
+use machine::Request;
+use machine::Time;
+use machine::Wait;
+
+// The record with a code.
+pub fn answered(p: Partition, code: u8) -> Called
+    ensures { λ r. ⌜ r ≡ answered code p ⌝ }
+{
+    Called {
+        partition: p,
+        reply: Reply {
+            code,
+            value: 0,
+            extra: Time::At(0),
+        },
+    }
+}
+
+// Code 0 with value and extra.
+pub fn answered_with(p: Partition, value: u32, extra: Time) -> Called
+    ensures { λ r. ⌜ r ≡ answeredWith value extra p ⌝ }
+{
+    Called {
+        partition: p,
+        reply: Reply {
+            code: 0,
+            value,
+            extra,
+        },
+    }
+}
+
+// The only place that gives code 7: process id has the record x, in which it waits.
+pub fn block(p: Partition, id: u32, x: Process) -> Called
+    ensures { λ r. ⌜ r ≡ blocked id x p ⌝ }
+{
+    answered(partition::store(p, id, x), 7)
+}
+
+// Whether none of count things has this id.
+pub fn is_unknown(id: u32, count: u8) -> bool
+    ensures { λ r. ⌜ r ≡ unknown id count ⌝ }
+{
+    if id == 0 { true } else { (count as u32) < id }
+}
+
+pub fn caller_of(c: Context) -> u32
+    ensures { λ r. ⌜ r ≡ c .caller ⌝ }
+{
+    c.caller as u32
+}
+
+// WARM_START is not entered from COLD_START.
+fn is_warm_from_cold(mode: u8, a: Field) -> bool
+    ensures { λ r. ⌜ r ≡ isNumber 2 a && eqb mode 1 ⌝ }
+{
+    if fields::is_number(a, 2) {
+        mode == 1
+    } else {
+        false
+    }
+}
+
+// 1 SET_PARTITION_MODE; the messages are erased with the module.
+pub fn set_mode(p: Partition, c: Context, a: Field) -> Called
+    ensures { λ r. ⌜ r ≡ setMode c a p ⌝ }
+{
+    if !fields::is_between(a, 0, 3) {
+        return answered(p, 3);
+    }
+    if fields::is_number(a, 3) {
+        if p.mode == 3 {
+            return answered(p, 1);
+        }
+        if p.processCount == 0 {
+            return answered(p, 5);
+        }
+        return answered(partition::enter_normal(p, c), 0);
+    }
+    if is_warm_from_cold(p.mode, a) {
+        return answered(p, 5);
+    }
+    let mode = fields::number_of(a) as u8;
+    answered(partition::nothing_created(mode), 0)
+}
+
+// How many processes have been created, the array's length at most.
+fn created(p: Partition) -> usize
+    ensures { λ r. ⌜ (r ≡ length (take (p .processCount) (p .processes))) × (r ≤ processLimit) ⌝ }
+{
+    let n = p.processCount as usize;
+    if n < Module::PROCESSES {
+        n
+    } else {
+        Module::PROCESSES
+    }
+}
+
+// Whether a process of the partition has this name.
+pub fn is_process_named(p: Partition, name: Field) -> bool
+    ensures { λ r. ⌜ r ≡ processNamed name (take (p .processCount) (p .processes)) ⌝ }
+{
+    let n = created(p);
+    let mut i: usize = 0;
+    while i < n {
+        let x = p.processes[i];
+        let given = x.given;
+        if fields::is_number(name, given.name as u32) {
+            return true;
+        }
+        i = i + 1;
+    }
+    false
+}
+
+pub fn is_multiple(f: Field, frame: u16) -> bool
+    ensures { λ r. ⌜ r ≡ isMultiple frame f ⌝ }
+{
+    if !fields::is_between(f, 1, Module::DURATION) {
+        return false;
+    }
+    if frame == 0 {
+        return false;
+    }
+    fields::number_of(f) % (frame as u32) == 0
+}
+
+// Whether a capacity lies above a period.
+pub fn is_above(capacity: Field, period: Field) -> bool
+    ensures { λ r. ⌜ r ≡ above capacity period ⌝ }
+{
+    if fields::is_minus_one(capacity) {
+        return false;
+    }
+    if fields::is_minus_one(period) {
+        return false;
+    }
+    fields::number_of(period) < fields::number_of(capacity)
+}
+
+pub fn is_priority(f: Field) -> bool
+    ensures { λ r. ⌜ r ≡ isPriority f ⌝ }
+{
+    fields::is_between(f, 1, Module::PRIORITY)
+}
+
+fn is_period(f: Field, frame: u16) -> bool
+    ensures { λ r. ⌜ r ≡ isMinusOne f || isMultiple frame f ⌝ }
+{
+    if fields::is_minus_one(f) {
+        true
+    } else {
+        is_multiple(f, frame)
+    }
+}
+
+fn is_capacity(f: Field) -> bool
+    ensures { λ r. ⌜ r ≡ isMinusOne f || between 1 durationLimit f ⌝ }
+{
+    if fields::is_minus_one(f) {
+        true
+    } else {
+        fields::is_between(f, 1, Module::DURATION)
+    }
+}
+
+// What CREATE_PROCESS admits.
+pub fn is_admissible(r: Request, c: Context) -> bool
+    ensures { λ d. ⌜ d ≡ admissible c r ⌝ }
+{
+    let name = r.a;
+    let priority = r.b;
+    let period = r.c;
+    let capacity = r.e;
+    if !fields::is_name(name) {
+        return false;
+    }
+    if !is_priority(priority) {
+        return false;
+    }
+    if !is_period(period, c.frame) {
+        return false;
+    }
+    if !is_capacity(capacity) {
+        return false;
+    }
+    !is_above(capacity, period)
+}
+
+// 2 CREATE_PROCESS.
+pub fn create_process(p: Partition, c: Context, r: Request) -> Called
+    ensures { λ d. ⌜ d ≡ createProcess c r p ⌝ }
+{
+    let n = p.processCount as usize;
+    if Module::PROCESSES <= n {
+        return answered(p, 4);
+    }
+    let name = r.a;
+    if is_process_named(p, name) {
+        return answered(p, 1);
+    }
+    if !is_admissible(r, c) {
+        return answered(p, 3);
+    }
+    if p.mode == 3 {
+        return answered(p, 5);
+    }
+    let priority = r.b;
+    let period = r.c;
+    let capacity = r.e;
+    let given = Given {
+        name: fields::number_of(name) as u16,
+        base: fields::number_of(priority) as u8,
+        period: fields::time_of(period),
+        capacity: fields::time_of(capacity),
+    };
+    let x = process::created_process(given);
+    let mut q = p;
+    q.processes[n] = x;
+    q.processCount = q.processCount + 1;
+    answered_with(q, (n + 1) as u32, Time::At(0))
+}
+
+// Whether a delay is none of D, or not below the process's period.
+fn is_delay_refused(x: Process, delay: Field) -> bool
+    ensures { λ r. ⌜ r ≡ not (isDuration delay) || reaches (x .given .period) (numberOf delay) ⌝ }
+{
+    let given = x.given;
+    let period = given.period;
+    if fields::is_duration(delay) {
+        process::does_reach(period, fields::number_of(delay))
+    } else {
+        true
+    }
+}
+
+// 3 START, with delay 0, and 4 DELAYED_START.
+pub fn start_process(p: Partition, c: Context, id: u32, delay: Field) -> Called
+    ensures { λ r. ⌜ r ≡ start c id delay p ⌝ }
+{
+    if is_unknown(id, p.processCount) {
+        return answered(p, 3);
+    }
+    let x = partition::process_at(p, id);
+    if is_delay_refused(x, delay) {
+        return answered(p, 3);
+    }
+    if x.started {
+        return answered(p, 1);
+    }
+    let n = fields::number_of(delay);
+    if p.mode == 3 {
+        return answered(partition::store(p, id, process::start(x, c, n)), 0);
+    }
+    answered(partition::store(p, id, process::start_early(x, n)), 0)
+}
+
+// 5 STOP.
+pub fn stop_process(p: Partition, c: Context, id: u32) -> Called
+    ensures { λ r. ⌜ r ≡ stop c id p ⌝ }
+{
+    if is_unknown(id, p.processCount) {
+        return answered(p, 3);
+    }
+    if id == caller_of(c) {
+        return answered(p, 3);
+    }
+    let x = partition::process_at(p, id);
+    if !x.started {
+        return answered(p, 1);
+    }
+    answered(partition::store(p, id, process::stop(x)), 0)
+}
+
+// 6 STOP_SELF.
+pub fn stop_self(p: Partition, c: Context) -> Called
+    ensures { λ r. ⌜ r ≡ stopSelf c p ⌝ }
+{
+    if p.mode != 3 {
+        return answered(p, 5);
+    }
+    let id = caller_of(c);
+    let x = partition::process_at(p, id);
+    answered(partition::store(p, id, process::stop(x)), 0)
+}
+
+// Whether a process is DORMANT or periodic.
+fn is_unsuspendable(x: Process) -> bool
+    ensures { λ r. ⌜ r ≡ dormant x || periodic x ⌝ }
+{
+    if x.started {
+        process::is_periodic(x)
+    } else {
+        true
+    }
+}
+
+// 7 SUSPEND.
+pub fn suspend_process(p: Partition, c: Context, id: u32) -> Called
+    ensures { λ r. ⌜ r ≡ suspend c id p ⌝ }
+{
+    if is_unknown(id, p.processCount) {
+        return answered(p, 3);
+    }
+    if id == caller_of(c) {
+        return answered(p, 3);
+    }
+    let x = partition::process_at(p, id);
+    if is_unsuspendable(x) {
+        return answered(p, 5);
+    }
+    if x.suspended {
+        return answered(p, 1);
+    }
+    answered(partition::store(p, id, process::with_suspended(x, true)), 0)
+}
+
+// 8 SUSPEND_SELF.
+pub fn suspend_self(p: Partition, c: Context, a: Field) -> Called
+    ensures { λ r. ⌜ r ≡ suspendSelf c a p ⌝ }
+{
+    if p.mode != 3 {
+        return answered(p, 5);
+    }
+    let id = caller_of(c);
+    let x = partition::process_at(p, id);
+    if process::is_periodic(x) {
+        return answered(p, 5);
+    }
+    if !fields::is_timeout(a) {
+        return answered(p, 3);
+    }
+    if fields::is_number(a, 0) {
+        return answered(p, 0);
+    }
+    let wake = process::later_time(Time::At(c.time), fields::time_of(a));
+    block(p, id, process::suspended_until(x, wake))
+}
+
+// 9 TIMED_WAIT.
+pub fn timed_wait(p: Partition, c: Context, a: Field) -> Called
+    ensures { λ r. ⌜ r ≡ timedWait c a p ⌝ }
+{
+    if p.mode != 3 {
+        return answered(p, 5);
+    }
+    if !fields::is_duration(a) {
+        return answered(p, 3);
+    }
+    if fields::is_number(a, 0) {
+        return answered(partition::arrive_last(p, c.caller), 0);
+    }
+    let id = caller_of(c);
+    let x = partition::process_at(p, id);
+    let wake = process::later_time(Time::At(c.time), fields::time_of(a));
+    block(p, id, process::waiting_for(x, Wait::Timed, wake))
+}
+
+// 10 PERIODIC_WAIT.
+pub fn periodic_wait(p: Partition, c: Context) -> Called
+    ensures { λ r. ⌜ r ≡ periodicWait c p ⌝ }
+{
+    if p.mode != 3 {
+        return answered(p, 5);
+    }
+    let id = caller_of(c);
+    let x = partition::process_at(p, id);
+    if !process::is_periodic(x) {
+        return answered(p, 5);
+    }
+    block(p, id, process::next_release(x))
+}
+
+// 11 RESUME.
+pub fn resume_process(p: Partition, c: Context, id: u32) -> Called
+    ensures { λ r. ⌜ r ≡ resume c id p ⌝ }
+{
+    if is_unknown(id, p.processCount) {
+        return answered(p, 3);
+    }
+    if id == caller_of(c) {
+        return answered(p, 3);
+    }
+    let x = partition::process_at(p, id);
+    if is_unsuspendable(x) {
+        return answered(p, 5);
+    }
+    if !x.suspended {
+        return answered(p, 1);
+    }
+    answered(partition::store(p, id, process::resume(x)), 0)
+}
+
+// 12 SET_PRIORITY.
+pub fn set_priority(p: Partition, id: u32, a: Field) -> Called
+    ensures { λ r. ⌜ r ≡ setPriority id a p ⌝ }
+{
+    if is_unknown(id, p.processCount) {
+        return answered(p, 3);
+    }
+    if !is_priority(a) {
+        return answered(p, 3);
+    }
+    let x = partition::process_at(p, id);
+    if !x.started {
+        return answered(p, 5);
+    }
+    let current = fields::number_of(a) as u8;
+    let q = partition::store(p, id, process::with_current(x, current));
+    if process::is_ready(x) {
+        let moved = partition::arrive_last(q, id as u8);
+        return answered(moved, 0);
+    }
+    answered(q, 0)
+}
+
+// 0 DORMANT, 1 READY, 2 running, 3 else.
+pub fn status_of(x: Process, c: Context, id: u32) -> u32
+    ensures { λ r. ⌜ r ≡ status c id x ⌝ }
+{
+    if !x.started {
+        return 0;
+    }
+    if id == caller_of(c) {
+        return 2;
+    }
+    if process::is_ready(x) {
+        return 1;
+    }
+    3
+}
+
+// 13 GET_PROCESS_STATUS.
+pub fn get_status(p: Partition, c: Context, id: u32) -> Called
+    ensures { λ r. ⌜ r ≡ getStatus c id p ⌝ }
+{
+    if is_unknown(id, p.processCount) {
+        return answered(p, 3);
+    }
+    let x = partition::process_at(p, id);
+    let times = x.times;
+    let deadline = times.deadline;
+    answered_with(p, status_of(x, c, id), deadline)
+}

@@ -7,11 +7,12 @@ use native.Mathlib.Numerals.{add-one}
 use native.Mathlib.Omega.{arith}
 use lib.Dec.{eqb, leb}
 use lib.ListN.{length, set, List·getD-eq-default}
-use borrow.Author.Tests.{eq-eqb, ne-eqb, eqb-false, not-true}
+use lib.Seq.{set-out}
+use borrow.Author.Tests.{eq-eqb, ne-eqb, eqb-true, eqb-false, not-true}
 use Rattle.machine.specs.Calls.{coded, valued, checked}
 use Rattle.machine.specs.Field.{isDuration, numberOf}
 use Rattle.machine.specs.Limits.{channelLimit}
-use Rattle.machine.specs.Module.{noChannel, noMessage, channel, message, namedChannel, channelChecks, withMessage, refuse, age, write, read, erasedTo}
+use Rattle.machine.specs.Module.{noChannel, noMessage, channel, message, namedChannel, channelChecks, withMessage, refuse, age, write, read, erasedTo, leadsInto}
 use Rattle.machine.specs.declared.Channel.{Channel}
 use Rattle.machine.specs.declared.Done.{Done}
 use Rattle.machine.specs.declared.Message.{Message}
@@ -20,11 +21,19 @@ use Rattle.machine.specs.declared.Reply.{Reply}
 use Rattle.machine.specs.declared.Request.{Request}
 use Rattle.machine.specs.declared.Table.{Table}
 use Rattle.machine.specs.declared.Time.the-variants.{At}
+use Rattle.machine.proofs.Bounds.{either}
 use Rattle.machine.proofs.Tests.{codesIn, and-left, and-right}
-use Rattle.channels.specs.Channels.{firstCode, writeCode, writtenBy, readReply, erasedUpTo}
+use Rattle.channels.specs.Channels.{firstCode, writeCode, writtenBy, readReply, held, holding, sentBy, readBy, erasedUpTo, erasedIn}
+use Rattle.channels.specs.declared.Messages.{Messages}
 
 pub no-channel : (T : Table) (i : ℕ) → length (T .channels) ≡ channelLimit → channelLimit ≤ i → noChannel ≡ channel T i
 no-channel T i h far = sym (List·getD-eq-default (T .channels) noChannel (omega arith))
+
+pub no-message : (q : Messages) (i : ℕ) → length (q .items) ≡ channelLimit → channelLimit ≤ i → noMessage ≡ held i q
+no-message q i h far = sym (List·getD-eq-default (q .items) noMessage (omega arith))
+
+pub none-held : (q : Messages) (i : ℕ) (x : Message) → length (q .items) ≡ channelLimit → channelLimit ≤ i → q ≡ holding i x q
+none-held q i x h far = let e = set-out (q .items) i x (omega arith) in λ j. record { items = sym e j }
 
 -- ---------------------------------------------------------------- checks and their code
 abbrev someCode : ℕ → Bool
@@ -87,14 +96,38 @@ module _ (T : Table) (k : ℕ) (r : Request) (c : Channel) (n : ℕ) (at : c ≡
     unfolding checked
     read-held f h e p = rw h (sym (read-checked .accepts e ∙ rw p))
 
+-- WRITE, by its code
+module _ (T : Table) (t k : ℕ) (r : Request) (q : Messages) (n : ℕ) (a : Reply) (found : n ≡ writeCode T k r) (said : a ≡ coded n) where
+  pub sent-nothing : (n ≡ 0 → ⊥) → record { messages = q; reply = a } ≡ sentBy T t k r q
+  sent-nothing e = rw (said, ← found, ne-eqb n 0 e)
+
+  pub sent-one : (p : Messages) (i : ℕ) (x : Message) → p ≡ holding i x q → i ≡ numberOf (r .a) - 1 → x ≡ writtenBy t r → n ≡ 0 → record { messages = p; reply = a } ≡ sentBy T t k r q
+  sent-one p i x h u v e = rw (said, h, u, v, ← found, eq-eqb n 0 e)
+
 -- WRITE in a module, by its code
-pub write-stands : (m : Module) (k : ℕ) (r : Request)
+write-stands : (m : Module) (k : ℕ) (r : Request)
     → Stands (refuse m) (record { state = withMessage (numberOf (r .a) - 1) (writtenBy (m .t) r) m; reply = coded 0 }) (writeCode (m .table) k r) (write m k r)
 unfolding write
 write-stands m k r =
     let d : Done = record { state = withMessage (numberOf (r .a) - 1) (writtenBy (m .t) r) m; reply = coded 0 } in
     stands-checked (refuse m) d (channelChecks (m .table) k r (namedChannel (m .table) r .source)) _ _ (end-codes (m .table) k r (namedChannel (m .table) r .source))
     (stands-checked (refuse m) d ((not (isDuration (r .b)), 3) ∷ []) 0 d refl (stands-none (refuse m) d))
+
+-- a module with these messages
+abbrev pub withMessages : Messages → Module → Module
+withMessages q m = record { table = m .table; t = m .t; messages = q .items; partitions = m .partitions }
+
+abbrev pub messagesOf : Module → Messages
+messagesOf m = record { items = m .messages }
+
+-- WRITE in a module changes its messages alone
+pub write-sent : (m : Module) (k : ℕ) (r : Request) → let s = sentBy (m .table) (m .t) k r (messagesOf m) in write m k r ≡ record { state = withMessages (s .messages) m; reply = s .reply }
+write-sent m k r =
+    let n = writeCode (m .table) k r in
+    let s = write-stands m k r in
+    either (eqb n 0)
+    (λ e. s .accepts (eqb-true n 0 e) ∙ rw (e, eqb-true n 0 e))
+    (λ e. s .refuses (eqb-false n 0 e) ∙ rw e)
 
 -- checks that leave the module
 checked-same : (m : Module) (l : List (Bool × ℕ)) (a : Reply) → checked (refuse m) l (record { state = m; reply = a }) ≡ record { state = m; reply = checked coded l a }
@@ -104,7 +137,7 @@ checked-same m ((true, code) ∷ l) a = refl
 checked-same m ((false, code) ∷ l) a = checked-same m l a
 
 -- READ leaves the module
-pub read-replied : (m : Module) (k : ℕ) (r : Request) → read m k r ≡ record { state = m; reply = readReply (m .table) (m .t) k r (message m (numberOf (r .a) - 1)) }
+pub read-replied : (m : Module) (k : ℕ) (r : Request) → read m k r ≡ record { state = m; reply = readBy (m .table) (m .t) k r (messagesOf m) }
 unfolding read
 read-replied m k r =
     let x = message m (numberOf (r .a) - 1) in
@@ -126,13 +159,15 @@ pub erased-none : (T : Table) (k : ℕ) (l : List Message) → l ≡ erasedUpTo 
 unfolding erasedUpTo
 erased-none T k l = refl
 
--- erasing in a module changes its messages alone
-pub erased-messages : (k n : ℕ) (m : Module) → erasedTo k n m ≡ record { table = m .table; t = m .t; messages = erasedUpTo (m .table) k n (m .messages); partitions = m .partitions }
+erased-up-to : (k n : ℕ) (m : Module) → erasedTo k n m ≡ record { table = m .table; t = m .t; messages = erasedUpTo (m .table) k n (m .messages); partitions = m .partitions }
 unfolding erasedTo erasedUpTo
-erased-messages k zero m = refl
-erased-messages k (suc n) m = rw (erased-messages k n m) (go (eqb (channel (m .table) n .destination) k))
+erased-up-to k zero m = refl
+erased-up-to k (suc n) m = rw (erased-up-to k n m) (go (leadsInto k (channel (m .table) n)) (erasedUpTo (m .table) k n (m .messages)))
   where
-    go : (b : Bool) → cond b (withMessage n noMessage (record { table = m .table; t = m .t; messages = erasedUpTo (m .table) k n (m .messages); partitions = m .partitions })) (record { table = m .table; t = m .t; messages = erasedUpTo (m .table) k n (m .messages); partitions = m .partitions })
-        ≡ record { table = m .table; t = m .t; messages = cond b (set (erasedUpTo (m .table) k n (m .messages)) n noMessage) (erasedUpTo (m .table) k n (m .messages)); partitions = m .partitions }
-    go true = refl
-    go false = refl
+    go : (b : Bool) (l : List Message) → let h = withMessages (record { items = l }) m in cond b (withMessage n noMessage h) h ≡ withMessages (record { items = cond b (set l n noMessage) l }) m
+    go true l = refl
+    go false l = refl
+
+-- erasing in a module changes its messages alone
+pub erased-messages : (k : ℕ) (m : Module) → erasedTo k channelLimit m ≡ withMessages (erasedIn (m .table) k (messagesOf m)) m
+erased-messages k m = erased-up-to k channelLimit m

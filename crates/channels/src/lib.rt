@@ -1,4 +1,4 @@
-// Sampling channels: WRITE and READ apart from the module, and the messages that a restart erases.
+// Sampling channels: WRITE, READ and what a restart erases, as functions of the table and of what the channels hold.
 ghost use mathlib.Core.Path.{_≡_};
 ghost use Prim.Native.Nat.{_-_};
 ghost use mathlib.Core.Bool.{cond};
@@ -6,7 +6,7 @@ ghost use lib.Dec.{leb};
 ghost use Rattle.machine.specs.Field.{numberOf};
 ghost use Rattle.machine.specs.Calls.{coded};
 ghost use Rattle.machine.specs.Module.{apart, namedChannel, channelChecks};
-ghost use Rattle.channels.specs.Channels.{firstCode, writeCode, writtenBy, readReply, erasedIn};
+ghost use Rattle.channels.specs.Channels.{firstCode, writeCode, writtenBy, readReply, held, holding, sentBy, readBy, erasedIn};
 use machine::Channel;
 use machine::Message;
 use machine::Module;
@@ -18,6 +18,12 @@ use machine::Time;
 // What the channels hold, in the order of their numbers.
 pub struct Messages {
     pub items: [Message; Module::CHANNELS],
+}
+
+// What WRITE makes of them, and its reply.
+pub struct Sent {
+    pub messages: Messages,
+    pub reply: Reply,
 }
 
 // A reply of this code alone.
@@ -32,7 +38,7 @@ pub fn reply_of(code: u8) -> Reply
 }
 
 // The place of the channel that a request names: its number less one.
-pub fn place_of(r: Request) -> usize
+fn place_of(r: Request) -> usize
     ensures { λ i. ⌜ i ≡ numberOf (r .a) - 1 ⌝ }
 {
     let a = r.a;
@@ -88,7 +94,7 @@ fn end_code(table: Table, k: u32, r: Request, wanted: u8) -> u8
 }
 
 // The code that WRITE by partition k gets.
-pub fn write_code(table: Table, k: u32, r: Request) -> u8
+fn write_code(table: Table, k: u32, r: Request) -> u8
     ensures { λ n. ⌜ n ≡ writeCode table k r ⌝ }
 {
     let c = channel_of(table, r);
@@ -104,7 +110,7 @@ pub fn write_code(table: Table, k: u32, r: Request) -> u8
 }
 
 // The message that WRITE stores at t.
-pub fn written_by(r: Request, t: u32) -> Message
+fn written_by(r: Request, t: u32) -> Message
     ensures { λ x. ⌜ x ≡ writtenBy t r ⌝ }
 {
     let b = r.b;
@@ -129,7 +135,7 @@ fn freshness(t: u32, written: u32, refresh: u32) -> u32
 }
 
 // What READ by partition k answers at t, where the channel holds x.
-pub fn read_reply(table: Table, t: u32, k: u32, r: Request, x: Message) -> Reply
+fn read_reply(table: Table, t: u32, k: u32, r: Request, x: Message) -> Reply
     ensures { λ a. ⌜ a ≡ readReply table t k r x ⌝ }
 {
     let c = channel_of(table, r);
@@ -147,16 +153,65 @@ pub fn read_reply(table: Table, t: u32, k: u32, r: Request, x: Message) -> Reply
     reply_of(1)
 }
 
-// The messages without those on channels into partition k.
-pub fn erase_into(messages: Messages, table: Table, k: u32) -> Messages
-    ensures { λ q. ⌜ q ≡ erasedIn table k messages ⌝ }
+// What the channel at a place holds.
+fn held_at(q: Messages, i: usize) -> Message
+    ensures { λ x. ⌜ x ≡ held i q ⌝ }
 {
-    let mut q = messages;
+    if i < Module::CHANNELS {
+        return q.items[i];
+    }
+    Message {
+        present: false,
+        value: 0,
+        written: 0,
+    }
+}
+
+// The messages with x on the channel at a place.
+fn with_held(q: Messages, i: usize, x: Message) -> Messages
+    ensures { λ p. ⌜ p ≡ holding i x q ⌝ }
+{
+    let mut p = q;
+    if i < Module::CHANNELS {
+        p.items[i] = x;
+    }
+    p
+}
+
+// 21 WRITE by partition k at t.
+pub fn write(q: Messages, table: Table, t: u32, k: u32, r: Request) -> Sent
+    ensures { λ s. ⌜ s ≡ sentBy table t k r q ⌝ }
+{
+    let code = write_code(table, k, r);
+    let reply = reply_of(code);
+    if code != 0 {
+        return Sent { messages: q, reply };
+    }
+    let x = written_by(r, t);
+    Sent {
+        messages: with_held(q, place_of(r), x),
+        reply,
+    }
+}
+
+// 22 READ by partition k at t.
+pub fn read(q: Messages, table: Table, t: u32, k: u32, r: Request) -> Reply
+    ensures { λ a. ⌜ a ≡ readBy table t k r q ⌝ }
+{
+    let x = held_at(q, place_of(r));
+    read_reply(table, t, k, r, x)
+}
+
+// The messages without those on channels into partition k.
+pub fn erase_into(q: Messages, table: Table, k: u32) -> Messages
+    ensures { λ p. ⌜ p ≡ erasedIn table k q ⌝ }
+{
+    let mut p = q;
     let mut i: usize = 0;
     while i < Module::CHANNELS {
         let c = table.channels[i];
         if c.destination as u32 == k {
-            q.items[i] = Message {
+            p.items[i] = Message {
                 present: false,
                 value: 0,
                 written: 0,
@@ -164,5 +219,5 @@ pub fn erase_into(messages: Messages, table: Table, k: u32) -> Messages
         }
         i = i + 1;
     }
-    q
+    p
 }

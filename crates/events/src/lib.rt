@@ -8,6 +8,7 @@ ghost use Rattle.machine.specs.Limits.{partitionLimit};
 ghost use Rattle.machine.specs.Field.{isNumber};
 ghost use Rattle.machine.specs.Partition.{tickPartition, noted};
 ghost use Rattle.machine.specs.Module.{partitionCount, tickTo, usedFields, strayField, oneZero, malformed};
+ghost use Rattle.events.specs.Due.{anyDue};
 use machine::Field;
 use machine::Module;
 use machine::Partition;
@@ -140,6 +141,23 @@ fn count(table: Table) -> usize
     } else {
         Module::PARTITIONS
     }
+}
+
+// Whether a partition may be due at the module's time; else a tick changes no partition.
+pub fn is_any_due(m: Module) -> bool
+    ensures { λ b. ⌜ b ≡ anyDue m ⌝ }
+{
+    let table = m.table;
+    let n = count(table);
+    let t = m.t;
+    let mut i: usize = 0;
+    while i < n {
+        if m.partitions[i].soonest <= t {
+            return true;
+        }
+        i = i + 1;
+    }
+    false
 }
 
 // A partition at a tick.

@@ -10,10 +10,10 @@ use Rattle.channels.proofs.erase_into.Statement.{statement}
 use Rattle.channels.proofs.erase_into.Tie as tie
 
 abbrev Inv-loop : tie.InvT-loop
-Inv-loop k table q₀ i₀ q i = (i ≤ channelLimit) × (q .items ≡ erasedUpTo table k i (q₀ .items))
+Inv-loop k table p₀ i₀ p i = (i ≤ channelLimit) × (p .items ≡ erasedUpTo table k i (p₀ .items))
 
 abbrev μ-loop : tie.MeasureT-loop
-μ-loop k table q₀ i₀ q i = channelLimit - i
+μ-loop k table p₀ i₀ p i = channelLimit - i
 
 loop-holds : tie.Need-loop-holds Inv-loop μ-loop
 loop-holds c = (omega arith, erased-none _ _ _)
@@ -30,8 +30,8 @@ cast-if1 c = search needs
 mul-t15 : tie.Need-mul-t15 Inv-loop μ-loop
 mul-t15 c = search needs
 
-element-set-from-q : tie.Need-element-set-from-q Inv-loop μ-loop
-element-set-from-q c = search needs
+element-set-from-p : tie.Need-element-set-from-p Inv-loop μ-loop
+element-set-from-p c = search needs
 
 add-i : tie.Need-add-i Inv-loop μ-loop
 add-i c = search needs
@@ -40,7 +40,7 @@ loop-less : tie.Need-loop-less Inv-loop μ-loop
 loop-less c = search needs
 
 loop-again : tie.Need-loop-again Inv-loop μ-loop
-loop-again c = let a = c .before .before .before .before .before .args in (omega arith, ⊎-elim (λ w. rw (w .1, c .before .before .before .before .loop .inv .1) (erased-hit (a .t2) (a .k) (c .before .before .before .before .loop .i) (a .messages .items) (w .0 .taken))) (λ w. rw (w .1, c .before .before .before .before .loop .inv .1) (erased-miss (a .t2) (a .k) (c .before .before .before .before .loop .i) (a .messages .items) (w .0 .left))) (c .if1 .came))
+loop-again c = let a = c .before .before .before .before .before .args in (omega arith, ⊎-elim (λ w. rw (w .1, c .before .before .before .before .loop .inv .1) (erased-hit (a .t2) (a .k) (c .before .before .before .before .loop .i) (a .q .items) (w .0 .taken))) (λ w. rw (w .1, c .before .before .before .before .loop .inv .1) (erased-miss (a .t2) (a .k) (c .before .before .before .before .loop .i) (a .q .items) (w .0 .left))) (c .if1 .came))
 
 returns : tie.Need-returns Inv-loop μ-loop
 returns c = let z : c .before .loop .i ≡ channelLimit = omega arith in let e = rw z at (c .before .loop .inv .1) in λ j. record { items = e j }
@@ -56,7 +56,7 @@ erase-into-spec =
     element-copy-out-c
     cast-if1
     mul-t15
-    element-set-from-q
+    element-set-from-p
     add-i
     loop-less
     loop-again

@@ -383,7 +383,12 @@ pub fn periodic_wait(p: Partition, c: Context) -> Called
     if !process::is_periodic(x) {
         return answered(p, 5);
     }
-    block(p, id, process::next_release(x))
+    let given = x.given;
+    let period = given.period;
+    let times = x.times;
+    let last = times.release;
+    let release = process::later_time(last, period);
+    block(p, id, process::wait_for_release(x, release))
 }
 
 // 11 RESUME.

@@ -27,3 +27,4 @@ pub mod Reached
 pub mod Answers
 pub mod Plain
 pub mod Taken
+pub mod Replays

@@ -191,11 +191,11 @@ stopped x = record {
 abbrev pub resumed : Process → Process
 resumed x = cond (waitsForNothing (x .wait)) (withSuspended false (waitEnded 0 x)) (withSuspended false x)
 
--- PERIODIC_WAIT: r rises by period; w = r, d = r + capacity or −1; waits
-abbrev pub nextRelease : Process → Process
-nextRelease x = record {
+-- it waits for the release r: w = r, d = r + capacity or −1
+abbrev pub waitingForRelease : Time → Process → Process
+waitingForRelease r x = record {
   given = x .given;
-  times = releasedAt (later (x .times .release) (x .given .period)) (x .given .capacity) (x .times);
+  times = releasedAt r (x .given .capacity) (x .times);
   current = x .current;
   suspended = x .suspended;
   missed = x .missed;
@@ -203,3 +203,7 @@ nextRelease x = record {
   started = x .started;
   wait = Period;
 }
+
+-- PERIODIC_WAIT: r rises by period
+abbrev pub nextRelease : Process → Process
+nextRelease x = waitingForRelease (later (x .times .release) (x .given .period)) x

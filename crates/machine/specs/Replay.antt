@@ -2,8 +2,8 @@
 use Prim.Native.Nat.{ℕ}
 use mathlib.Core.Bool.{Bool, true, false, cond}
 use mathlib.Core.List.{List, [], _∷_, _++_, map}
-use lib.ListN.{drop}
-use lib.Dec.{eqb}
+use lib.ListN.{length, drop}
+use lib.Dec.{eqb, leb}
 use lib.IntN.{ℤ, pos, negsuc}
 use Rattle.machine.specs.declared.Module.{Module}
 use Rattle.machine.specs.declared.Event.{Event}
@@ -62,3 +62,11 @@ replayed input =
 -- the record at the end
 unfoldable pub replayedRecord : List ℕ → Module
 replayedRecord input = let r = readTable input in final lineNext lineAnswer (r .state) (eventLines r input)
+
+-- The replay of an input into an output: 0, or 11 where there is too little room
+abbrev pub replayCode : List ℕ → ℕ → ℕ
+replayCode input room = cond (leb (length (replayed input)) room) 0 lineRefusal
+
+-- the output after: what is printed and what stood past it, or all as it was
+abbrev pub replayedInto : List ℕ → List ℕ → List ℕ
+replayedInto input out = cond (leb (length (replayed input)) (length out)) (replayed input ++ drop (length (replayed input)) out) out

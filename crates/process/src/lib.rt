@@ -1,7 +1,7 @@
 // A process by itself: times, waits, and what each rule makes of its record.
 ghost use mathlib.Core.Path.{_≡_};
 ghost use mathlib.Core.Bool.{cond};
-ghost use Rattle.machine.specs.Process.{createdProcess, capped, later, due, isNever, periodic, object, onObject, waitsForNothing, waitsForNormal, ready, withWake, withDeadline, withDelay, releasedAt, waitEnded, withSuspended, withCurrent, waitingFor, suspendedUntil, woken, deadlineMissed, expired, ticked, begun, startedAperiodic, startedPeriodic, startRule, startedEarly, entered, stopped, resumed, nextRelease};
+ghost use Rattle.machine.specs.Process.{createdProcess, capped, later, due, isNever, periodic, object, onObject, waitsForNothing, waitsForNormal, ready, withWake, withDeadline, withDelay, releasedAt, waitEnded, withSuspended, withCurrent, waitingFor, suspendedUntil, woken, deadlineMissed, expired, ticked, begun, startedAperiodic, startedPeriodic, startRule, startedEarly, entered, stopped, resumed, waitingForRelease};
 ghost use Rattle.machine.specs.Partition.{sooner};
 ghost use Rattle.machine.specs.Calls.{reaches};
 use machine::Context;
@@ -364,23 +364,20 @@ pub fn stop(x: Process) -> Process
 pub fn resume(x: Process) -> Process
     ensures { λ r. ⌜ r ≡ resumed x ⌝ }
 {
-    let wait = x.wait;
-    if is_idle(wait) {
+    let held = x.wait;
+    if is_idle(held) {
         return with_suspended(wait_ended(x, 0), false);
     }
     with_suspended(x, false)
 }
 
-// PERIODIC_WAIT.
-pub fn next_release(x: Process) -> Process
-    ensures { λ r. ⌜ r ≡ nextRelease x ⌝ }
+// The process waits for a release.
+pub fn wait_for_release(x: Process, release: Time) -> Process
+    ensures { λ r. ⌜ r ≡ waitingForRelease release x ⌝ }
 {
     let given = x.given;
-    let period = given.period;
     let capacity = given.capacity;
     let old = x.times;
-    let last = old.release;
-    let release = later_time(last, period);
     let times = released_at(old, release, capacity);
     Process {
         times,

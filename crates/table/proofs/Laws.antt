@@ -4,10 +4,7 @@ use mathlib.Core.Path.{_≡_, refl, sym, ap, _∙_}
 use mathlib.Core.Bool.{Bool, true, false, cond, not, _&&_}
 use mathlib.Core.List.{List, [], _∷_, map}
 use native.Mathlib.Omega.{arith}
-use native.Mathlib.Nat.{min-eq-left, min-eq-right}
-use native.Mathlib.Numerals.{add-one}
-use lib.ListN.{length, getD, take, drop, length-take, drop-of-length-le}
-use lib.Seq.{drop-cons, getD-take}
+use lib.ListN.{length, getD, take, drop}
 use lib.Dec.{eqb, ltb}
 use borrow.Author.Tests.{eq-eqb, ne-eqb, ltb-true, ltb-false, not-true, not-false}
 use Rattle.machine.specs.declared.Window.{Window}
@@ -18,12 +15,13 @@ use Rattle.machine.specs.declared.Numbers.{Numbers}
 use Rattle.machine.specs.declared.Line.{Line}
 use Rattle.machine.specs.declared.Line.the-variants.{Six, Bad}
 use Rattle.machine.specs.declared.Table.{Table}
-use Rattle.machine.specs.Limits.{lineLength, windowLimit}
+use Rattle.machine.specs.Limits.{lineLength}
 use Rattle.machine.specs.Module.{noWindow, windows, flaggedFor}
 use Rattle.machine.specs.Field.{rowOf}
 use Rattle.machine.specs.Text.{readLine, lines, lineRefusal, lineEnd, readAt}
 use Rattle.machine.specs.Table.{headGood, headDraft, rowGood, withRow, hasFlagged, flaggedFrom, refusedTable, checkedTable, tableFrom, tableHead, tableOf, readTable}
 use Rattle.machine.proofs.Bounds.{either}
+use Rattle.machine.proofs.Taken.{taken-more, taken-done}
 use Rattle.machine.proofs.TextInput.{line-at, lines-end, six-end}
 use Rattle.line.proofs.Parts.{part-is}
 use Rattle.table.specs.Room.{Room}
@@ -44,19 +42,9 @@ pub apart-yes : {m n x y : ℕ} {z : Bool} (b : Bool) → m ≡ x → n ≡ y �
 apart-yes {m} {n} b p q e f = rw (← p, ← q, ne-eqb m n e) f
 
 -- ---------------------------------------------------------------- the final check
-module _ (T : Table) (h : length (T .windows) ≡ windowLimit) where
-  pub count-low : T .windowCount < windowLimit → T .windowCount ≡ length (windows T)
-  count-low s = sym (length-take (T .windowCount) (T .windows) ∙ rw h (min-eq-left (omega arith)))
-
-  pub count-high : windowLimit ≤ T .windowCount → windowLimit ≡ length (windows T)
-  count-high s = sym (length-take (T .windowCount) (T .windows) ∙ rw h (min-eq-right s))
-
 module _ (T : Table) (k i n : ℕ) (e : n ≡ length (windows T)) where
   window-at : i < n → drop i (windows T) ≡ getD (T .windows) i noWindow ∷ drop (i + 1) (windows T)
-  window-at h =
-      let s : i < T .windowCount = omega (arith, length-take (T .windowCount) (T .windows)) in
-      let l : i < length (windows T) = omega arith in
-      rw (add-one, drop-cons (windows T) i noWindow, getD-take (T .windowCount) (T .windows) i noWindow)
+  window-at h = taken-more (T .windows) (T .windowCount) i noWindow (omega arith)
 
   -- a flagged window of partition k is found
   pub window-found : i < n → (b : Bool) → b ≡ flaggedFor k (getD (T .windows) i noWindow) → b ≡ true
@@ -73,7 +61,7 @@ module _ (T : Table) (k i n : ℕ) (e : n ≡ length (windows T)) where
   -- none is
   pub window-missing : n ≤ i → hasFlagged k (drop i (windows T)) ≡ hasFlagged k (windows T) → hasFlagged k (windows T) ≡ false
   unfolding hasFlagged
-  window-missing h q = sym q ∙ rw (drop-of-length-le (windows T) {i = i} (omega arith))
+  window-missing h q = sym q ∙ rw (taken-done (T .windows) (T .windowCount) i noWindow (omega arith))
 
 pub partitions-start : (size : ℕ) (ws : List Window) → flaggedFrom (size + 1 - 1) 1 ws ≡ flaggedFrom size 1 ws
 partitions-start size ws = let e : size + 1 - 1 ≡ size = omega arith in rw e
@@ -110,11 +98,11 @@ module _ (input : List ℕ) (at : ℕ) where
   one-left : at < length input → linesFrom input at ≡ readAt input at ∷ linesFrom input (lineEnd input at)
   one-left h = let l = line-at input at h in rw (l .first, l .reads)
 
-  six-left : at + lineLength ≤ length input → (k : Numbers) → readAt input at ≡ Six k → linesFrom input at ≡ Six k ∷ linesFrom input (at + lineLength)
+  pub six-left : at + lineLength ≤ length input → (k : Numbers) → readAt input at ≡ Six k → linesFrom input at ≡ Six k ∷ linesFrom input (at + lineLength)
   six-left h k e = one-left (omega arith) ∙ rw (e, six-end input at k e)
 
   -- no line is left, or a line that is refused
-  no-six : (P : List Line → Type 0) → P [] → P (Bad ∷ linesFrom input (lineEnd input at)) → readAt input at ≡ Bad → P (linesFrom input at)
+  pub no-six : (P : List Line → Type 0) → P [] → P (Bad ∷ linesFrom input (lineEnd input at)) → readAt input at ≡ Bad → P (linesFrom input at)
   no-six P f g e =
       either (ltb at (length input))
       (λ t. rw (one-left (ltb-true _ _ t), e) g)
@@ -174,6 +162,6 @@ module _ (input : List ℕ) (at total line : ℕ) (d : Draft) (more : line < tot
         rw w (row-draft (total - (line + 1)) d row (rw n at s) good, rw good at row-next)
 
 -- no line is left to read
-pub table-end : (total line : ℕ) (d : Draft) (ls : List Line) (x : Reading) → total ≤ line → tableFrom (total - line) line d ls ≡ x → checkedTable (d .table) line ≡ x
+pub lines-done : (total line : ℕ) (d : Draft) (ls : List Line) (x : Reading) → total ≤ line → tableFrom (total - line) line d ls ≡ x → checkedTable (d .table) line ≡ x
 unfolding tableFrom
-table-end total line d ls x h q = let e : total - line ≡ 0 = omega arith in rw e at q
+lines-done total line d ls x h q = let e : total - line ≡ 0 = omega arith in rw e at q

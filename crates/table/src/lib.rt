@@ -8,7 +8,7 @@ ghost use lib.ListN.{length, drop};
 ghost use Rattle.machine.specs.Limits.{lineLength, windowLimit, channelLimit};
 ghost use Rattle.machine.specs.Field.{numberOf};
 ghost use Rattle.machine.specs.Text.{readLine, lines};
-ghost use Rattle.machine.specs.Module.{windows, flaggedFor};
+ghost use Rattle.machine.specs.Module.{windows};
 ghost use Rattle.machine.specs.Table.{lastTwoZero, headGood, headDraft, windowGood, withWindow, channelGood, withChannel, windowNext, rowGood, withRow, flaggedFrom, refusedTable, checkedTable, tableHead, readTable};
 ghost use Rattle.table.specs.Room.{Room};
 use machine::Channel;
@@ -197,34 +197,16 @@ fn with_row(d: Draft, r: Row) -> Draft
 }
 
 // ---------------------------------------------------------------- the final check
-fn is_flagged_for(w: Window, k: u8) -> bool
-    ensures { λ r. ⌜ r ≡ flaggedFor k w ⌝ }
-{
-    w.flag && w.partition == k
-}
-
-// How many windows a table holds, the array's length at most.
-fn window_count(t: Table) -> usize
-    ensures { λ r. ⌜ (r ≡ length (windows t)) × (r ≤ windowLimit) ⌝ }
-{
-    let n = t.windowCount as usize;
-    if n < Module::WINDOWS {
-        n
-    } else {
-        Module::WINDOWS
-    }
-}
-
 // Every partition has a window with flag 1.
 fn all_flagged(t: Table) -> bool
     ensures { λ r. ⌜ r ≡ flaggedFrom (t .size) 1 (windows t) ⌝ }
 {
-    let size = t.size;
-    let n = window_count(t);
+    let size = t.size as u32;
+    let n = windows::count(t);
     'partitions: for k in 1..=size {
         for i in 0..n {
             let w = t.windows[i];
-            if is_flagged_for(w, k) {
+            if windows::is_flagged(w, k) {
                 continue 'partitions;
             }
         }

@@ -12,7 +12,7 @@ use machine::Waiting;
 use machine::Window;
 
 // How many windows a table has, the array's length at most.
-fn count(table: Table) -> usize
+pub fn count(table: Table) -> usize
     ensures { λ r. ⌜ (r ≡ length (windows table)) × (r ≤ windowLimit) ⌝ }
 {
     let n = table.windowCount as usize;
@@ -65,7 +65,7 @@ pub fn lookup_at(table: Table, t: u32) -> Lookup
 }
 
 // Whether the window has flag 1 and is the partition's.
-fn is_flagged(w: Window, k: u32) -> bool
+pub fn is_flagged(w: Window, k: u32) -> bool
     ensures { λ r. ⌜ r ≡ flaggedFor k w ⌝ }
 {
     if w.flag {

@@ -1,12 +1,13 @@
 -- `all_flagged` meets its contract. The loops: the partitions from k on are left, and of partition k the windows from i on.
-use Rattle.table.proofs.Laws.{window-found, window-passed, window-missing, partitions-start, partition-flagged, partition-unflagged, partitions-end, last-flagged}
 use Prim.Native.Nat.{_+_, _-_, _≤_}
 use mathlib.Core.Path.{_≡_, refl}
+use mathlib.Core.Bool.{true}
 use native.Mathlib.Omega.{arith}
 use lib.ListN.{drop}
 use borrow.Author.Needs.{needs}
 use Rattle.machine.specs.Module.{windows}
 use Rattle.machine.specs.Table.{hasFlagged, flaggedFrom}
+use Rattle.table.proofs.Laws.{window-found, window-passed, window-missing, partitions-start, partition-flagged, partition-unflagged, partitions-end, last-flagged}
 use Rattle.table.proofs.all_flagged.Statement.{statement}
 use Rattle.table.proofs.all_flagged.Tie as tie
 
@@ -22,8 +23,11 @@ Inv-partitions t size n k₀ k = flaggedFrom (size + 1 - k) k (windows t) ≡ fl
 abbrev μ-partitions : tie.MeasureT-partitions
 μ-partitions t size n k₀ k = size + 1 - k
 
-window-count-requires : tie.Need-window-count-requires Inv-loop μ-loop Inv-partitions μ-partitions
-window-count-requires c κs = search needs
+cast-size : tie.Need-cast-size Inv-loop μ-loop Inv-partitions μ-partitions
+cast-size c = search needs
+
+count-requires : tie.Need-count-requires Inv-loop μ-loop Inv-partitions μ-partitions
+count-requires c κs = search needs
 
 partitions-holds : tie.Need-partitions-holds Inv-loop μ-loop Inv-partitions μ-partitions
 partitions-holds c = partitions-start _ _
@@ -32,20 +36,29 @@ loop-holds : tie.Need-loop-holds Inv-loop μ-loop Inv-partitions μ-partitions
 loop-holds c = (refl, omega arith, refl)
 
 mul-w : tie.Need-mul-w Inv-loop μ-loop Inv-partitions μ-partitions
-mul-w c = omega (arith, c .before .before .before .before .window-count .ensures .1)
+mul-w c = omega (arith, c .before .before .before .before .count .ensures .1)
 
 element-copy-out-w : tie.Need-element-copy-out-w Inv-loop μ-loop Inv-partitions μ-partitions
-element-copy-out-w c = omega (arith, c .before .before .before .before .window-count .ensures .1)
+element-copy-out-w c = omega (arith, c .before .before .before .before .count .ensures .1)
 
-is-flagged-for-requires :
-    tie.Need-is-flagged-for-requires Inv-loop μ-loop Inv-partitions μ-partitions
-is-flagged-for-requires c κs = search needs
+is-flagged-requires : tie.Need-is-flagged-requires Inv-loop μ-loop Inv-partitions μ-partitions
+is-flagged-requires c κs = search needs
 
 add-k : tie.Need-add-k Inv-loop μ-loop Inv-partitions μ-partitions
 add-k c =
     let partitions-test = c .before .before .before .before .before .before .partitions-test in
     let loop = c .before .before .before .before .before .loop in
     omega (arith, partitions-test .taken, loop .inv .0)
+
+-- partition k has a window with flag 1
+found : (c : tie.Then1 Inv-loop μ-loop Inv-partitions μ-partitions) → hasFlagged (c .before .before .before .before .loop .k) (windows (c .before .before .before .before .before .before .before .before .args .t1)) ≡ true
+found c =
+    let start = c .before .before .before .before .before .before .before .before in
+    let count = c .before .before .before .before .before .before .before .count in
+    let loop = c .before .before .before .before .loop in
+    let loop-test = c .before .before .before .loop-test in
+    window-found (start .args .t1) _ (loop .i) _ (count .ensures .0) (loop-test .taken) _ (c .before .is-flagged .ensures)
+    (c .if1 .taken) (loop .inv .2)
 
 partitions-less : tie.Need-partitions-less Inv-loop μ-loop Inv-partitions μ-partitions
 partitions-less c =
@@ -55,45 +68,41 @@ partitions-less c =
 
 partitions-again : tie.Need-partitions-again Inv-loop μ-loop Inv-partitions μ-partitions
 partitions-again c =
-    let window-count = c .before .before .before .before .before .before .before .before .window-count in
     let start = c .before .before .before .before .before .before .before .before .before in
     let partitions = c .before .before .before .before .before .before .before .partitions in
     let partitions-test = c .before .before .before .before .before .before .partitions-test in
     let loop = c .before .before .before .before .before .loop in
-    let loop-test = c .before .before .before .before .loop-test in
-    let is-flagged-for = c .before .before .is-flagged-for in
     partition-flagged (loop .k) _ _ (windows (start .args .t1)) (loop .inv .0) _ (partitions .inv)
-    (omega (arith, partitions-test .taken, loop .inv .0)) (window-found (start .args .t1) (loop .k) (loop .i) _
-    (window-count .ensures .0) (loop-test .taken) _ (is-flagged-for .ensures) (c .before .if1 .taken) (loop .inv .2))
+    (omega (arith, partitions-test .taken, loop .inv .0)) (found (c .before))
 
 add-i : tie.Need-add-i Inv-loop μ-loop Inv-partitions μ-partitions
-add-i c = omega (arith, c .before .before .before .before .before .before .before .window-count .ensures .1)
+add-i c = omega (arith, c .before .before .before .before .before .before .before .count .ensures .1)
 
 loop-less : tie.Need-loop-less Inv-loop μ-loop Inv-partitions μ-partitions
 loop-less c = omega arith
 
 loop-again : tie.Need-loop-again Inv-loop μ-loop Inv-partitions μ-partitions
 loop-again c =
-    let window-count = c .before .before .before .before .before .before .before .window-count in
     let start = c .before .before .before .before .before .before .before .before in
+    let count = c .before .before .before .before .before .before .before .count in
     let loop = c .before .before .before .before .loop in
     let loop-test = c .before .before .before .loop-test in (
       loop .inv .0,
       omega arith,
-      window-passed (start .args .t1) (loop .k) (loop .i) _ (window-count .ensures .0) (loop-test .taken) _
-          (c .before .is-flagged-for .ensures) (c .if1 .left) (loop .inv .2),
+      window-passed (start .args .t1) (loop .k) (loop .i) _ (count .ensures .0) (loop-test .taken) _
+          (c .before .is-flagged .ensures) (c .if1 .left) (loop .inv .2),
     )
 
 returns : tie.Need-returns Inv-loop μ-loop Inv-partitions μ-partitions
 returns c =
-    let window-count = c .before .before .before .before .window-count in
     let start = c .before .before .before .before .before in
+    let count = c .before .before .before .before .count in
     let partitions = c .before .before .before .partitions in
     let partitions-test = c .before .before .partitions-test in
     let loop = c .before .loop in
     partition-unflagged (loop .k) _ _ (windows (start .args .t1)) (loop .inv .0) _ (partitions .inv)
     (omega (arith, partitions-test .taken, loop .inv .0))
-    (window-missing (start .args .t1) (loop .k) (loop .i) _ (window-count .ensures .0) (c .loop-test .left) (loop .inv .2))
+    (window-missing (start .args .t1) (loop .k) (loop .i) _ (count .ensures .0) (c .loop-test .left) (loop .inv .2))
 
 returns-2 : tie.Need-returns-2 Inv-loop μ-loop Inv-partitions μ-partitions
 returns-2 c =
@@ -103,17 +112,12 @@ returns-2 c =
 
 returns-3 : tie.Need-returns-3 Inv-loop μ-loop Inv-partitions μ-partitions
 returns-3 c =
-    let window-count = c .before .before .before .before .before .before .before .before .window-count in
     let start = c .before .before .before .before .before .before .before .before .before in
     let partitions = c .before .before .before .before .before .before .before .partitions in
     let partitions-test = c .before .before .before .before .before .before .partitions-test in
     let loop = c .before .before .before .before .before .loop in
-    let loop-test = c .before .before .before .before .loop-test in
-    let is-flagged-for = c .before .before .is-flagged-for in
     last-flagged (loop .k) _ _ (windows (start .args .t1)) (loop .inv .0) _ (partitions .inv)
-    (omega (arith, partitions-test .taken, loop .inv .0)) (omega (arith, c .if2 .left)) (window-found (start .args .t1)
-    (loop .k) (loop .i) _ (window-count .ensures .0) (loop-test .taken) _ (is-flagged-for .ensures) (c .before .if1 .taken)
-    (loop .inv .2))
+    (omega (arith, partitions-test .taken, loop .inv .0)) (omega (arith, c .if2 .left)) (found (c .before))
 
 pub all-flagged-spec : {M : Type 1} → statement M
 all-flagged-spec =
@@ -123,12 +127,13 @@ all-flagged-spec =
     μ-loop
     Inv-partitions
     μ-partitions
-    window-count-requires
+    cast-size
+    count-requires
     partitions-holds
     loop-holds
     mul-w
     element-copy-out-w
-    is-flagged-for-requires
+    is-flagged-requires
     add-k
     partitions-less
     partitions-again

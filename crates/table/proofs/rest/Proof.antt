@@ -1,7 +1,7 @@
 -- `rest` meets its contract. The loop: the lines from `at` on, with the draft so far, give what the whole gives.
 use borrow.Author.Tests.{not-false}
 use Rattle.machine.proofs.TextInput.{few-left}
-use Rattle.table.proofs.Laws.{linesFrom, part-read, head-sound, head-read, room, line-refused, row-refused, row-taken, table-end}
+use Rattle.table.proofs.Laws.{linesFrom, part-read, head-sound, head-read, room, line-refused, row-refused, row-taken, lines-done}
 use Prim.Native.Nat.{_+_, _-_, _≤_}
 use mathlib.Core.Path.{_≡_, sym, _∙_}
 use native.Mathlib.Omega.{arith}
@@ -179,7 +179,7 @@ returns-4 c =
     let head-draft = c .before .before .before .before .before .before .head-draft in
     let loop = c .before .before .before .loop in
     head-read (start .args .head) _ _ (start .pre .0) (head-draft .ensures) _
-    (c .checked .ensures ∙ table-end _ (loop .line) (loop .d) _ _ (c .before .before .loop-test .left) (loop .inv .3))
+    (c .checked .ensures ∙ lines-done _ (loop .line) (loop .d) _ _ (c .before .before .loop-test .left) (loop .inv .3))
 
 pub rest-spec : {M : Type 1} → statement M
 rest-spec =

@@ -20,16 +20,16 @@ use Rattle.events.specs.Due.{anyDue}
 use Rattle.machine.specs.Calls.{coded, checked, partitionCall}
 use Rattle.machine.specs.Field.{requestOf, numberOf, field, between}
 use Rattle.machine.specs.Limits.{timeLimit, partitionLimit}
-use Rattle.machine.specs.Module.{noPartition, emptyTable, emptyModule, lookup, releasePoint, part, current, runningIn, withPart, withTime, tickTo, partitionCount, tickModule, refuse, restarts, restarted, accepts, storedCall, callDone, malformed, noCaller, done, sees, answerTo, step}
+use Rattle.machine.specs.Module.{noPartition, emptyTable, emptyModule, lookup, releasePoint, part, current, runningIn, withPart, withTime, tickTo, partitionCount, tickModule, refuse, restarts, restarted, accepts, storedCall, callDone, malformed, noCaller, done, answerTo, step}
 use Rattle.machine.specs.Partition.{running, noted}
 use Rattle.machine.specs.Valid.{SoundModule, Reached}
 use Rattle.machine.specs.Waiting.{waitingRefused, WaitingTime}
+use Rattle.machine.specs.declared.Answer.{Answer}
 use Rattle.machine.specs.declared.Called.{Called}
 use Rattle.machine.specs.declared.Done.{Done}
 use Rattle.machine.specs.declared.Event.{Event}
 use Rattle.machine.specs.declared.Field.{Field}
 use Rattle.machine.specs.declared.Field.the-variants.{Number, MinusOne, Other}
-use Rattle.machine.specs.declared.Lookup.{Lookup}
 use Rattle.machine.specs.declared.Module.{Module}
 use Rattle.machine.specs.declared.Partition.{Partition}
 use Rattle.machine.specs.declared.Reply.{Reply}
@@ -81,32 +81,34 @@ apply-settled m k n r p c e = either (accepts (c .reply))
     go true = rw (erased-messages k m)
     go false = refl
 
-module _ (m : Module) (k : ℕ) (r : Request) (p : Partition) (caller : ℕ) (b : Bool) (own : p ≡ part m (k - 1)) (runs : caller ≡ running p) (silent : b ≡ (eqb (p .mode) 0 || (eqb (p .mode) 3 && eqb caller 0))) where
-  abbrev Body : Done
-  Body = checked (refuse m) ((noCaller (part m (k - 1)), 9) ∷ []) (callDone m k (numberOf (r .call)) r)
+module _ (m : Module) (k : ℕ) (r : Request) (p : Partition) (own : p ≡ part m (k - 1)) where
+  module _ (n : ℕ) (number : n ≡ numberOf (r .call)) where
+    pub body-write : (s : Sent) → s ≡ sentBy (m .table) (m .t) k r (messagesOf m) → n ≡ 21 → applied k (record { messages = s .messages; partition = p; reply = s .reply }) m ≡ callDone m k (numberOf (r .call)) r
+    body-write s h e = apply-messages m k p (s .messages) (s .reply) own ∙ rw (h, ← number, eq-eqb n 21 e) (sym (write-sent m k r))
 
-  no-caller : b ≡ noCaller (part m (k - 1))
-  no-caller = rw (silent, runs, own)
+    pub body-read : (a : Reply) → a ≡ readBy (m .table) (m .t) k r (messagesOf m) → (n ≡ 21 → ⊥) → n ≡ 22 → applied k (record { messages = messagesOf m; partition = p; reply = a }) m ≡ callDone m k (numberOf (r .call)) r
+    body-read a h ne e = apply-same m k p a own ∙ rw (h, ← number, ne-eqb n 21 ne, eq-eqb n 22 e) (sym (read-replied m k r))
 
-  pub act-silent : (a : Reply) → a ≡ coded 9 → b ≡ true → applied k (record { messages = messagesOf m; partition = p; reply = a }) m ≡ Body
-  unfolding checked
-  act-silent a h e = apply-same m k p a own ∙ rw (h, ← no-caller, e)
-
-  module _ (n : ℕ) (number : n ≡ numberOf (r .call)) (calls : b ≡ false) where
-    pub act-write : (s : Sent) → s ≡ sentBy (m .table) (m .t) k r (messagesOf m) → n ≡ 21 → applied k (record { messages = s .messages; partition = p; reply = s .reply }) m ≡ Body
-    unfolding checked
-    act-write s h e = apply-messages m k p (s .messages) (s .reply) own ∙ rw (h, ← no-caller, calls, ← number, eq-eqb n 21 e) (sym (write-sent m k r))
-
-    pub act-read : (a : Reply) → a ≡ readBy (m .table) (m .t) k r (messagesOf m) → (n ≡ 21 → ⊥) → n ≡ 22 → applied k (record { messages = messagesOf m; partition = p; reply = a }) m ≡ Body
-    unfolding checked
-    act-read a h ne e = apply-same m k p a own ∙ rw (h, ← no-caller, calls, ← number, ne-eqb n 21 ne, eq-eqb n 22 e) (sym (read-replied m k r))
-
-    pub act-settle : (at : ℕ) (c : Called) (o : Outcome) → at ≡ releasePoint (m .table) (m .t) k
+    pub body-settle : (caller at : ℕ) (c : Called) (o : Outcome) → caller ≡ running p → at ≡ releasePoint (m .table) (m .t) k
         → c ≡ partitionCall (record { time = m .t; frame = m .table .frame; release = at; caller = caller }) n r p
-        → o ≡ settled (m .table) k n r p (messagesOf m) c → (n ≡ 21 → ⊥) → (n ≡ 22 → ⊥) → applied k o m ≡ Body
+        → o ≡ settled (m .table) k n r p (messagesOf m) c → (n ≡ 21 → ⊥) → (n ≡ 22 → ⊥) → applied k o m ≡ callDone m k (numberOf (r .call)) r
+    body-settle caller at c o runs h f g ne nf =
+        rw g (apply-settled m k n r p c own ∙ rw (f, h, runs, own, ← number, ne-eqb n 21 ne, ne-eqb n 22 nf))
+
+  -- 9 comes first
+  module _ (caller : ℕ) (b : Bool) (runs : caller ≡ running p) (silent : b ≡ (eqb (p .mode) 0 || (eqb (p .mode) 3 && eqb caller 0))) where
+    no-caller : b ≡ noCaller (part m (k - 1))
+    no-caller = rw (silent, runs, own)
+
+    pub act-silent : (a : Reply) → a ≡ coded 9 → b ≡ true
+        → applied k (record { messages = messagesOf m; partition = p; reply = a }) m ≡ checked (refuse m) ((noCaller (part m (k - 1)), 9) ∷ []) (callDone m k (numberOf (r .call)) r)
     unfolding checked
-    act-settle at c o h f g ne nf =
-        rw g (apply-settled m k n r p c own ∙ rw (f, h, runs, own, ← no-caller, calls, ← number, ne-eqb n 21 ne, ne-eqb n 22 nf))
+    act-silent a h e = apply-same m k p a own ∙ rw (h, ← no-caller, e)
+
+    pub act-called : (o : Outcome) → applied k o m ≡ callDone m k (numberOf (r .call)) r → b ≡ false
+        → applied k o m ≡ checked (refuse m) ((noCaller (part m (k - 1)), 9) ∷ []) (callDone m k (numberOf (r .call)) r)
+    unfolding checked
+    act-called o h e = h ∙ rw (← no-caller, e)
 
 -- ---------------------------------------------------------------- the places
 module _ (m : Module) (r : Request) (long : length (m .partitions) ≡ partitionLimit) where
@@ -174,15 +176,11 @@ module _ (m : Module) (r : Request) (n k : ℕ) (q : Module) (a b : Reply) (foun
     step-called o h z x y = rw (x, y) (h ∙ (rw (ne-eqb k 0 z) at accepted))
 
 -- the answer is read off the record after the event
-pub step-answered : (m : Module) (e : Event) (r : Request) (q : Module) (a : Reply) (now : Lookup) (n : ℕ) → r ≡ requestOf e → record { state = q; reply = a } ≡ done m r → now ≡ lookup (q .table) (q .t)
-    → n ≡ cond (sees r (now .partition)) (runningIn (now .partition) q) 0
-    → record {
-      executive = record { inner = q };
-      answer = record { code = a .code; value = a .value; extra = a .extra; t = q .t; current = now .partition; running = n };
-    } ≡ turned (step m e)
+pub step-answered : (m : Module) (e : Event) (r : Request) (q : Module) (b : Reply) (a : Answer) → r ≡ requestOf e → record { state = q; reply = b } ≡ done m r → a ≡ answerTo r (record { state = q; reply = b })
+    → record { executive = record { inner = q }; answer = a } ≡ turned (step m e)
 unfolding step
-step-answered m e r q a now n heard did at shown =
-    rw (shown, at) (ap (λ (d : Done). turned (record { state = d .state; answer = answerTo r d })) did
+step-answered m e r q b a heard did said =
+    rw said (ap (λ (d : Done). turned (record { state = d .state; answer = answerTo r d })) did
     ∙ ap (λ (x : Request). turned (record { state = done m x .state; answer = answerTo x (done m x) })) heard)
 
 -- ---------------------------------------------------------------- the waiting time

@@ -5,8 +5,9 @@ ghost use mathlib.Core.List.{[], _∷_};
 ghost use Prim.Native.Nat.{_-_, _≤_, _<_};
 ghost use Rattle.machine.specs.Limits.{partitionLimit};
 ghost use Rattle.machine.specs.Field.{numberOf};
+ghost use Rattle.machine.specs.Partition.{running};
 ghost use Rattle.machine.specs.Calls.{checked};
-ghost use Rattle.machine.specs.Module.{part, runningIn, refuse, restarts, accepts, callDone, noCaller, sees, step};
+ghost use Rattle.machine.specs.Module.{part, runningIn, refuse, restarts, accepts, callDone, noCaller, sees, answerTo, step};
 ghost use Rattle.machine.specs.Table.{readTable};
 ghost use Rattle.channels.specs.Channels.{erasedIn};
 ghost use Rattle.executive.specs.Executive.{turned, opened, unread, applied, settled, placeCode, Awaited};
@@ -119,24 +120,14 @@ fn settle(q: Messages, table: Table, k: u32, n: u32, r: Request, p: Partition, c
     }
 }
 
-// A call by the current partition k: 9, then its body.
-fn act(m: Module, k: u32, r: Request) -> Outcome
-    requires { ⌜ (0 < k) × (k ≤ partitionLimit) ⌝ }
-    ensures { λ o. ⌜ applied k o m ≡ checked (refuse m) ((noCaller (part m (k - 1)), 9) ∷ []) (callDone m k (numberOf (r .call)) r) ⌝ }
+// The body of a call by partition k, whose record is p.
+fn body(m: Module, k: u32, r: Request, p: Partition, caller: u8) -> Outcome
+    requires { ⌜ (p ≡ part m (k - 1)) × (caller ≡ running p) ⌝ }
+    ensures { λ o. ⌜ applied k o m ≡ callDone m k (numberOf (r .call)) r ⌝ }
 {
-    let i = (k - 1) as usize;
-    let p = m.partitions[i];
+    let table = m.table;
     let items = m.messages;
     let q = Messages { items };
-    let caller = partition::running_process(p);
-    if events::is_silent(p.mode, caller) {
-        return Outcome {
-            messages: q,
-            partition: p,
-            reply: channels::reply_of(9),
-        };
-    }
-    let table = m.table;
     let call = r.call;
     let n = fields::number_of(call);
     if n == 21 {
@@ -163,6 +154,25 @@ fn act(m: Module, k: u32, r: Request) -> Outcome
         caller,
     };
     settle(q, table, k, n, r, p, services::call(p, context, n, r))
+}
+
+// A call by the current partition k: 9, then its body.
+fn act(m: Module, k: u32, r: Request) -> Outcome
+    requires { ⌜ (0 < k) × (k ≤ partitionLimit) ⌝ }
+    ensures { λ o. ⌜ applied k o m ≡ checked (refuse m) ((noCaller (part m (k - 1)), 9) ∷ []) (callDone m k (numberOf (r .call)) r) ⌝ }
+{
+    let i = (k - 1) as usize;
+    let p = m.partitions[i];
+    let caller = partition::running_process(p);
+    if events::is_silent(p.mode, caller) {
+        let items = m.messages;
+        return Outcome {
+            messages: Messages { items },
+            partition: p,
+            reply: channels::reply_of(9),
+        };
+    }
+    body(m, k, r, p, caller)
 }
 
 // ---------------------------------------------------------------- the answer
@@ -192,6 +202,23 @@ fn running_shown(m: Module, r: Request, k: u8) -> u8
     ensures { λ n. ⌜ n ≡ cond (sees r k) (runningIn k m) 0 ⌝ }
 {
     if is_shown(r, k) { running_in(m, k) } else { 0 }
+}
+
+// The answer, read off the module after the event.
+fn answer_of(m: Module, r: Request, reply: Reply) -> Answer
+    ensures { λ a. ⌜ a ≡ answerTo r (record { state = m; reply = reply }) ⌝ }
+{
+    let table = m.table;
+    let now = windows::lookup_at(table, m.t);
+    let extra = reply.extra;
+    Answer {
+        code: reply.code,
+        value: reply.value,
+        extra,
+        t: m.t,
+        current: now.partition,
+        running: running_shown(m, r, now.partition),
+    }
 }
 
 impl Executive {
@@ -238,19 +265,10 @@ impl Executive {
                 reply = said;
             }
         }
-        let after = m.table;
-        let now = windows::lookup_at(after, m.t);
-        let extra = reply.extra;
+        let answer = answer_of(m, r, reply);
         Turn {
             executive: Executive { inner: m },
-            answer: Answer {
-                code: reply.code,
-                value: reply.value,
-                extra,
-                t: m.t,
-                current: now.partition,
-                running: running_shown(m, r, now.partition),
-            },
+            answer,
         }
     }
 

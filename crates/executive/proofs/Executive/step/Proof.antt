@@ -9,6 +9,7 @@ use Rattle.executive.proofs.Laws.{place-time, place-partition, step-ref
 use Rattle.executive.proofs.Executive.step.Statement.{statement}
 use Rattle.executive.proofs.Executive.step.Tie as tie
 
+-- the record has its places
 long : (c : tie.Start) → length (c .args .self .inner .partitions) ≡ partitionLimit
 long c = search (needs, length-mapped)
 
@@ -25,7 +26,9 @@ number-of-requires : tie.Need-number-of-requires
 number-of-requires c κs = search needs
 
 add-m : tie.Need-add-m
-add-m c = let h = place-time (c .before .before .before .before .before .before .before .before .args .self .inner .table) (c .before .before .before .before .before .before .before .before .args .self .inner .t) (c .before .before .before .before .before .before .before .request-of .result) _ (c .before .before .before .before .place-code .ensures) (c .before .before .if1 .taken) (sym (c .before .number-of .ensures) ∙ c .if2 .taken) in record { fits = omega arith }
+add-m c =
+    let h = place-time (c .before .before .before .before .before .before .before .before .args .self .inner .table) (c .before .before .before .before .before .before .before .before .args .self .inner .t) (c .before .before .before .before .before .before .before .request-of .result) _ (c .before .before .before .before .place-code .ensures) (c .before .before .if1 .taken) (sym (c .before .number-of .ensures) ∙ c .if2 .taken) in
+    record { fits = omega arith }
 
 is-any-due-requires : tie.Need-is-any-due-requires
 is-any-due-requires c κs = search needs
@@ -34,7 +37,9 @@ tick-partitions-requires : tie.Need-tick-partitions-requires
 tick-partitions-requires c κs = search needs
 
 act-requires : tie.Need-act-requires
-act-requires c κs = let h = place-partition (c .before .before .before .before .before .before .before .before .args .self .inner .table) (c .before .before .before .before .before .before .before .before .args .self .inner .t) (c .before .before .before .before .before .before .before .request-of .result) _ (c .before .before .before .before .place-code .ensures) (c .before .before .if1 .taken) (λ z. c .if2 .left (c .before .number-of .ensures ∙ z)) in (omega arith, omega (arith, c .before .number-of .ensures))
+act-requires c κs =
+    let h = place-partition (c .before .before .before .before .before .before .before .before .args .self .inner .table) (c .before .before .before .before .before .before .before .before .args .self .inner .t) (c .before .before .before .before .before .before .before .request-of .result) _ (c .before .before .before .before .place-code .ensures) (c .before .before .if1 .taken) (λ z. c .if2 .left (c .before .number-of .ensures ∙ z)) in
+    (omega arith, omega (arith, c .before .number-of .ensures))
 
 sub-i : tie.Need-sub-i
 sub-i c = search needs
@@ -46,16 +51,30 @@ mul-p : tie.Need-mul-p
 mul-p c = search needs
 
 element-set-from-p : tie.Need-element-set-from-p
-element-set-from-p c = let h = place-partition (c .before .before .before .before .before .before .before .before .before .before .before .before .before .args .self .inner .table) (c .before .before .before .before .before .before .before .before .before .before .before .before .before .args .self .inner .t) (c .before .before .before .before .before .before .before .before .before .before .before .before .request-of .result) _ (c .before .before .before .before .before .before .before .before .before .place-code .ensures) (c .before .before .before .before .before .before .before .if1 .taken) (λ z. c .before .before .before .before .before .if2 .left (c .before .before .before .before .before .before .number-of .ensures ∙ z)) in omega (arith, c .before .before .before .before .before .before .number-of .ensures)
+element-set-from-p c =
+    let h = place-partition (c .before .before .before .before .before .before .before .before .before .before .before .before .before .args .self .inner .table) (c .before .before .before .before .before .before .before .before .before .before .before .before .before .args .self .inner .t) (c .before .before .before .before .before .before .before .before .before .before .before .before .request-of .result) _ (c .before .before .before .before .before .before .before .before .before .place-code .ensures) (c .before .before .before .before .before .before .before .if1 .taken) (λ z. c .before .before .before .before .before .if2 .left (c .before .before .before .before .before .before .number-of .ensures ∙ z)) in
+    omega (arith, c .before .before .before .before .before .before .number-of .ensures)
 
-lookup-at-requires : tie.Need-lookup-at-requires
-lookup-at-requires c κs = search needs
-
-running-shown-requires : tie.Need-running-shown-requires
-running-shown-requires c κs = search needs
+answer-of-requires : tie.Need-answer-of-requires
+answer-of-requires c κs = search needs
 
 returns : tie.Need-returns
-returns c = let s = c .before .before .before .before .before .before .before .before .before in let m = s .args .self .inner in let r = c .before .before .before .before .before .before .before .before .request-of .result in let n = c .before .before .before .before .before .place-code .result in let q = c .before .before .before .if1 .m in let a = c .before .before .before .before .reply-of .result in let b = c .before .before .before .if1 .reply in let f = c .before .before .before .before .before .place-code .ensures in let g = c .before .before .before .before .reply-of .ensures in step-answered m (s .args .event) r q b _ _ (c .before .before .before .before .before .before .before .before .request-of .ensures) (⊎-elim (λ w. step-ticked m r n _ q a b f g (long s) (w .0 .taken) (w .1 .ensures) (w .2 .taken) (w .6 ∙ w .5 .ensures) (w .7)) (λ u. ⊎-elim (λ w. step-quiet m r n _ q a b f g (long s) (w .0 .taken) (w .1 .ensures) _ (w .3 .ensures) (w .4 .left) (w .2 .taken) (w .5) (w .6)) (λ v. ⊎-elim (λ w. step-called m r n _ q a b f g (long s) (w .0 .taken) (w .1 .ensures) _ (w .3 .ensures) (w .2 .left) (w .8) (w .9)) (λ w. step-refused m r n 0 q a b f g (long s) (w .0 .left) (w .1) (w .2)) v) u) (c .before .before .before .if1 .came)) (c .before .lookup-at .ensures) (c .running-shown .ensures)
+returns c =
+    let s = c .before .before .before .before .before .before .before in
+    let m = s .args .self .inner in
+    let r = c .before .before .before .before .before .before .request-of .result in
+    let n = c .before .before .before .place-code .result in
+    let q = c .before .if1 .m in
+    let a = c .before .before .reply-of .result in
+    let b = c .before .if1 .reply in
+    let f = c .before .before .before .place-code .ensures in
+    let g = c .before .before .reply-of .ensures in
+    step-answered m (s .args .event) r q b _ (c .before .before .before .before .before .before .request-of .ensures)
+    (⊎-elim (λ w. step-ticked m r n _ q a b f g (long s) (w .0 .taken) (w .1 .ensures) (w .2 .taken) (w .6 ∙ w .5 .ensures) (w .7))
+    (λ u. ⊎-elim (λ w. step-quiet m r n _ q a b f g (long s) (w .0 .taken) (w .1 .ensures) _ (w .3 .ensures) (w .4 .left) (w .2 .taken) (w .5) (w .6))
+    (λ v. ⊎-elim (λ w. step-called m r n _ q a b f g (long s) (w .0 .taken) (w .1 .ensures) _ (w .3 .ensures) (w .2 .left) (w .8) (w .9))
+    (λ w. step-refused m r n 0 q a b f g (long s) (w .0 .left) (w .1) (w .2)) v) u)
+    (c .before .if1 .came)) (c .answer-of .ensures)
 
 pub step-spec : {M : Type 1} → statement M
 step-spec =
@@ -73,6 +92,5 @@ step-spec =
     cast-i
     mul-p
     element-set-from-p
-    lookup-at-requires
-    running-shown-requires
+    answer-of-requires
     returns)

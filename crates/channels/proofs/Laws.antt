@@ -36,7 +36,7 @@ pub none-held : (q : Messages) (i : ℕ) (x : Message) → length (q .items) ≡
 none-held q i x h far = let e = set-out (q .items) i x (omega arith) in λ j. record { items = sym e j }
 
 -- ---------------------------------------------------------------- checks and their code
-abbrev someCode : ℕ → Bool
+abbrev pub someCode : ℕ → Bool
 someCode n = not (eqb n 0)
 
 -- a code stands for an outcome: 0 for the accepted one, another for its refusal
@@ -45,10 +45,10 @@ pub record Stands {A : Type 0} (refusal : ℕ → A) (accepted : A) (n : ℕ) (a
   pub refuses : (n ≡ 0 → ⊥) → a ≡ refusal n
 
 module _ {A : Type 0} (refusal : ℕ → A) (accepted : A) where
-  stands-none : Stands refusal accepted 0 accepted
+  pub stands-none : Stands refusal accepted 0 accepted
   stands-none = record { accepts = λ e. refl; refuses = λ e. absurd (e refl) }
 
-  stands-checked : (l : List (Bool × ℕ)) (n : ℕ) (a : A) → codesIn someCode l ≡ true → Stands refusal accepted n a → Stands refusal accepted (checked (λ x. x) l n) (checked refusal l a)
+  pub stands-checked : (l : List (Bool × ℕ)) (n : ℕ) (a : A) → codesIn someCode l ≡ true → Stands refusal accepted n a → Stands refusal accepted (checked (λ x. x) l n) (checked refusal l a)
   unfolding checked
   stands-checked [] n a h s = s
   stands-checked ((true, code) ∷ l) n a h s = record { accepts = λ e. absurd (eqb-false code 0 (not-true (eqb code 0) (and-left (someCode code) (codesIn someCode l) h)) e); refuses = λ e. refl }

@@ -1,0 +1,70 @@
+-- The executive's results from the machine's.
+use Prim.Native.Nat.{ℕ, _-_}
+use mathlib.Core.Bool.{true, false, cond, not}
+use mathlib.Core.List.{[], _∷_}
+use mathlib.Core.Path.{_≡_}
+use lib.Dec.{eqb, leb}
+use lib.IntN.{ℤ}
+use lib.ListN.{set}
+use Rattle.channels.specs.Channels.{erasedIn}
+use Rattle.channels.specs.declared.Messages.{Messages}
+use Rattle.machine.specs.Calls.{checked}
+use Rattle.machine.specs.Field.{field, numberOf}
+use Rattle.machine.specs.Limits.{timeLimit, partitionLimit}
+use Rattle.machine.specs.Module.{lookup, current, restarts, accepts, malformed}
+use Rattle.machine.specs.Partition.{noted}
+use Rattle.machine.specs.Text.{lineRefusal}
+use Rattle.machine.specs.Valid.{SoundTable}
+use Rattle.machine.specs.Waiting.{waitingRefused, WaitingTime}
+use Rattle.machine.specs.declared.Answer.{Answer}
+use Rattle.machine.specs.declared.Called.{Called}
+use Rattle.machine.specs.declared.Done.{Done}
+use Rattle.machine.specs.declared.Module.{Module}
+use Rattle.machine.specs.declared.Partition.{Partition}
+use Rattle.machine.specs.declared.Reading.{Reading}
+use Rattle.machine.specs.declared.Request.{Request}
+use Rattle.machine.specs.declared.Stepped.{Stepped}
+use Rattle.machine.specs.declared.Table.{Table}
+use Rattle.machine.specs.declared.Time.the-variants.{At}
+use Rattle.machine.specs.declared.Waiting.{Waiting}
+use Rattle.executive.specs.declared.Opening.{Opening}
+use Rattle.executive.specs.declared.Outcome.{Outcome}
+use Rattle.executive.specs.declared.Turn.{Turn}
+
+abbrev pub turned : Stepped → Turn
+turned s = record { executive = record { inner = s .state }; answer = s .answer }
+
+abbrev pub opened : Reading → Opening
+opened r = record { executive = record { inner = r .state }; code = r .code; value = r .value; lines = r .lines }
+
+-- 11 for a line that is no event: value, extra and running 0
+abbrev pub unread : Module → Answer
+unread m = record { code = lineRefusal; value = 0; extra = At 0; t = m .t; current = current m; running = 0 }
+
+-- 13; for a tick 10; for a call 8. Bound: 9 where the record has no place for the partition.
+abbrev pub placeCode : Table → ℕ → Request → ℕ
+placeCode T t r =
+    let k = numberOf (r .partition) in
+    checked (λ n. n) ((malformed T r, 13) ∷ [])
+    (cond (eqb k 0)
+    (checked (λ n. n) ((leb timeLimit t, 10) ∷ []) 0)
+    (checked (λ n. n) ((not (eqb (lookup T t .partition) k), 8) ∷ (not (leb k partitionLimit), 9) ∷ []) 0))
+
+-- what a call has made of partition k and of the messages, put into the module
+abbrev pub applied : ℕ → Outcome → Module → Done
+applied k o m = record {
+  state = record { table = m .table; t = m .t; messages = o .messages .items; partitions = set (m .partitions) (k - 1) (o .partition) };
+  reply = o .reply;
+}
+
+-- what call n leaves: a refused one leaves its partition and the messages as they are
+abbrev pub settled : Table → ℕ → ℕ → Request → Partition → Messages → Called → Outcome
+settled T k n r p q c = cond (accepts (c .reply))
+    (record { messages = cond (restarts n r) (erasedIn T k q) q; partition = noted (c .partition); reply = c .reply })
+    (record { messages = q; partition = p; reply = c .reply })
+
+-- the waiting time: 13 and 0, or code 0; of a sound table, which every record but the empty one has, it is as document 01 says
+pub record Awaited (T : Table) (t k : ℤ) (w : Waiting) : Type 0 where
+  pub refused : waitingRefused T (field t) (field k) ≡ true → w ≡ record { code = 13; n = 0 }
+  pub accepted : waitingRefused T (field t) (field k) ≡ false → w .code ≡ 0
+  pub given : SoundTable T → WaitingTime T t k w

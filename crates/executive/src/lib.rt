@@ -1,0 +1,282 @@
+// The executive: a module that comes only from table reading and from events.
+ghost use mathlib.Core.Path.{_≡_};
+ghost use mathlib.Core.Bool.{cond};
+ghost use mathlib.Core.List.{[], _∷_};
+ghost use Prim.Native.Nat.{_-_, _≤_, _<_};
+ghost use Rattle.machine.specs.Limits.{partitionLimit};
+ghost use Rattle.machine.specs.Field.{numberOf};
+ghost use Rattle.machine.specs.Calls.{checked};
+ghost use Rattle.machine.specs.Module.{part, runningIn, refuse, restarts, accepts, callDone, noCaller, sees, step};
+ghost use Rattle.machine.specs.Table.{readTable};
+ghost use Rattle.channels.specs.Channels.{erasedIn};
+ghost use Rattle.executive.specs.Executive.{turned, opened, unread, applied, settled, placeCode, Awaited};
+use channels::Messages;
+use machine::Answer;
+use machine::Called;
+use machine::Context;
+use machine::Event;
+use machine::Module;
+use machine::Partition;
+use machine::Reply;
+use machine::Request;
+use machine::Table;
+use machine::Time;
+use machine::Waiting;
+
+pub struct Executive {
+    inner: Module,
+}
+
+// What an event gives: the executive after it, and its answer.
+pub struct Turn {
+    pub executive: Executive,
+    pub answer: Answer,
+}
+
+// What reading a table gives: the executive, or an empty one with 11 or 12 and the line's number; and how many lines it took.
+pub struct Opening {
+    pub executive: Executive,
+    pub code: u8,
+    pub value: u32,
+    pub lines: u32,
+}
+
+// What a call makes of the messages and of its own partition, and its reply.
+struct Outcome {
+    messages: Messages,
+    partition: Partition,
+    reply: Reply,
+}
+
+// ---------------------------------------------------------------- the places before a call's body
+// 13, 10, 8, and 9 for a partition that the record has no place for; 0 where none of them refuses.
+fn place_code(table: Table, t: u32, r: Request) -> u8
+    ensures { λ n. ⌜ n ≡ placeCode table t r ⌝ }
+{
+    let own = r.partition;
+    if events::is_malformed(table, r) {
+        return 13;
+    }
+    let k = fields::number_of(own);
+    if k == 0 {
+        if Module::END <= t {
+            return 10;
+        }
+        return 0;
+    }
+    let now = windows::lookup_at(table, t);
+    if now.partition as u32 != k {
+        return 8;
+    }
+    if k <= Module::PARTITIONS as u32 {
+        return 0;
+    }
+    9
+}
+
+// ---------------------------------------------------------------- calls
+// Modes 0, 1, 2.
+fn is_restart(n: u32, r: Request) -> bool
+    ensures { λ b. ⌜ b ≡ restarts n r ⌝ }
+{
+    let a = r.a;
+    n == 1 && fields::is_between(a, 0, 2)
+}
+
+fn is_accepted(reply: Reply) -> bool
+    ensures { λ b. ⌜ b ≡ accepts reply ⌝ }
+{
+    reply.code == 0 || reply.code == 7
+}
+
+// The messages, without those into partition k where it restarts.
+fn messages_after(q: Messages, table: Table, k: u32, restart: bool) -> Messages
+    ensures { λ p. ⌜ p ≡ cond restart (erasedIn table k q) q ⌝ }
+{
+    if restart {
+        return channels::erase_into(q, table, k);
+    }
+    q
+}
+
+// What call n leaves of partition p and of the messages; a refused call leaves them as they are.
+fn settle(q: Messages, table: Table, k: u32, n: u32, r: Request, p: Partition, c: Called) -> Outcome
+    ensures { λ o. ⌜ o ≡ settled table k n r p q c ⌝ }
+{
+    let reply = c.reply;
+    if is_accepted(reply) {
+        let after = c.partition;
+        return Outcome {
+            messages: messages_after(q, table, k, is_restart(n, r)),
+            partition: partition::note(after),
+            reply,
+        };
+    }
+    Outcome {
+        messages: q,
+        partition: p,
+        reply,
+    }
+}
+
+// A call by the current partition k: 9, then its body.
+fn act(m: Module, k: u32, r: Request) -> Outcome
+    requires { ⌜ (0 < k) × (k ≤ partitionLimit) ⌝ }
+    ensures { λ o. ⌜ applied k o m ≡ checked (refuse m) ((noCaller (part m (k - 1)), 9) ∷ []) (callDone m k (numberOf (r .call)) r) ⌝ }
+{
+    let i = (k - 1) as usize;
+    let p = m.partitions[i];
+    let items = m.messages;
+    let q = Messages { items };
+    let caller = partition::running_process(p);
+    if events::is_silent(p.mode, caller) {
+        return Outcome {
+            messages: q,
+            partition: p,
+            reply: channels::reply_of(9),
+        };
+    }
+    let table = m.table;
+    let call = r.call;
+    let n = fields::number_of(call);
+    if n == 21 {
+        let s = channels::write(q, table, m.t, k, r);
+        let messages = s.messages;
+        let reply = s.reply;
+        return Outcome {
+            messages,
+            partition: p,
+            reply,
+        };
+    }
+    if n == 22 {
+        return Outcome {
+            messages: q,
+            partition: p,
+            reply: channels::read(q, table, m.t, k, r),
+        };
+    }
+    let context = Context {
+        time: m.t,
+        frame: table.frame,
+        release: windows::release_point(table, m.t, k),
+        caller,
+    };
+    settle(q, table, k, n, r, p, services::call(p, context, n, r))
+}
+
+// ---------------------------------------------------------------- the answer
+// Whether an event of this partition is shown the running process of partition k.
+fn is_shown(r: Request, k: u8) -> bool
+    ensures { λ b. ⌜ b ≡ sees r k ⌝ }
+{
+    let own = r.partition;
+    fields::is_number(own, 0) || fields::is_number(own, k as u32)
+}
+
+fn running_in(m: Module, k: u8) -> u8
+    ensures { λ n. ⌜ n ≡ runningIn k m ⌝ }
+{
+    if k == 0 {
+        return 0;
+    }
+    let i = (k - 1) as usize;
+    if i < Module::PARTITIONS {
+        let p = m.partitions[i];
+        return partition::running_process(p);
+    }
+    0
+}
+
+fn running_shown(m: Module, r: Request, k: u8) -> u8
+    ensures { λ n. ⌜ n ≡ cond (sees r k) (runningIn k m) 0 ⌝ }
+{
+    if is_shown(r, k) { running_in(m, k) } else { 0 }
+}
+
+impl Executive {
+    // Reads a table at the front of an input.
+    pub fn open(input: &[u8]) -> Opening
+        ensures { λ o. ⌜ o ≡ opened (readTable (now (input .entry))) ⌝ }
+    {
+        let r = table::read(input);
+        let inner = r.state;
+        Opening {
+            executive: Executive { inner },
+            code: r.code,
+            value: r.value,
+            lines: r.lines,
+        }
+    }
+
+    // One event.
+    pub fn step(self, event: Event) -> Turn
+        ensures { λ x. ⌜ x ≡ turned (step (self .inner) event) ⌝ }
+    {
+        let r = fields::request_of(event);
+        let mut m = self.inner;
+        let table = m.table;
+        let code = place_code(table, m.t, r);
+        let mut reply = channels::reply_of(code);
+        if code == 0 {
+            let own = r.partition;
+            let k = fields::number_of(own);
+            if k == 0 {
+                m.t = m.t + 1;
+                if events::is_any_due(m) {
+                    m = events::tick_partitions(m);
+                }
+            } else {
+                let o = act(m, k, r);
+                let messages = o.messages;
+                let items = messages.items;
+                let p = o.partition;
+                let said = o.reply;
+                let i = (k - 1) as usize;
+                m.messages = items;
+                m.partitions[i] = p;
+                reply = said;
+            }
+        }
+        let after = m.table;
+        let now = windows::lookup_at(after, m.t);
+        let extra = reply.extra;
+        Turn {
+            executive: Executive { inner: m },
+            answer: Answer {
+                code: reply.code,
+                value: reply.value,
+                extra,
+                t: m.t,
+                current: now.partition,
+                running: running_shown(m, r, now.partition),
+            },
+        }
+    }
+
+    // The answer to a line that is no event: 11. It steps nothing.
+    pub fn unread(self) -> Answer
+        ensures { λ a. ⌜ a ≡ unread (self .inner) ⌝ }
+    {
+        let m = self.inner;
+        let table = m.table;
+        let now = windows::lookup_at(table, m.t);
+        Answer {
+            code: 11,
+            value: 0,
+            extra: Time::At(0),
+            t: m.t,
+            current: now.partition,
+            running: 0,
+        }
+    }
+
+    // The waiting time from t on of a partition.
+    pub fn waiting_time(self, t: i64, k: i64) -> Waiting
+        ensures { λ w. ⌜ Awaited (self .inner .table) t k w ⌝ }
+    {
+        let m = self.inner;
+        let table = m.table;
+        windows::waiting_time(table, t, k)
+    }
+}

@@ -37,7 +37,8 @@ isZero z = memberOf (λ k. eqb k 0) z
 abbrev pub isTick : Event → Bool
 isTick e = isZero (e .partition) && isZero (e .call)
 
--- Common, document 01's term: an event is common if it is a tick or its partition is in S, refused or not. Every other event is free.
+-- Common and free, document 01's terms: an event is common if it is a tick or its partition is in S, refused or not. Every other
+-- event is free, also one that gets 13.
 abbrev pub common : (ℕ → Bool) → Event → Bool
 common S e = isTick e || memberOf S (e .partition)
 

@@ -135,7 +135,8 @@ withSoonest n p = record {
   soonest = n;
 }
 
--- process id has this record from now on. Becoming READY appends it to the arrival list; ceasing removes it; and so the waiting list,
+-- process id has this record from now on. The arrival list, document 01's term, holds the READY processes: becoming READY appends it
+-- to the arrival list; ceasing removes it; and so the waiting list,
 -- for waiting on an object. Bound: no such id changes nothing.
 unfoldable pub stored : ℕ → Process → Partition → Partition
 stored id x p =

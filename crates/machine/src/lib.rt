@@ -281,6 +281,8 @@ impl Module {
     pub const LINE: usize = 61;
     // No limit of document 01: the greatest time that the record holds.
     pub const LATEST: u32 = 4294967295;
+    // No limit of document 01: the greatest semaphore value that the record holds.
+    pub const GREATEST: u16 = 65535;
     // The record that reading an accepted table gives.
     pub fn fresh(table: Table) -> Module
         ensures { λ r. ⌜ r ≡ freshModule table ⌝ }

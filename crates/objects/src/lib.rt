@@ -285,7 +285,7 @@ pub fn wait_event(p: Partition, c: Context, k: u32, a: Field) -> Called
 fn one_more(n: u16) -> u16
     ensures { λ r. ⌜ r ≡ oneMore n ⌝ }
 {
-    if n < 65535 { n + 1 } else { n }
+    if n < Module::GREATEST { n + 1 } else { n }
 }
 
 // The first of these waiters' wait ends; none: the value rises by one.

@@ -2,7 +2,7 @@
 -- so that a reader may look at 61 bytes. Assumes nothing.
 use Prim.Native.Nat.{ℕ, zero, suc, _+_, _-_, _/_, _≤_, _<_}
 use mathlib.Core.Path.{_≡_, refl, sym, _∙_, ap}
-use mathlib.Core.Bool.{Bool, true, false, not, _&&_, _||_, and-eq-true-iff, or-true}
+use mathlib.Core.Bool.{Bool, true, false, not, _&&_, _||_, and-eq-true-iff, or-true, true≢false}
 use mathlib.Core.List.{List, [], _∷_, _++_, flatten, append-assoc}
 use native.Mathlib.Omega.{arith}
 use lib.ListN.{length, take, drop, length-append, length-take, length-drop, take-append-drop, drop-of-length-le}
@@ -109,12 +109,17 @@ first-some [] h = absurd (omega arith)
 first-some (b ∷ bs) h = either (eqb b lineFeed) (λ e. rw e (omega arith)) (λ e. rw e (omega arith))
 
 -- ---------------------------------------------------------------- a line of numbers is the first line
-unfed-append : (p q : List ℕ) → noFeed p ≡ true → noFeed q ≡ true → noFeed (p ++ q) ≡ true
+pub unfed-append : (p q : List ℕ) → noFeed p ≡ true → noFeed q ≡ true → noFeed (p ++ q) ≡ true
 unfolding noFeed
 unfed-append [] q h k = k
 unfed-append (b ∷ p) q h k =
     let t = and-eq-true-iff (not (eqb b lineFeed)) (noFeed p) .0 h in
     rw (t .0) (unfed-append p q (t .1) k)
+
+unfed-right : (p q : List ℕ) → noFeed (p ++ q) ≡ true → noFeed q ≡ true
+unfolding noFeed
+unfed-right [] q h = h
+unfed-right (b ∷ p) q h = unfed-right p q (and-eq-true-iff (not (eqb b lineFeed)) (noFeed (p ++ q)) .0 h .1)
 
 columns-unfed : (n rest mark : ℕ) → eqb mark lineFeed ≡ false → noFeed (columns n rest mark) ≡ true
 unfolding columns column markAfter noFeed
@@ -148,6 +153,19 @@ unfolding lineText firstLength
 text-first [] rest = refl
 text-first (z ∷ ns) rest =
     rw (append-assoc, first-append (fieldText z) (lineText ns ++ rest) (field-unfed z), text-first ns rest, length-append)
+
+text-fed : (ns : List ℤ) → noFeed (lineText ns) ≡ true → ⊥
+unfolding lineText noFeed
+text-fed [] h = true≢false (sym h)
+text-fed (z ∷ ns) h = text-fed ns (unfed-right (fieldText z) (lineText ns) h)
+
+-- bytes without an LF are no line of numbers
+pub unfed-bad : (bs : List ℕ) → noFeed bs ≡ true → readLine bs ≡ Bad
+unfed-bad bs h = go (readLine bs) refl
+  where
+    go : (l : Line) → readLine bs ≡ l → readLine bs ≡ Bad
+    go Bad e = e
+    go (Six n) e = absurd (text-fed (numberList n) (rw (read-six bs n e .0) at h))
 
 -- a line of numbers in front of an input is its first line
 pub lines-text : (ns : List ℤ) (rest : List ℕ) → lines (lineText ns ++ rest) ≡ lineText ns ∷ lines rest

@@ -61,7 +61,9 @@ replayed input =
 
 -- the record at the end
 unfoldable pub replayedRecord : List ℕ → Module
-replayedRecord input = let r = readTable input in final lineNext lineAnswer (r .state) (eventLines r input)
+replayedRecord input =
+    let r = readTable input in
+    cond (eqb (r .code) 0) (final lineNext lineAnswer (r .state) (eventLines r input)) (r .state)
 
 -- The replay of an input into an output: 0, or 11 where there is too little room
 abbrev pub replayCode : List ℕ → ℕ → ℕ

@@ -1,0 +1,17 @@
+-- One event line: the record after it and its answer.
+use mathlib.Core.Bool.{cond}
+use mathlib.Core.List.{List, [], _∷_}
+use Prim.Native.Nat.{ℕ}
+use lib.IntN.{ℤ}
+use Rattle.machine.specs.declared.Module.{Module}
+use Rattle.machine.specs.declared.Line.{Line}
+use Rattle.machine.specs.declared.Line.the-variants.{Six, Bad}
+use Rattle.machine.specs.Module.{step}
+use Rattle.machine.specs.Replay.{eventOf}
+use Rattle.executive.specs.Executive.{turned, unread}
+use Rattle.executive.specs.declared.Turn.{Turn}
+
+-- an event is stepped; a line that is no event gets 11 and steps nothing
+abbrev pub heard : Module → Line → Turn
+heard m (Six n) = turned (step m (eventOf n))
+heard m Bad = record { executive = record { inner = m }; answer = unread m }

@@ -1,0 +1,205 @@
+-- What a loop over the bytes of a chunk keeps, and the last line. Assumes nothing.
+use Prim.Native.Nat.{ℕ, suc, _+_, _-_, _≤_, _<_, min}
+use native.Mathlib.Nat.{min-eq-left, min-eq-right}
+use mathlib.Core.Path.{_≡_, refl, sym, ap, _∙_}
+use mathlib.Core.Bool.{Bool, true, false, cond, _&&_}
+use mathlib.Core.List.{List, [], _∷_, _++_, append-assoc, append-nil}
+use native.Mathlib.Omega.{arith}
+use native.Mathlib.Numerals.{add-one}
+use lib.ListN.{length, getD, take, drop, set, length-append, length-take, length-drop, length-set, take-append-drop, drop-of-length-le}
+use lib.Seq.{take-all, drop-cons, drop-drop, take-append-seam, drop-append-seam, take-at, drop-at, length-take-le, set-out}
+use lib.Dec.{leb, ltb}
+use borrow.Author.Tests.{le-leb, lt-ltb, le-ltb, leb-true, leb-false}
+use Rattle.machine.specs.declared.Numbers.{Numbers}
+use Rattle.machine.specs.Limits.{lineLength}
+use Rattle.machine.specs.Text.{lineText, numberList, allInRange}
+use Rattle.machine.proofs.Bounds.{either}
+use Rattle.machine.proofs.Tests.{by-test}
+use Rattle.machine.proofs.TextLine.{six-length}
+use Rattle.stream.specs.declared.Place.{Place}
+use Rattle.stream.specs.declared.Spoken.{Spoken}
+use Rattle.stream.specs.declared.Stream.{Stream}
+use Rattle.stream.specs.declared.Advance.{Advance}
+use Rattle.stream.specs.Stream.{heldLimit, at, close, turn, textOf, said, put, due, Fed, feed, Run, run, over, advanceOf, closed, finished}
+use Rattle.stream.proofs.Turns.{Prints}
+
+-- ---------------------------------------------------------------- what is held
+take-held : (held : List ℕ) (n r : ℕ) → length held ≡ heldLimit → r ≡ min n heldLimit → take r held ≡ take n held
+take-held held n r h e = either (leb n heldLimit)
+    (λ t. rw (e, min-eq-left (leb-true n heldLimit t)))
+    (λ t.
+    let far : heldLimit < n = leb-false n heldLimit t in
+    rw (e, min-eq-right (let q : heldLimit ≤ n = omega arith in q), take-all heldLimit held (omega arith), take-all n held (omega arith)))
+
+pub held-inside : (held : List ℕ) (n r : ℕ) → length held ≡ heldLimit → r ≡ min n heldLimit → r ≤ length held
+held-inside held n r h e = either (leb n heldLimit)
+    (λ t. omega (arith, min-eq-left (leb-true n heldLimit t), leb-true n heldLimit t))
+    (λ t. let far : heldLimit < n = leb-false n heldLimit t in omega (arith, min-eq-right (let q : heldLimit ≤ n = omega arith in q)))
+
+pub held-length : (held : List ℕ) (r : ℕ) → r ≤ length held → r ≡ length (take r held)
+held-length held r h = sym (length-take-le r held h)
+
+pub put-length : (s : Stream) (b : ℕ) (p : Stream) → length (s .held) ≡ heldLimit → p ≡ put s b → length (p .held) ≡ heldLimit
+put-length s b p h e = ap (λ (q : Stream). length (q .held)) e ∙ length-set (s .held) (s .place .count) b ∙ h
+
+-- ---------------------------------------------------------------- one byte
+module _ (s : Stream) (b : ℕ) where
+  -- the byte is stored, or all places are taken
+  module _ (held : List ℕ) (x : Place) where
+    pub put-more : s .place .count < heldLimit → held ≡ set (s .held) (s .place .count) b → x ≡ at (s .place .stage) (s .place .executive) (s .place .count + 1) → record { place = x; held = held } ≡ put s b
+    put-more h e f = rw (e, f, lt-ltb (s .place .count) heldLimit h)
+
+    pub put-full : length (s .held) ≡ heldLimit → heldLimit ≤ s .place .count → held ≡ s .held → x ≡ s .place → record { place = x; held = held } ≡ put s b
+    put-full n h e f = rw (e, f, le-ltb (s .place .count) heldLimit h, set-out (s .held) (s .place .count) b (omega arith))
+
+  fed-held : due (put s b .place .stage) (put s b .place .count) b ≡ false → feed s b ≡ record { stream = put s b; text = [] }
+  unfolding feed
+  fed-held d = rw d
+
+  fed-due : due (put s b .place .stage) (put s b .place .count) b ≡ true → feed s b ≡ said (put s b) (turn (put s b .place) (take (put s b .place .count) (put s b .held)))
+  unfolding feed
+  fed-due d = rw d
+
+  module _ (p : Stream) (e : p ≡ put s b) where
+    pub feed-held : due (p .place .stage) (p .place .count) b ≡ false → feed s b ≡ record { stream = p; text = [] }
+    feed-held d = fed-held (rw e at d) ∙ ap (λ (q : Stream). record { stream = q; text = [] }) (sym e)
+
+    pub feed-due : (n : ℕ) (y : Spoken) → due (p .place .stage) (p .place .count) b ≡ true → length (p .held) ≡ heldLimit → n ≡ min (p .place .count) heldLimit → y ≡ turn (p .place) (take n (p .held)) → feed s b ≡ said p y
+    feed-due n y d h m t =
+        fed-due (rw e at d)
+        ∙ ap (λ (q : Stream). said q (turn (q .place) (take (q .place .count) (q .held)))) (sym e)
+        ∙ ap (said p) (ap (turn (p .place)) (sym (take-held (p .held) (p .place .count) n h m)) ∙ sym t)
+
+text-short : (b : Bool) (n : Numbers) → length (textOf b n) ≤ lineLength
+text-short b n = by-test (λ (l : List ℕ). length l ≤ lineLength) (b && allInRange (numberList n)) (λ t. omega (arith, six-length n)) (λ t. omega arith)
+
+feed-short : (s : Stream) (b : ℕ) → length (feed s b .text) ≤ lineLength
+unfolding feed
+feed-short s b =
+    by-test (λ (f : Fed). length (f .text) ≤ lineLength) (due (put s b .place .stage) (put s b .place .count) b)
+    (λ t. let y = turn (put s b .place) (take (put s b .place .count) (put s b .held)) in text-short (y .speaks) (y .numbers))
+    (λ t. omega arith)
+
+feed-length : (s : Stream) (b : ℕ) → length (s .held) ≡ heldLimit → length (feed s b .stream .held) ≡ heldLimit
+unfolding feed
+feed-length s b h =
+    let e : length (set (s .held) (s .place .count) b) ≡ heldLimit = length-set (s .held) (s .place .count) b ∙ h in
+    by-test (λ (f : Fed). length (f .stream .held) ≡ heldLimit) (due (put s b .place .stage) (put s b .place .count) b) (λ t. e) (λ t. e)
+
+-- ---------------------------------------------------------------- the loop
+module _ (s₀ : Stream) (chunk out₀ : List ℕ) where
+  abbrev whole : Run
+  whole = run s₀ (length out₀) chunk
+
+  abbrev left : Stream → ℕ → ℕ → List ℕ → Run
+  left s i to out = run s (length out - to) (drop i chunk)
+
+  -- the bytes before i are taken, and so many bytes are printed
+  pub record Advancing (s : Stream) (i to : ℕ) (out : List ℕ) : Type 0 where
+    pub held : length (s .held) ≡ heldLimit
+    pub inside : i ≤ length chunk
+    pub room : to ≤ length out
+    pub size : length out ≡ length out₀
+    pub stream : left s i to out .stream ≡ whole .stream
+    pub taken : i + left s i to out .taken ≡ whole .taken
+    pub count : to + length (left s i to out .text) ≡ length (whole .text)
+    pub text : take to out ++ over (left s i to out .text) (drop to out) ≡ over (whole .text) out₀
+
+pub begins : (s : Stream) (chunk out : List ℕ) → length (s .held) ≡ heldLimit → Advancing s chunk out s 0 0 out
+begins s chunk out h =
+    let e : length out - 0 ≡ length out = omega arith in
+    let same : left s chunk out s 0 0 out ≡ whole s chunk out = rw e in
+    record { held = h; inside = omega arith; room = omega arith; size = refl; stream = rw e; taken = omega (arith, ap (λ (r : Run). r .taken) same); count = omega (arith, ap (λ (r : Run). length (r .text)) same); text = rw e }
+
+-- no byte is taken
+stops : (s : Stream) (room : ℕ) (bs : List ℕ) → (leb lineLength room ≡ true → bs ≡ []) → run s room bs ≡ record { stream = s; taken = 0; text = [] }
+unfolding run
+stops s room [] h = refl
+stops s room (b ∷ bs) h = either (leb lineLength room) (λ t. absurd (let e = ap length (h t) in omega arith)) (λ t. rw t)
+
+module _ (s₀ : Stream) (chunk out₀ : List ℕ) (s : Stream) (i to : ℕ) (out : List ℕ) (k : Advancing s₀ chunk out₀ s i to out) where
+  ended : (leb lineLength (length out - to) ≡ true → drop i chunk ≡ [])
+      → (record { stream = s; taken = i; printed = to } ≡ advanceOf (run s₀ (length out₀) chunk)) × (out ≡ over (run s₀ (length out₀) chunk .text) out₀)
+  ended h =
+      let e = stops s (length out - to) (drop i chunk) h in
+      let a : s ≡ run s₀ (length out₀) chunk .stream = rw e at (k .stream) in
+      let b : i ≡ run s₀ (length out₀) chunk .taken = omega (arith, k .taken, ap (λ (r : Run). r .taken) e) in
+      let c : to ≡ length (run s₀ (length out₀) chunk .text) = omega (arith, k .count, ap (λ (r : Run). length (r .text)) e) in
+      (rw (← a, ← b, ← c), sym (take-append-drop to out) ∙ (rw e at (k .text)))
+
+  -- the chunk is taken whole, or there is no room for a line
+  pub all-taken : length chunk ≤ i → (record { stream = s; taken = i; printed = to } ≡ advanceOf (run s₀ (length out₀) chunk)) × (out ≡ over (run s₀ (length out₀) chunk .text) out₀)
+  all-taken h = ended (λ t. drop-of-length-le chunk {i = i} h)
+
+  pub no-room : length out - to < lineLength → (record { stream = s; taken = i; printed = to } ≡ advanceOf (run s₀ (length out₀) chunk)) × (out ≡ over (run s₀ (length out₀) chunk .text) out₀)
+  no-room h = ended (λ t. absurd (let q = leb-true lineLength (length out - to) t in omega arith))
+
+  -- one more byte
+  module _ (b : ℕ) (here : b ≡ getD chunk i 0) (more : i < length chunk) (fits : lineLength ≤ length out - to) where
+    abbrev f : Fed
+    f = feed s b
+
+    abbrev rest : Run
+    rest = run (f .stream) (length out - to - length (f .text)) (drop (suc i) chunk)
+
+    unfolded : left s₀ chunk out₀ s i to out ≡ record { stream = rest .stream; taken = suc (rest .taken); text = f .text ++ rest .text }
+    unfolding run
+    unfolded = rw (drop-cons chunk i 0 more, ← here, le-leb lineLength (length out - to) fits)
+
+    abbrev after : List ℕ
+    after = take to out ++ over (f .text) (drop to out)
+
+    front : length (take to out) ≡ to
+    front = length-take-le to out (k .room)
+
+    printed : length (take to out ++ f .text) ≡ to + length (f .text)
+    printed = length-append (take to out) (f .text) ∙ omega (arith, front)
+
+    after-is : after ≡ (take to out ++ f .text) ++ drop (length (f .text)) (drop to out)
+    after-is = sym (append-assoc (take to out) (f .text) (drop (length (f .text)) (drop to out)))
+
+    after-size : length after ≡ length out
+    after-size = ap length after-is ∙ length-append (take to out ++ f .text) _ ∙ omega (arith, printed, length-drop (length (f .text)) (drop to out), length-drop to out, feed-short s b, fits, k .room)
+
+    after-take : take (to + length (f .text)) after ≡ take to out ++ f .text
+    after-take = rw after-is (take-at (take to out ++ f .text) (drop (length (f .text)) (drop to out)) (to + length (f .text)) printed)
+
+    after-drop : drop (to + length (f .text)) after ≡ drop (length (f .text)) (drop to out)
+    after-drop = rw after-is (drop-at (take to out ++ f .text) (drop (length (f .text)) (drop to out)) (to + length (f .text)) printed)
+
+    left-after : length after - (to + length (f .text)) ≡ length out - to - length (f .text)
+    left-after = omega (arith, after-size)
+
+    joined : (take to out ++ f .text) ++ over (rest .text) (drop (length (f .text)) (drop to out)) ≡ take to out ++ over (f .text ++ rest .text) (drop to out)
+    joined =
+        append-assoc (take to out) (f .text) (over (rest .text) (drop (length (f .text)) (drop to out)))
+        ∙ ap (λ (l : List ℕ). take to out ++ l)
+        (rw (length-append (f .text) (rest .text), ← drop-drop (length (rest .text)) (length (f .text)) (drop to out)) (sym (append-assoc (f .text) (rest .text) (drop (length (rest .text)) (drop (length (f .text)) (drop to out))))))
+
+    next : Advancing s₀ chunk out₀ (f .stream) (suc i) (to + length (f .text)) after
+    next = record {
+      held = feed-length s b (k .held);
+      inside = omega arith;
+      room = omega (arith, after-size, feed-short s b, fits, k .room);
+      size = after-size ∙ k .size;
+      stream = rw (left-after) (rw unfolded at (k .stream));
+      taken = rw (left-after) (omega (arith, rw unfolded at (k .taken)));
+      count = rw (left-after) (omega (arith, rw unfolded at (k .count), length-append (f .text) (rest .text)));
+      text = rw (left-after, after-take, after-drop) (joined ∙ (rw unfolded at (k .text)));
+    }
+
+    pub goes-on : (p : Stream) (t : List ℕ) → feed s b ≡ record { stream = p; text = t } → (to′ : ℕ) → to′ ≡ to + length t → (out′ : List ℕ) → out′ ≡ take to out ++ over t (drop to out) → Advancing s₀ chunk out₀ p (i + 1) to′ out′
+    goes-on p t e to′ c out′ o = rw (c, o, add-one) (rw e at next)
+
+-- ---------------------------------------------------------------- the last line
+pub finish-done : (s : Stream) (out after : List ℕ) (r k : ℕ) (y : Spoken) → length (s .held) ≡ heldLimit → r ≡ min (s .place .count) heldLimit → y ≡ close (s .place) (take r (s .held)) → lineLength ≤ length out
+    → Prints out 0 (y .speaks) (y .numbers) k after
+    → (record { stream = record { place = y .place; held = s .held }; taken = 0; printed = k } ≡ advanceOf (finished s (length out))) × (after ≡ over (finished s (length out) .text) out)
+unfolding finished closed
+finish-done s out after r k y h m c room q =
+    let e : close (s .place) (take (s .place .count) (s .held)) ≡ y = ap (close (s .place)) (sym (take-held (s .held) (s .place .count) r h m)) ∙ sym c in
+    rw (le-leb lineLength (length out) room, e) (rw (← q .0) , q .1)
+
+-- where a chunk's byte count fits, so does the next position
+pub printed-fits : (out : List ℕ) (to k : ℕ) (b : Bool) (n : Numbers) → k ≡ length (textOf b n) → lineLength ≤ length out - to → to ≤ length out → to + k ≤ length out
+printed-fits out to k b n e h r = omega (arith, text-short b n)

@@ -1,0 +1,5 @@
+pub mod Tables
+pub mod Lines
+pub mod Whole
+pub mod Turns
+pub mod Chunks

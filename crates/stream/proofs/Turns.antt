@@ -1,0 +1,77 @@
+-- The parts of a stream's code, put together, are its definitions. Assumes nothing.
+use Prim.Native.Nat.{ℕ, suc, _+_, _-_, _≤_, _<_, min}
+use native.Mathlib.Nat.{min-le-right}
+use mathlib.Core.Path.{_≡_, refl, sym, ap, _∙_}
+use mathlib.Core.Bool.{Bool, true, false, cond, not, _&&_}
+use mathlib.Core.List.{List, [], _∷_, _++_}
+use native.Mathlib.Omega.{arith}
+use lib.ListN.{length, take, drop, length-append, length-drop, take-append-drop}
+use lib.Dec.{eqb, leb}
+use borrow.Author.Tests.{eq-eqb, ne-eqb, eqb-true, leb-true, leb-false, le-leb, lt-leb}
+use Rattle.machine.specs.declared.Numbers.{Numbers}
+use Rattle.machine.specs.Limits.{lineLength}
+use Rattle.machine.specs.Text.{lineText, numberList, allInRange, canWrite, writeCode, written, writtenAt}
+use Rattle.machine.specs.Table.{readTable}
+use Rattle.machine.proofs.Bounds.{either}
+use Rattle.machine.proofs.Tests.{and-left, and-right}
+use Rattle.machine.proofs.TextLine.{six-length}
+use Rattle.executive.specs.Executive.{opened}
+use Rattle.executive.specs.declared.Opening.{Opening}
+use Rattle.stream.specs.declared.Stage.{Stage}
+use Rattle.stream.specs.declared.Spoken.{Spoken}
+use Rattle.stream.specs.declared.Place.{Place}
+use Rattle.stream.specs.Stream.{silent, refusal, missing, accepted, tableTurn, tableClose, textOf, over}
+
+-- by the stage that a place has
+pub by-stage : (f : Stage → Spoken) (a b : Stage) → a ≡ b → (y : Spoken) → y ≡ f b → y ≡ f a
+by-stage f a b e y h = h ∙ ap f (sym e)
+
+pub at-most : (r n k : ℕ) → r ≡ min n k → r ≤ k
+at-most r n k e = omega (arith, min-le-right n k)
+
+-- ---------------------------------------------------------------- the table so far
+module _ (x : Place) (text : List ℕ) (r : Opening) (e : r ≡ opened (readTable text)) where
+  same-code : readTable text .code ≡ r .code
+  same-code = sym (ap (λ (o : Opening). o .code) e)
+
+  pub close-accepted : r .code ≡ 0 → accepted (r .executive) ≡ tableClose x text
+  close-accepted h = rw (e, eq-eqb (readTable text .code) 0 (same-code ∙ h))
+
+  pub close-refused : (r .code ≡ 0 → ⊥) → refusal x (r .code) (r .value) ≡ tableClose x text
+  close-refused h = rw (e, ne-eqb (readTable text .code) 0 (λ z. h (sym same-code ∙ z)))
+
+  pub turn-accepted : r .code ≡ 0 → accepted (r .executive) ≡ tableTurn x text
+  turn-accepted h = rw (e, eq-eqb (readTable text .code) 0 (same-code ∙ h))
+
+  module _ (h : r .code ≡ 0 → ⊥) (b : Bool) (m : b ≡ missing (r .code) (r .value) (length text)) where
+    pub turn-missing : b ≡ true → silent x ≡ tableTurn x text
+    turn-missing t = rw (ne-eqb (readTable text .code) 0 (λ z. h (sym same-code ∙ z)), rw e at (sym m ∙ t))
+
+    pub turn-refused : b ≡ false → refusal x (r .code) (r .value) ≡ tableTurn x text
+    turn-refused t = rw (ne-eqb (readTable text .code) 0 (λ z. h (sym same-code ∙ z)), rw e at (sym m ∙ t), e)
+
+-- ---------------------------------------------------------------- a line of output
+-- how many bytes are printed at a position, and the output after
+abbrev pub Prints : List ℕ → ℕ → Bool → Numbers → ℕ → List ℕ → Type 0
+Prints out to speaks n k after = (k ≡ length (textOf speaks n)) × (after ≡ take to out ++ over (textOf speaks n) (drop to out))
+
+module _ (out : List ℕ) (to : ℕ) (n : Numbers) where
+  pub prints-none : (b : Bool) → b ≡ false → Prints out to b n 0 out
+  prints-none b e = rw e (refl, sym (take-append-drop to out))
+
+  module _ (b : Bool) (yes : b ≡ true) (after : List ℕ) (stored : after ≡ writtenAt to out (numberList n)) (code : ℕ) (told : code ≡ writeCode (length out - to) (numberList n)) where
+    room : length (drop to out) ≡ length out - to
+    room = length-drop to out
+
+    pub prints-line : code ≡ 0 → Prints out to b n lineLength after
+    unfolding written
+    prints-line z =
+        let can : canWrite (length out - to) (numberList n) ≡ true = either (canWrite (length out - to) (numberList n)) (λ t. t) (λ f. absurd (let q = rw f at (sym told ∙ z) in omega arith)) in
+        rw (yes, and-right (leb (length (lineText (numberList n))) (length out - to)) (allInRange (numberList n)) can) (sym (six-length n), stored ∙ rw (room, can))
+
+    pub prints-out-of-range : to + lineLength ≤ length out → (code ≡ 0 → ⊥) → Prints out to b n 0 after
+    unfolding written
+    prints-out-of-range h z =
+        let fits : leb (length (lineText (numberList n))) (length out - to) ≡ true = le-leb (length (lineText (numberList n))) (length out - to) (omega (arith, six-length n)) in
+        let far : allInRange (numberList n) ≡ false = either (allInRange (numberList n)) (λ t. absurd (z (told ∙ rw (fits, t)))) (λ f. f) in
+        rw (yes, far) (refl, stored ∙ rw (room, fits, far) (take-append-drop to out) ∙ sym (take-append-drop to out))

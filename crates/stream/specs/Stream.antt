@@ -1,0 +1,185 @@
+-- Replay of an input that comes byte by byte. What is held of the input is the table so far, or the line so far.
+use Prim.Native.Nat.{ℕ, suc, _+_, _-_, _*_}
+use mathlib.Core.Bool.{Bool, true, false, cond, _&&_, _||_}
+use mathlib.Core.List.{List, [], _∷_, _++_}
+use lib.ListN.{length, take, drop, set, replicate}
+use lib.Dec.{eqb, leb, ltb}
+use lib.IntN.{pos}
+use Rattle.machine.specs.declared.Module.{Module}
+use Rattle.machine.specs.declared.Numbers.{Numbers}
+use Rattle.machine.specs.Limits.{windowLimit, channelLimit, lineLength}
+use Rattle.machine.specs.Text.{lineFeed, lineText, numberList, numbersOf, readLine, allInRange, lineRefusal}
+use Rattle.machine.specs.Module.{emptyModule}
+use Rattle.machine.specs.Table.{readTable}
+use Rattle.machine.specs.Replay.{answerNumbers}
+use Rattle.executive.specs.declared.Executive.{Executive}
+use Rattle.answers.specs.Answers.{heard}
+use Rattle.stream.specs.declared.Stage.{Stage}
+use Rattle.stream.specs.declared.Stage.the-variants.{Table, Events, Ended}
+use Rattle.stream.specs.declared.Place.{Place}
+use Rattle.stream.specs.declared.Spoken.{Spoken}
+use Rattle.stream.specs.declared.Stream.{Stream}
+use Rattle.stream.specs.declared.Advance.{Advance}
+
+-- the bytes of the longest table: line 1, its windows, its channels
+abbrev pub heldLimit : ℕ
+heldLimit = (1 + windowLimit + channelLimit) * lineLength
+
+-- before the first byte: no table yet, so the empty record
+abbrev pub begun : Stream
+begun = record {
+  place = record { stage = Table; executive = record { inner = emptyModule }; count = 0 };
+  held = replicate heldLimit 0;
+}
+
+-- ---------------------------------------------------------------- a line is complete
+abbrev pub at : Stage → Executive → ℕ → Place
+at s e n = record { stage = s; executive = e; count = n }
+
+-- nothing is printed
+abbrev pub silent : Place → Spoken
+silent x = record { place = x; speaks = false; numbers = numbersOf [] }
+
+-- A bad table prints one line: code, line number, four 0, and ends there.
+abbrev pub refusal : Place → ℕ → ℕ → Spoken
+refusal x code value = record { place = at Ended (x .executive) 0; speaks = true; numbers = numbersOf (pos code ∷ pos value ∷ []) }
+
+-- so many bytes are good lines, and the table's next line is missing
+abbrev pub missing : ℕ → ℕ → ℕ → Bool
+missing code value n = eqb code lineRefusal && eqb (value * lineLength) (n + lineLength)
+
+abbrev pub accepted : Executive → Spoken
+accepted e = silent (at Events e 0)
+
+-- the table so far is accepted, or goes on, or is refused
+abbrev pub tableTurn : Place → List ℕ → Spoken
+tableTurn x text =
+    let r = readTable text in
+    cond (eqb (r .code) 0) (accepted (record { inner = r .state })) (cond (missing (r .code) (r .value) (length text)) (silent x) (refusal x (r .code) (r .value)))
+
+-- one answer line per event, 11 too
+abbrev pub eventTurn : Place → List ℕ → Spoken
+eventTurn x text =
+    let h = heard (x .executive .inner) (readLine text) in
+    record { place = at Events (h .executive) 0; speaks = true; numbers = numbersOf (answerNumbers (h .answer)) }
+
+abbrev pub turnIn : Stage → Place → List ℕ → Spoken
+turnIn Table x text = tableTurn x text
+turnIn Events x text = eventTurn x text
+turnIn Ended x text = silent (at Ended (x .executive) 0)
+
+abbrev pub turn : Place → List ℕ → Spoken
+turn x text = turnIn (x .stage) x text
+
+-- ---------------------------------------------------------------- the input ends
+-- a table that is not complete is refused
+abbrev pub tableClose : Place → List ℕ → Spoken
+tableClose x text = let r = readTable text in cond (eqb (r .code) 0) (accepted (record { inner = r .state })) (refusal x (r .code) (r .value))
+
+-- bytes after the last LF are a line
+abbrev pub eventClose : Place → List ℕ → Spoken
+eventClose x text = cond (eqb (length text) 0) (silent x) (eventTurn x text)
+
+abbrev pub closeIn : Stage → Place → List ℕ → Spoken
+closeIn Table x text = tableClose x text
+closeIn Events x text = eventClose x text
+closeIn Ended x text = silent x
+
+abbrev pub close : Place → List ℕ → Spoken
+close x text = closeIn (x .stage) x text
+
+-- ---------------------------------------------------------------- one byte
+-- a stream, and what it prints
+pub record Fed : Type 0 where
+  pub stream : Stream
+  pub text : List ℕ
+
+-- what is printed; of every record that a run reaches the numbers are in range
+abbrev pub textOf : Bool → Numbers → List ℕ
+textOf speaks n = cond (speaks && allInRange (numberList n)) (lineText (numberList n)) []
+
+abbrev pub said : Stream → Spoken → Fed
+said s y = record { stream = record { place = y .place; held = s .held }; text = textOf (y .speaks) (y .numbers) }
+
+-- the byte is held; past the limit none is
+abbrev pub oneMore : ℕ → ℕ
+oneMore n = cond (ltb n heldLimit) (n + 1) n
+
+abbrev pub put : Stream → ℕ → Stream
+put s b = record { place = at (s .place .stage) (s .place .executive) (oneMore (s .place .count)); held = set (s .held) (s .place .count) b }
+
+abbrev pub isTable : Stage → Bool
+isTable Table = true
+isTable Events = false
+isTable Ended = false
+
+-- a line ends at its LF; no table is longer than the limit
+abbrev pub due : Stage → ℕ → ℕ → Bool
+due stage n b = eqb b lineFeed || (isTable stage && leb heldLimit n)
+
+unfoldable pub feed : Stream → ℕ → Fed
+feed s b =
+    let p = put s b in
+    cond (due (p .place .stage) (p .place .count) b) (said p (turn (p .place) (take (p .place .count) (p .held)))) (record { stream = p; text = [] })
+
+-- ---------------------------------------------------------------- a chunk
+pub record Run : Type 0 where
+  pub stream : Stream
+  pub taken : ℕ
+  pub text : List ℕ
+
+-- byte by byte, as long as there is room for a line
+unfoldable pub run : Stream → ℕ → List ℕ → Run
+run s room [] = record { stream = s; taken = 0; text = [] }
+run s room (b ∷ bs) =
+    let f = feed s b in
+    let r = run (f .stream) (room - length (f .text)) bs in
+    cond (leb lineLength room) (record { stream = r .stream; taken = suc (r .taken); text = f .text ++ r .text }) (record { stream = s; taken = 0; text = [] })
+
+-- the output after: what is printed, and what stood past it
+abbrev pub over : List ℕ → List ℕ → List ℕ
+over text out = text ++ drop (length text) out
+
+abbrev pub advanceOf : Run → Advance
+advanceOf r = record { stream = r .stream; taken = r .taken; printed = length (r .text) }
+
+-- the last line
+unfoldable pub closed : Stream → Fed
+closed s = said s (close (s .place) (take (s .place .count) (s .held)))
+
+-- where there is room for one
+unfoldable pub finished : Stream → ℕ → Run
+finished s room = cond (leb lineLength room) (record { stream = closed s .stream; taken = 0; text = closed s .text }) (record { stream = s; taken = 0; text = [] })
+
+-- ---------------------------------------------------------------- a whole input
+-- all its bytes
+unfoldable pub fedAll : Stream → List ℕ → Fed
+fedAll s [] = record { stream = s; text = [] }
+fedAll s (b ∷ bs) =
+    let f = feed s b in
+    let g = fedAll (f .stream) bs in
+    record { stream = g .stream; text = f .text ++ g .text }
+
+-- what is printed, and the record at the end
+abbrev pub streamed : Stream → List ℕ → List ℕ
+streamed s input = fedAll s input .text ++ closed (fedAll s input .stream) .text
+
+abbrev pub streamEnd : Stream → List ℕ → Module
+streamEnd s input = closed (fedAll s input .stream) .stream .place .executive .inner
+
+-- An input in pieces: a chunk each, with room for output. What is taken of all of them, and what is printed for it.
+pub record Piece : Type 0 where
+  pub chunk : List ℕ
+  pub room : ℕ
+
+pub record Taken : Type 0 where
+  pub stream : Stream
+  pub bytes : List ℕ
+  pub text : List ℕ
+
+unfoldable pub pieces : Stream → List Piece → Taken
+pieces s [] = record { stream = s; bytes = []; text = [] }
+pieces s (p ∷ ps) =
+    let r = run s (p .room) (p .chunk) in
+    let k = pieces (r .stream) ps in
+    record { stream = k .stream; bytes = take (r .taken) (p .chunk) ++ k .bytes; text = r .text ++ k .text }

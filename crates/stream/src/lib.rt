@@ -1,0 +1,323 @@
+// Replay of an input that comes in chunks of any size, in constant memory.
+ghost use mathlib.Core.Path.{_≡_};
+ghost use mathlib.Core.List.{[], _++_};
+ghost use Prim.Native.Nat.{_+_, _≤_, min};
+ghost use lib.ListN.{length, take, drop};
+ghost use Rattle.machine.specs.declared.Numbers.{Numbers};
+ghost use Rattle.machine.specs.Limits.{lineLength};
+ghost use Rattle.machine.specs.Text.{numbersOf, numberList};
+ghost use Rattle.stream.specs.Stream.{heldLimit, begun, silent, refusal, missing, accepted, tableTurn, tableClose, eventTurn, eventClose, turn, close, textOf, due, run, over, advanceOf, finished};
+use executive::Executive;
+use executive::Opening;
+use machine::Module;
+use machine::Numbers;
+
+// The bytes of the longest table.
+const HELD: usize = (1 + Module::WINDOWS + Module::CHANNELS) * Module::LINE;
+
+// The number of a refused line.
+const REFUSED: u8 = 11;
+
+// What the next line of the input belongs to; after a refused table nothing is read.
+pub enum Stage {
+    Table,
+    Events,
+    Ended,
+}
+
+// Where a replay stands: its stage, its executive, and how many bytes it holds.
+pub struct Place {
+    stage: Stage,
+    executive: Executive,
+    count: usize,
+}
+
+pub struct Stream {
+    place: Place,
+    held: [u8; HELD],
+}
+
+// What a stream took of a chunk and printed at the front of an output.
+pub struct Advance {
+    pub stream: Stream,
+    pub taken: usize,
+    pub printed: usize,
+}
+
+// Where a line leads, and the numbers that it prints, if it does.
+struct Spoken {
+    place: Place,
+    speaks: bool,
+    numbers: Numbers,
+}
+
+fn no_numbers() -> Numbers
+    ensures { λ r. ⌜ r ≡ numbersOf [] ⌝ }
+{
+    Numbers {
+        n1: 0,
+        n2: 0,
+        n3: 0,
+        n4: 0,
+        n5: 0,
+        n6: 0,
+    }
+}
+
+fn silence(place: Place) -> Spoken
+    ensures { λ y. ⌜ y ≡ silent place ⌝ }
+{
+    Spoken {
+        place,
+        speaks: false,
+        numbers: no_numbers(),
+    }
+}
+
+// ---------------------------------------------------------------- the table
+fn accept(executive: Executive) -> Spoken
+    ensures { λ y. ⌜ y ≡ accepted executive ⌝ }
+{
+    silence(Place {
+        stage: Stage::Events,
+        executive,
+        count: 0,
+    })
+}
+
+// A bad table prints one line and ends there.
+fn refuse(x: Place, code: u8, value: u32) -> Spoken
+    ensures { λ y. ⌜ y ≡ refusal x code value ⌝ }
+{
+    let executive = x.executive;
+    Spoken {
+        place: Place {
+            stage: Stage::Ended,
+            executive,
+            count: 0,
+        },
+        speaks: true,
+        numbers: Numbers {
+            n1: code as i64,
+            n2: value as i64,
+            n3: 0,
+            n4: 0,
+            n5: 0,
+            n6: 0,
+        },
+    }
+}
+
+// Whether n bytes are good lines, and the next line is missing.
+fn is_missing(code: u8, value: u32, n: usize) -> bool
+    requires { ⌜ n ≤ heldLimit ⌝ }
+    ensures { λ b. ⌜ b ≡ missing code value n ⌝ }
+{
+    code == REFUSED && value as usize * Module::LINE == n + Module::LINE
+}
+
+// The table so far, at the end of a line.
+fn table_turn(x: Place, text: &[u8]) -> Spoken
+    requires { ⌜ length (now text) ≤ heldLimit ⌝ }
+    ensures { λ y. ⌜ y ≡ tableTurn x (now (text .entry)) ⌝ }
+{
+    let r = Executive::open(text);
+    if r.code == 0 {
+        let executive = r.executive;
+        return accept(executive);
+    }
+    if is_missing(r.code, r.value, text.len()) {
+        return silence(x);
+    }
+    refuse(x, r.code, r.value)
+}
+
+// The table at the end of the input.
+fn table_close(x: Place, text: &[u8]) -> Spoken
+    ensures { λ y. ⌜ y ≡ tableClose x (now (text .entry)) ⌝ }
+{
+    let r = Executive::open(text);
+    if r.code == 0 {
+        let executive = r.executive;
+        return accept(executive);
+    }
+    refuse(x, r.code, r.value)
+}
+
+// ---------------------------------------------------------------- events
+fn event_turn(x: Place, text: &[u8]) -> Spoken
+    ensures { λ y. ⌜ y ≡ eventTurn x (now (text .entry)) ⌝ }
+{
+    let e = x.executive;
+    let h = answers::hear(e, line::read(text));
+    let executive = h.executive;
+    let answer = h.answer;
+    Spoken {
+        place: Place {
+            stage: Stage::Events,
+            executive,
+            count: 0,
+        },
+        speaks: true,
+        numbers: answers::numbers_of(answer),
+    }
+}
+
+// ---------------------------------------------------------------- by stage
+// A line is complete.
+fn turn_of(x: Place, text: &[u8]) -> Spoken
+    requires { ⌜ length (now text) ≤ heldLimit ⌝ }
+    ensures { λ y. ⌜ y ≡ turn x (now (text .entry)) ⌝ }
+{
+    let stage = x.stage;
+    match stage {
+        Stage::Table => table_turn(x, text),
+        Stage::Events => event_turn(x, text),
+        Stage::Ended => silence(Place { count: 0, ..x }),
+    }
+}
+
+// The input has ended.
+fn close_of(x: Place, text: &[u8]) -> Spoken
+    ensures { λ y. ⌜ y ≡ close x (now (text .entry)) ⌝ }
+{
+    let stage = x.stage;
+    match stage {
+        Stage::Table => table_close(x, text),
+        Stage::Events => event_close(x, text),
+        Stage::Ended => silence(x),
+    }
+}
+
+fn event_close(x: Place, text: &[u8]) -> Spoken
+    ensures { λ y. ⌜ y ≡ eventClose x (now (text .entry)) ⌝ }
+{
+    if text.len() == 0 {
+        return silence(x);
+    }
+    event_turn(x, text)
+}
+
+// Whether the bytes held are looked at after a byte: at an LF, and where no table is longer.
+fn is_due(stage: Stage, n: usize, b: u8) -> bool
+    ensures { λ r. ⌜ r ≡ due stage n b ⌝ }
+{
+    if b == b'\n' {
+        return true;
+    }
+    match stage {
+        Stage::Table => HELD <= n,
+        Stage::Events => false,
+        Stage::Ended => false,
+    }
+}
+
+// How many bytes are held.
+fn held_count(n: usize) -> usize
+    ensures { λ r. ⌜ r ≡ min n heldLimit ⌝ }
+{
+    if n < HELD { n } else { HELD }
+}
+
+// ---------------------------------------------------------------- output
+// Prints a line at a position of the output: how many bytes it has.
+fn print(out: &mut [u8], to: usize, speaks: bool, numbers: Numbers) -> usize
+    requires { ⌜ to + lineLength ≤ length (now out) ⌝ }
+    ensures { λ n. ⌜ (n ≡ length (textOf speaks numbers)) × (now (out .exit) ≡ take to (now (out .entry)) ++ over (textOf speaks numbers) (drop to (now (out .entry)))) ⌝ }
+{
+    if !speaks {
+        return 0;
+    }
+    if line::write_at(out, to, numbers) == 0 {
+        return Module::LINE;
+    }
+    0
+}
+
+impl Stream {
+    // Before the first byte.
+    pub fn begin() -> Stream
+        ensures { λ s. ⌜ s ≡ begun ⌝ }
+    {
+        let held = [0u8; HELD];
+        let r = Executive::open(&held[..0]);
+        let executive = r.executive;
+        Stream {
+            place: Place {
+                stage: Stage::Table,
+                executive,
+                count: 0,
+            },
+            held,
+        }
+    }
+
+    // Takes bytes of a chunk, as long as the output has room for a line, and prints at the front of the output.
+    pub fn advance(self, chunk: &[u8], out: &mut [u8]) -> Advance
+        ensures { λ r. ⌜ (r ≡ advanceOf (run self (length (now (out .entry))) (now (chunk .entry)))) × (now (out .exit) ≡ over (run self (length (now (out .entry))) (now (chunk .entry)) .text) (now (out .entry))) ⌝ }
+    {
+        let mut held = self.held;
+        let mut x = self.place;
+        let mut at: usize = 0;
+        let mut to: usize = 0;
+        while at < chunk.len() {
+            if out.len() - to < Module::LINE {
+                break;
+            }
+            let b = chunk[at];
+            at += 1;
+            let i = x.count;
+            if i < HELD {
+                held[i] = b;
+                x.count = i + 1;
+            }
+            let stage = x.stage;
+            if is_due(stage, x.count, b) {
+                let n = held_count(x.count);
+                let y = turn_of(x, &held[..n]);
+                let numbers = y.numbers;
+                to += print(out, to, y.speaks, numbers);
+                let next = y.place;
+                x = next;
+            }
+        }
+        Advance {
+            stream: Stream { place: x, held },
+            taken: at,
+            printed: to,
+        }
+    }
+
+    // The input has ended: prints the last line, where the output has room for one.
+    pub fn finish(self, out: &mut [u8]) -> Advance
+        ensures { λ r. ⌜ (r ≡ advanceOf (finished self (length (now (out .entry))))) × (now (out .exit) ≡ over (finished self (length (now (out .entry))) .text) (now (out .entry))) ⌝ }
+    {
+        if out.len() < Module::LINE {
+            return Advance {
+                stream: self,
+                taken: 0,
+                printed: 0,
+            };
+        }
+        let x = self.place;
+        let held = self.held;
+        let n = held_count(x.count);
+        let y = close_of(x, &held[..n]);
+        let numbers = y.numbers;
+        let printed = print(out, 0, y.speaks, numbers);
+        let place = y.place;
+        Advance {
+            stream: Stream { place, held },
+            taken: 0,
+            printed,
+        }
+    }
+
+    // The executive after the lines so far.
+    pub fn executive(self) -> Executive
+        ensures { λ e. ⌜ e ≡ self .place .executive ⌝ }
+    {
+        let x = self.place;
+        x.executive
+    }
+}

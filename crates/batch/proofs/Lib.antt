@@ -1,3 +1,4 @@
-pub mod Runs
-pub mod TwoCalls
 pub mod TwoFields
+pub mod Runs
+pub mod Laws
+pub mod TwoCalls

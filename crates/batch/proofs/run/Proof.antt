@@ -1,6 +1,7 @@
 -- `run` meets its contract: a walk of its MIR, by hand. The borrow is opened once, before the loop, and closed once, after it.
 -- A turn takes element i out of the row, hands it with the executive to `answer`, and puts the record that `answer` gave back in its
--- place. All that the walk knows of `answer` is its contract. `Runs.antt` has the loop's plain facts. Assumes nothing.
+-- place. All that the walk knows of `answer` is its contract. `Runs.antt` has the loop's plain facts, `TwoFields.antt` how the two parts
+-- of what `answer` gives back are read without computing where they lie. Assumes nothing.
 use mathlib.Core.Path.{_≡_, refl, sym, ap, subst}
 use mathlib.Core.Bool.{Bool, true, false}
 use mathlib.Core.WellFounded.{WellFounded, InvImage·wf}

@@ -1,0 +1,4 @@
+pub mod TwoFields
+pub mod Runs
+pub mod Laws
+pub mod TwoCalls

@@ -73,7 +73,7 @@ module _ (s : Stream) (b : ℕ) where
 text-short : (b : Bool) (n : Numbers) → length (textOf b n) ≤ lineLength
 text-short b n = by-test (λ (l : List ℕ). length l ≤ lineLength) (b && allInRange (numberList n)) (λ t. omega (arith, six-length n)) (λ t. omega arith)
 
-feed-short : (s : Stream) (b : ℕ) → length (feed s b .text) ≤ lineLength
+pub feed-short : (s : Stream) (b : ℕ) → length (feed s b .text) ≤ lineLength
 unfolding feed
 feed-short s b =
     by-test (λ (f : Fed). length (f .text) ≤ lineLength) (due (put s b .place .stage) (put s b .place .count) b)

@@ -3,3 +3,4 @@ pub mod Lines
 pub mod Whole
 pub mod Turns
 pub mod Chunks
+pub mod Pieces

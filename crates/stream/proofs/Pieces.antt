@@ -1,0 +1,86 @@
+-- Any cutting of an input gives the output of the whole. Assumes nothing.
+use Prim.Native.Nat.{ℕ, zero, suc, _+_, _-_, _*_, _≤_, _<_}
+use mathlib.Core.Path.{_≡_, refl, sym, ap, _∙_}
+use mathlib.Core.Bool.{Bool, true, false}
+use mathlib.Core.List.{List, [], _∷_, _++_, append-assoc}
+use native.Mathlib.Omega.{arith}
+use lib.ListN.{length, take, length-append}
+use lib.Dec.{leb}
+use borrow.Author.Tests.{le-leb, leb-true}
+use Rattle.machine.specs.Limits.{lineLength}
+use Rattle.machine.specs.Replay.{replayed, replayedRecord}
+use Rattle.machine.proofs.Bounds.{either}
+use Rattle.stream.specs.declared.Stream.{Stream}
+use Rattle.stream.specs.Stream.{begun, Fed, feed, Run, run, closed, fedAll, streamed, streamEnd, Piece, Taken, pieces}
+use Rattle.stream.proofs.Chunks.{feed-short}
+use Rattle.stream.proofs.Whole.{stream-printed, stream-record}
+
+-- one part of an input after another
+abbrev then : Fed → (Stream → Fed) → Fed
+then f g = record { stream = g (f .stream) .stream; text = f .text ++ g (f .stream) .text }
+
+fed-both : (s : Stream) (a b : List ℕ) → fedAll s (a ++ b) ≡ then (fedAll s a) (λ x. fedAll x b)
+unfolding fedAll
+fed-both s [] b = refl
+fed-both s (x ∷ a) b =
+    let f = feed s x in
+    let g = fedAll (f .stream) a in
+    rw (fed-both (f .stream) a b) (ap (λ (l : List ℕ). record { stream = fedAll (g .stream) b .stream; text = l }) (sym (append-assoc (f .text) (g .text) (fedAll (g .stream) b .text))))
+
+-- what is taken of a chunk is what is printed for
+run-fed : (s : Stream) (room : ℕ) (bs : List ℕ) → fedAll s (take (run s room bs .taken) bs) ≡ record { stream = run s room bs .stream; text = run s room bs .text }
+unfolding fedAll run
+run-fed s room [] = refl
+run-fed s room (b ∷ bs) =
+    either (leb lineLength room)
+    (λ t. rw t (rw (run-fed (feed s b .stream) (room - length (feed s b .text)) bs)))
+    (λ t. rw t)
+
+-- no more than the chunk has; at least a byte where there is one, and room for a line; all of it where there is room for a line each
+pub run-within : (s : Stream) (room : ℕ) (bs : List ℕ) → run s room bs .taken ≤ length bs
+unfolding run
+run-within s room [] = omega arith
+run-within s room (b ∷ bs) =
+    either (leb lineLength room)
+    (λ t. rw t (omega (arith, run-within (feed s b .stream) (room - length (feed s b .text)) bs)))
+    (λ t. rw t (omega arith))
+
+pub run-some : (s : Stream) (room : ℕ) (bs : List ℕ) → lineLength ≤ room → 0 < length bs → 0 < run s room bs .taken
+unfolding run
+run-some s room [] h k = absurd (omega arith)
+run-some s room (b ∷ bs) h k = rw (le-leb lineLength room h) (omega arith)
+
+pub run-all : (s : Stream) (room : ℕ) (bs : List ℕ) → length bs * lineLength ≤ room → run s room bs .taken ≡ length bs
+unfolding run
+run-all s room [] h = refl
+run-all s room (b ∷ bs) h =
+    rw (le-leb lineLength room (omega arith))
+    (omega (arith, run-all (feed s b .stream) (room - length (feed s b .text)) bs (omega (arith, feed-short s b))))
+
+-- what is printed has room
+pub run-room : (s : Stream) (room : ℕ) (bs : List ℕ) → length (run s room bs .text) ≤ room
+unfolding run
+run-room s room [] = omega arith
+run-room s room (b ∷ bs) =
+    either (leb lineLength room)
+    (λ t.
+    let fits : lineLength ≤ room = leb-true lineLength room t in
+    rw t (omega (arith, run-room (feed s b .stream) (room - length (feed s b .text)) bs, feed-short s b, length-append (feed s b .text) (run (feed s b .stream) (room - length (feed s b .text)) bs .text))))
+    (λ t. rw t (omega arith))
+
+pieces-fed : (ps : List Piece) (s : Stream) → fedAll s (pieces s ps .bytes) ≡ record { stream = pieces s ps .stream; text = pieces s ps .text }
+unfolding fedAll pieces
+pieces-fed [] s = refl
+pieces-fed (p ∷ ps) s =
+    let r = run s (p .room) (p .chunk) in
+    fed-both s (take (r .taken) (p .chunk)) (pieces (r .stream) ps .bytes)
+    ∙ rw (run-fed s (p .room) (p .chunk), pieces-fed ps (r .stream))
+
+-- however the input is cut and whatever room each piece is given, what is printed for the bytes taken, and the last line, are what
+-- the whole of these bytes gives
+pub any-cutting : (ps : List Piece) → pieces begun ps .text ++ closed (pieces begun ps .stream) .text ≡ replayed (pieces begun ps .bytes)
+any-cutting ps = rw (pieces-fed ps begun) at (stream-printed (pieces begun ps .bytes))
+
+pub any-cutting-record : (ps : List Piece) → closed (pieces begun ps .stream) .stream .place .executive .inner ≡ replayedRecord (pieces begun ps .bytes)
+any-cutting-record ps =
+    ap (λ (f : Fed). closed (f .stream) .stream .place .executive .inner) (sym (pieces-fed ps begun)) ∙ stream-record (pieces begun ps .bytes)

@@ -198,8 +198,21 @@ pub finish-done : (s : Stream) (out after : List ℕ) (r k : ℕ) (y : Spoken) �
 unfolding finished closed
 finish-done s out after r k y h m c room q =
     let e : close (s .place) (take (s .place .count) (s .held)) ≡ y = ap (close (s .place)) (sym (take-held (s .held) (s .place .count) r h m)) ∙ sym c in
-    rw (le-leb lineLength (length out) room, e) (rw (← q .0) , q .1)
+    rw (le-leb lineLength (length out) room, e) (rw (← q .0), q .1)
 
 -- where a chunk's byte count fits, so does the next position
 pub printed-fits : (out : List ℕ) (to k : ℕ) (b : Bool) (n : Numbers) → k ≡ length (textOf b n) → lineLength ≤ length out - to → to ≤ length out → to + k ≤ length out
 printed-fits out to k b n e h r = omega (arith, text-short b n)
+
+-- the last line has room
+pub finished-room : (s : Stream) (room : ℕ) → length (finished s room .text) ≤ room
+unfolding finished closed
+finished-room s room =
+    let y = close (s .place) (take (s .place .count) (s .held)) in
+    either (leb lineLength room)
+    (λ t. let h : lineLength ≤ room = leb-true lineLength room t in rw t (omega (arith, text-short (y .speaks) (y .numbers))))
+    (λ t. rw t (omega arith))
+
+pub finished-closed : (s : Stream) (room : ℕ) → lineLength ≤ room → finished s room .stream ≡ closed s .stream
+unfolding finished
+finished-closed s room h = rw (le-leb lineLength room h)

@@ -4,7 +4,7 @@ use mathlib.Core.Path.{_≡_, refl, sym, ap, _∙_}
 use mathlib.Core.Bool.{Bool, true, false}
 use mathlib.Core.List.{List, [], _∷_, _++_, append-assoc}
 use native.Mathlib.Omega.{arith}
-use lib.ListN.{length, take, length-append}
+use lib.ListN.{length, take, drop, length-append, take-append-drop}
 use lib.Dec.{leb}
 use borrow.Author.Tests.{le-leb, leb-true}
 use Rattle.machine.specs.Limits.{lineLength}
@@ -67,6 +67,19 @@ run-room s room (b ∷ bs) =
     let fits : lineLength ≤ room = leb-true lineLength room t in
     rw t (omega (arith, run-room (feed s b .stream) (room - length (feed s b .text)) bs, feed-short s b, length-append (feed s b .text) (run (feed s b .stream) (room - length (feed s b .text)) bs .text))))
     (λ t. rw t (omega arith))
+
+-- the rest of a chunk goes on from there
+pub fed-rest : (s : Stream) (room : ℕ) (bs : List ℕ) → fedAll (run s room bs .stream) (drop (run s room bs .taken) bs) .stream ≡ fedAll s bs .stream
+fed-rest s room bs =
+    let n = run s room bs .taken in
+    sym
+    (ap (λ (l : List ℕ). fedAll s l .stream) (sym (take-append-drop n bs))
+    ∙ ap (λ (f : Fed). f .stream) (fed-both s (take n bs) (drop n bs))
+    ∙ ap (λ (f : Fed). fedAll (f .stream) (drop n bs) .stream) (run-fed s room bs))
+
+-- one input after another
+pub fed-on : (s : Stream) (a b : List ℕ) → fedAll (fedAll s a .stream) b .stream ≡ fedAll s (a ++ b) .stream
+fed-on s a b = sym (ap (λ (f : Fed). f .stream) (fed-both s a b))
 
 pieces-fed : (ps : List Piece) (s : Stream) → fedAll s (pieces s ps .bytes) ≡ record { stream = pieces s ps .stream; text = pieces s ps .text }
 unfolding fedAll pieces

@@ -89,10 +89,7 @@ fn call_places(code: u8, k: u32, current: u8) -> u8
     if current as u32 != k {
         return 8;
     }
-    if k <= Module::PARTITIONS as u32 {
-        return 0;
-    }
-    9
+    if k <= Module::PARTITIONS as u32 { 0 } else { 9 }
 }
 
 // ---------------------------------------------------------------- calls

@@ -1,5 +1,5 @@
 -- The step's parts, put together, are the machine's step. Assumes nothing.
-use Prim.Native.Nat.{ℕ, _+_, _-_, _≤_, _<_}
+use Prim.Native.Nat.{ℕ, zero, suc, _+_, _-_, _≤_, _<_}
 use mathlib.Core.Bool.{Bool, true, false, cond, not, _&&_, _||_, or-true}
 use mathlib.Core.List.{[], _∷_}
 use mathlib.Core.Logic.{⊎-elim}
@@ -12,7 +12,7 @@ use lib.Seq.{set-getD}
 use mir.Syntax.{w64}
 use mir.Val.{toZ, ofZ, SFits}
 use mir.ValLaws.{toZ-ofZ}
-use borrow.Author.Tests.{eq-eqb, ne-eqb, lt-leb, leb-true, leb-false}
+use borrow.Author.Tests.{eq-eqb, ne-eqb, lt-leb, leb-true, leb-false, eqb-false}
 use Rattle.channels.specs.Channels.{sentBy, readBy, erasedIn}
 use Rattle.channels.specs.declared.Messages.{Messages}
 use Rattle.channels.specs.declared.Sent.{Sent}
@@ -20,7 +20,7 @@ use Rattle.events.specs.Due.{anyDue}
 use Rattle.machine.specs.Calls.{coded, checked, partitionCall}
 use Rattle.machine.specs.Field.{requestOf, numberOf, field, between}
 use Rattle.machine.specs.Limits.{timeLimit, partitionLimit}
-use Rattle.machine.specs.Module.{noPartition, emptyTable, emptyModule, lookup, releasePoint, part, current, runningIn, withPart, withTime, tickTo, partitionCount, tickModule, refuse, restarts, restarted, accepts, storedCall, callDone, malformed, noCaller, done, answerTo, step}
+use Rattle.machine.specs.Module.{noPartition, emptyTable, emptyModule, lookup, releasePoint, part, current, runningIn, withPart, withTime, dueAt, tickAt, tickTo, partitionCount, tickModule, refuse, restarts, restarted, accepts, storedCall, callDone, malformed, noCaller, done, answerTo, step}
 use Rattle.machine.specs.Partition.{running, noted}
 use Rattle.machine.specs.Valid.{SoundModule, Reached}
 use Rattle.machine.specs.Waiting.{waitingRefused, WaitingTime}
@@ -30,6 +30,7 @@ use Rattle.machine.specs.declared.Done.{Done}
 use Rattle.machine.specs.declared.Event.{Event}
 use Rattle.machine.specs.declared.Field.{Field}
 use Rattle.machine.specs.declared.Field.the-variants.{Number, MinusOne, Other}
+use Rattle.machine.specs.declared.Lookup.{Lookup}
 use Rattle.machine.specs.declared.Module.{Module}
 use Rattle.machine.specs.declared.Partition.{Partition}
 use Rattle.machine.specs.declared.Reply.{Reply}
@@ -41,10 +42,11 @@ use Rattle.channels.proofs.Laws.{Stands, stands-none, stands-checked, messagesO
 use Rattle.events.proofs.Laws.{tick-same}
 use Rattle.machine.proofs.Bounds.{either}
 use Rattle.machine.proofs.Reached.{reached-valid}
-use Rattle.machine.proofs.Tests.{not-both}
+use Rattle.machine.proofs.Tests.{by-test, not-both}
 use Rattle.windows.proofs.Waiting.{waiting-time}
-use Rattle.executive.specs.Executive.{turned, placeCode, applied, settled, Awaited}
+use Rattle.executive.specs.Executive.{turned, eventPlaces, callPlaces, applied, settled, Awaited}
 use Rattle.executive.specs.declared.Outcome.{Outcome}
+use Rattle.executive.specs.declared.Placed.{Placed}
 
 -- ---------------------------------------------------------------- a place past the partitions
 module _ (m : Module) (long : length (m .partitions) ≡ partitionLimit) where
@@ -111,6 +113,30 @@ module _ (m : Module) (k : ℕ) (r : Request) (p : Partition) (own : p ≡ part 
     act-called o h e = h ∙ rw (← no-caller, e)
 
 -- ---------------------------------------------------------------- the places
+-- the code of the places, with the window looked up at the time after the event
+abbrev codeOf : Table → ℕ → Placed → ℕ
+codeOf T k x = callPlaces (x .code) k (lookup T (x .time) .partition)
+
+module _ (T : Table) (t k : ℕ) (r : Request) where
+  -- by case, with the tests that lead there
+  by-places : (P : Placed → Type 0)
+      → (malformed T r ≡ true → P (record { code = 13; time = t }))
+      → (malformed T r ≡ false → eqb k 0 ≡ true → leb timeLimit t ≡ true → P (record { code = 10; time = t }))
+      → (malformed T r ≡ false → eqb k 0 ≡ true → leb timeLimit t ≡ false → P (record { code = 0; time = t + 1 }))
+      → (malformed T r ≡ false → eqb k 0 ≡ false → P (record { code = 0; time = t }))
+      → P (eventPlaces T t k r)
+  unfolding checked
+  by-places P f g h i = by-test P (malformed T r) f (λ b. by-test P (eqb k 0) (λ e. by-test P (leb timeLimit t) (g b e) (h b e)) (i b))
+
+  -- t + 1 after a tick that is taken, else t
+  time-after : eventPlaces T t k r .time ≡ cond (eqb k 0) (cond (eqb (codeOf T k (eventPlaces T t k r)) 0) (t + 1) t) t
+  unfolding checked
+  time-after = by-places (λ x. x .time ≡ cond (eqb k 0) (cond (eqb (codeOf T k x) 0) (t + 1) t) t)
+      (λ b. either (eqb k 0) (λ e. rw e) (λ e. rw e))
+      (λ b e l. rw e)
+      (λ b e l. rw e)
+      (λ b e. rw e)
+
 module _ (m : Module) (r : Request) (long : length (m .partitions) ≡ partitionLimit) where
   abbrev own : ℕ
   own = numberOf (r .partition)
@@ -121,59 +147,90 @@ module _ (m : Module) (r : Request) (long : length (m .partitions) ≡ partition
   abbrev Ticked? : Done
   Ticked? = record { state = tickModule m; reply = coded 0 }
 
+  refusing : {d : Done} (n : ℕ) → eqb n 0 ≡ false → Stands (refuse m) d n (refuse m n)
+  refusing n some = record { accepts = λ z. absurd (eqb-false n 0 some z); refuses = λ z. refl }
+
   past : Stands (refuse m) Called? (checked (λ n. n) ((not (leb own partitionLimit), 9) ∷ []) 0) Called?
   unfolding checked
   past = either (leb own partitionLimit)
       (λ e. rw e (stands-none (refuse m) Called?))
-      (λ e. rw (e, no-caller-past m long own (leb-false own partitionLimit e)) (record { accepts = λ z. absurd (omega arith); refuses = λ z. refl }))
+      (λ e. rw (e, no-caller-past m long own (leb-false own partitionLimit e)) (refusing 9 refl))
 
-  placed : Stands (refuse m) (cond (eqb own 0) Ticked? Called?) (placeCode (m .table) (m .t) r) (done m r)
+  -- the places are the machine's: 8 looks at the time after the event, which for a call is t
+  placed : Stands (refuse m) (cond (eqb own 0) Ticked? Called?) (codeOf (m .table) own (eventPlaces (m .table) (m .t) own r)) (done m r)
   unfolding checked
-  placed = stands-checked (refuse m) _ ((malformed (m .table) r, 13) ∷ []) _ _ refl (either (eqb own 0)
-      (λ e. rw e (stands-checked (refuse m) Ticked? ((leb timeLimit (m .t), 10) ∷ []) 0 Ticked? refl (stands-none (refuse m) Ticked?)))
-      (λ e. rw e (stands-checked (refuse m) Called? ((not (eqb (current m) own), 8) ∷ []) _ Called? refl past)))
+  placed = by-places (m .table) (m .t) own r (λ x. Stands (refuse m) (cond (eqb own 0) Ticked? Called?) (codeOf (m .table) own x) (done m r))
+      (λ b. rw b (refusing 13 refl))
+      (λ b e l. rw (b, e, l) (refusing 10 refl))
+      (λ b e l. rw (b, e, l) (stands-none (refuse m) Ticked?))
+      (λ b e. rw (b, e) (stands-checked (refuse m) Called? ((not (eqb (current m) own), 8) ∷ []) _ Called? refl past))
 
--- where no place refuses, time can rise, and the record has the partition
-module _ (T : Table) (t : ℕ) (r : Request) (n : ℕ) (found : n ≡ placeCode T t r) (none : n ≡ 0) where
-  passed : placeCode T t r ≡ 0
-  passed = sym found ∙ none
-
-  pub place-time : numberOf (r .partition) ≡ 0 → t < timeLimit
-  unfolding checked
-  place-time z = either (malformed T r)
-      (λ b. absurd (omega (arith, rw b at passed)))
-      (λ b. either (leb timeLimit t)
-      (λ l. absurd (omega (arith, rw (b, eq-eqb (numberOf (r .partition)) 0 z, l) at passed)))
-      (λ l. leb-false timeLimit t l))
-
-  pub place-partition : (numberOf (r .partition) ≡ 0 → ⊥) → numberOf (r .partition) ≤ partitionLimit
-  unfolding checked
-  place-partition some = either (malformed T r)
-      (λ b. absurd (omega (arith, rw b at passed)))
-      (λ b. either (eqb (lookup T t .partition) (numberOf (r .partition)))
-      (λ l. either (leb (numberOf (r .partition)) partitionLimit)
-      (λ h. leb-true (numberOf (r .partition)) partitionLimit h)
-      (λ h. absurd (omega (arith, rw (b, ne-eqb (numberOf (r .partition)) 0 some, l, h) at passed))))
-      (λ l. absurd (omega (arith, rw (b, ne-eqb (numberOf (r .partition)) 0 some, l) at passed))))
+-- where no place refuses a call, the record has its partition
+pub place-partition : (c k now n : ℕ) → n ≡ callPlaces c k now → n ≡ 0 → (k ≡ 0 → ⊥) → k ≤ partitionLimit
+unfolding checked
+place-partition c k now n found none some =
+    let passed : callPlaces c k now ≡ 0 = sym found ∙ none in
+    either (eqb c 0)
+    (λ z. either (eqb now k)
+    (λ l. either (leb k partitionLimit)
+    (λ h. leb-true k partitionLimit h)
+    (λ h. absurd (omega (arith, rw (z, ne-eqb k 0 some, l, h) at passed))))
+    (λ l. absurd (omega (arith, rw (z, ne-eqb k 0 some, l) at passed))))
+    (λ z. absurd (eqb-false c 0 z (rw z at passed)))
 
 -- ---------------------------------------------------------------- one event
--- by n, the code of the places, and k, the event's partition: q and b are record and reply after it
-module _ (m : Module) (r : Request) (n k : ℕ) (q : Module) (a b : Reply) (found : n ≡ placeCode (m .table) (m .t) r) (said : a ≡ coded n) where
-  pub step-refused : length (m .partitions) ≡ partitionLimit → (n ≡ 0 → ⊥) → q ≡ m → b ≡ a → record { state = q; reply = b } ≡ done m r
-  step-refused long e x y = rw (x, y, said, found) (sym (placed m r long .refuses (λ z. e (found ∙ z))))
+-- the tick of the partitions leaves the current one
+tick-lookup : (n : ℕ) (m : Module) → lookup (m .table) (m .t) ≡ lookup (tickTo n m .table) (tickTo n m .t)
+unfolding tickTo tickAt
+tick-lookup zero m = refl
+tick-lookup (suc n) m = by-test (λ (q : Module). lookup (m .table) (m .t) ≡ lookup (q .table) (q .t)) (dueAt n (tickTo n m)) (λ _. tick-lookup n m) (λ _. tick-lookup n m)
 
-  module _ (long : length (m .partitions) ≡ partitionLimit) (none : n ≡ 0) (partition : k ≡ numberOf (r .partition)) where
-    accepted : cond (eqb k 0) (record { state = tickModule m; reply = coded 0 }) (checked (refuse m) ((noCaller (part m (k - 1)), 9) ∷ []) (callDone m k (numberOf (r .call)) r)) ≡ done m r
-    accepted = rw partition (sym (placed m r long .accepts (sym found ∙ none)))
+-- record and reply after an event are the machine's, and the window was looked up as it is then
+pub record After (m : Module) (r : Request) (l : Lookup) (q : Module) (b : Reply) : Type 0 where
+  pub did : record { state = q; reply = b } ≡ done m r
+  pub sees : l ≡ lookup (q .table) (q .t)
 
-    pub step-ticked : k ≡ 0 → q ≡ tickTo (partitionCount (m .table)) (withTime (m .t + 1) m) → b ≡ a → record { state = q; reply = b } ≡ done m r
-    step-ticked z x y = rw (x, y, said, none) (rw (eq-eqb k 0 z) at accepted)
+-- what the code finds of an event: its partition k, x before the lookup, l the lookup, n the code of the places, a the reply
+pub record Found (m : Module) (r : Request) (k : ℕ) (x : Placed) (l : Lookup) (n : ℕ) (a : Reply) : Type 0 where
+  pub long : length (m .partitions) ≡ partitionLimit
+  pub partition : k ≡ numberOf (r .partition)
+  pub first : x ≡ eventPlaces (m .table) (m .t) k r
+  pub looked : l ≡ lookup (m .table) (x .time)
+  pub code : n ≡ callPlaces (x .code) k (l .partition)
+  pub said : a ≡ coded n
 
-    pub step-quiet : (d : Bool) → d ≡ anyDue (withTime (m .t + 1) m) → d ≡ false → k ≡ 0 → q ≡ withTime (m .t + 1) m → b ≡ a → record { state = q; reply = b } ≡ done m r
-    step-quiet d h e z x y = step-ticked z (x ∙ sym (tick-same (withTime (m .t + 1) m) (sym h ∙ e))) y
+module _ {m : Module} {r : Request} {k : ℕ} {x : Placed} {l : Lookup} {n : ℕ} {a : Reply} (f : Found m r k x l n a) where
+  found : n ≡ codeOf (m .table) (numberOf (r .partition)) (eventPlaces (m .table) (m .t) (numberOf (r .partition)) r)
+  found = rw (f .code, f .looked, f .first, f .partition)
 
-    pub step-called : (o : Outcome) → applied k o m ≡ checked (refuse m) ((noCaller (part m (k - 1)), 9) ∷ []) (callDone m k (numberOf (r .call)) r) → (k ≡ 0 → ⊥) → q ≡ applied k o m .state → b ≡ o .reply → record { state = q; reply = b } ≡ done m r
-    step-called o h z x y = rw (x, y) (h ∙ (rw (ne-eqb k 0 z) at accepted))
+  time : x .time ≡ cond (eqb k 0) (cond (eqb n 0) (m .t + 1) (m .t)) (m .t)
+  time = rw (found, f .first, f .partition) (time-after (m .table) (m .t) (numberOf (r .partition)) r)
+
+  accepted : n ≡ 0 → cond (eqb k 0) (record { state = tickModule m; reply = coded 0 }) (checked (refuse m) ((noCaller (part m (k - 1)), 9) ∷ []) (callDone m k (numberOf (r .call)) r)) ≡ done m r
+  accepted none = rw (f .partition) (sym (placed m r (f .long) .accepts (sym found ∙ none)))
+
+  -- q and b are record and reply after the event
+  module _ {q : Module} {b : Reply} where
+    pub step-refused : (n ≡ 0 → ⊥) → q ≡ m → b ≡ a → After m r l q b
+    step-refused e g h = record {
+      did = rw (g, h, f .said, found) (sym (placed m r (f .long) .refuses (λ z. e (found ∙ z))));
+      sees = rw (g, f .looked, time, ne-eqb n 0 e) (either (eqb k 0) (λ z. rw z) (λ z. rw z));
+    }
+
+    pub step-ticked : n ≡ 0 → k ≡ 0 → q ≡ tickTo (partitionCount (m .table)) (withTime (x .time) m) → b ≡ a → After m r l q b
+    step-ticked none z g h = record {
+      did = rw (g, time, h, f .said, none, eq-eqb k 0 z) (rw (eq-eqb k 0 z) at (accepted none));
+      sees = rw (g, f .looked) (tick-lookup (partitionCount (m .table)) (withTime (x .time) m));
+    }
+
+    pub step-quiet : n ≡ 0 → (d : Bool) → d ≡ anyDue (withTime (x .time) m) → d ≡ false → k ≡ 0 → q ≡ withTime (x .time) m → b ≡ a → After m r l q b
+    step-quiet none d due e z g h = step-ticked none z (g ∙ sym (tick-same (withTime (x .time) m) (sym due ∙ e))) h
+
+    pub step-called : n ≡ 0 → (o : Outcome) → applied k o m ≡ checked (refuse m) ((noCaller (part m (k - 1)), 9) ∷ []) (callDone m k (numberOf (r .call)) r) → (k ≡ 0 → ⊥) → q ≡ applied k o m .state → b ≡ o .reply → After m r l q b
+    step-called none o d z g h = record {
+      did = rw (g, h) (d ∙ (rw (ne-eqb k 0 z) at (accepted none)));
+      sees = rw (g, f .looked, time, ne-eqb k 0 z);
+    }
 
 -- the answer is read off the record after the event
 pub step-answered : (m : Module) (e : Event) (r : Request) (q : Module) (b : Reply) (a : Answer) → r ≡ requestOf e → record { state = q; reply = b } ≡ done m r → a ≡ answerTo r (record { state = q; reply = b })

@@ -1,5 +1,5 @@
 -- The executive's results from the machine's.
-use Prim.Native.Nat.{ℕ, _-_}
+use Prim.Native.Nat.{ℕ, _+_, _-_}
 use mathlib.Core.Bool.{true, false, cond, not}
 use mathlib.Core.List.{[], _∷_}
 use mathlib.Core.Path.{_≡_}
@@ -9,9 +9,9 @@ use lib.ListN.{set}
 use Rattle.channels.specs.Channels.{erasedIn}
 use Rattle.channels.specs.declared.Messages.{Messages}
 use Rattle.machine.specs.Calls.{checked}
-use Rattle.machine.specs.Field.{field, numberOf}
+use Rattle.machine.specs.Field.{field}
 use Rattle.machine.specs.Limits.{timeLimit, partitionLimit}
-use Rattle.machine.specs.Module.{lookup, current, restarts, accepts, malformed}
+use Rattle.machine.specs.Module.{current, restarts, accepts, malformed}
 use Rattle.machine.specs.Partition.{noted}
 use Rattle.machine.specs.Text.{lineRefusal}
 use Rattle.machine.specs.Valid.{SoundTable}
@@ -29,6 +29,7 @@ use Rattle.machine.specs.declared.Time.the-variants.{At}
 use Rattle.machine.specs.declared.Waiting.{Waiting}
 use Rattle.executive.specs.declared.Opening.{Opening}
 use Rattle.executive.specs.declared.Outcome.{Outcome}
+use Rattle.executive.specs.declared.Placed.{Placed}
 use Rattle.executive.specs.declared.Turn.{Turn}
 
 abbrev pub turned : Stepped → Turn
@@ -41,14 +42,20 @@ opened r = record { executive = record { inner = r .state }; code = r .code; val
 abbrev pub unread : Module → Answer
 unread m = record { code = lineRefusal; value = 0; extra = At 0; t = m .t; current = current m; running = 0 }
 
--- 13; for a tick 10; for a call 8. Bound: 9 where the record has no place for the partition.
-abbrev pub placeCode : Table → ℕ → Request → ℕ
-placeCode T t r =
-    let k = numberOf (r .partition) in
-    checked (λ n. n) ((malformed T r, 13) ∷ [])
+-- An event's places before the window is looked up, and the time after the event: 13 first; a tick 10, else t rises by one
+abbrev pub eventPlaces : Table → ℕ → ℕ → Request → Placed
+eventPlaces T t k r =
+    checked (λ n. record { code = n; time = t }) ((malformed T r, 13) ∷ [])
     (cond (eqb k 0)
-    (checked (λ n. n) ((leb timeLimit t, 10) ∷ []) 0)
-    (checked (λ n. n) ((not (eqb (lookup T t .partition) k), 8) ∷ (not (leb k partitionLimit), 9) ∷ []) 0))
+    (checked (λ n. record { code = n; time = t }) ((leb timeLimit t, 10) ∷ []) (record { code = 0; time = t + 1 }))
+    (record { code = 0; time = t }))
+
+-- then a call 8: partition isn't current. Bound: 9 where the record has no place for the partition.
+abbrev pub callPlaces : ℕ → ℕ → ℕ → ℕ
+callPlaces n k now =
+    checked (λ c. c) ((not (eqb n 0), n) ∷ [])
+    (cond (eqb k 0) 0
+    (checked (λ c. c) ((not (eqb now k), 8) ∷ (not (leb k partitionLimit), 9) ∷ []) 0))
 
 -- what a call has made of partition k and of the messages, put into the module
 abbrev pub applied : ℕ → Outcome → Module → Done

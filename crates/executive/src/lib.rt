@@ -7,15 +7,16 @@ ghost use Rattle.machine.specs.Limits.{partitionLimit};
 ghost use Rattle.machine.specs.Field.{numberOf};
 ghost use Rattle.machine.specs.Partition.{running};
 ghost use Rattle.machine.specs.Calls.{checked};
-ghost use Rattle.machine.specs.Module.{part, runningIn, refuse, restarts, accepts, callDone, noCaller, sees, answerTo, step};
+ghost use Rattle.machine.specs.Module.{lookup, part, runningIn, refuse, restarts, accepts, callDone, noCaller, sees, answerTo, step};
 ghost use Rattle.machine.specs.Table.{readTable};
 ghost use Rattle.channels.specs.Channels.{erasedIn};
-ghost use Rattle.executive.specs.Executive.{turned, opened, unread, applied, settled, placeCode, Awaited};
+ghost use Rattle.executive.specs.Executive.{turned, opened, unread, eventPlaces, callPlaces, applied, settled, Awaited};
 use channels::Messages;
 use machine::Answer;
 use machine::Called;
 use machine::Context;
 use machine::Event;
+use machine::Lookup;
 use machine::Module;
 use machine::Partition;
 use machine::Reply;
@@ -42,6 +43,12 @@ pub struct Opening {
     pub lines: u32,
 }
 
+// An event before the window is looked up: 13, 10 or 0, and the time after the event.
+struct Placed {
+    code: u8,
+    time: u32,
+}
+
 // What a call makes of the messages and of its own partition, and its reply.
 struct Outcome {
     messages: Messages,
@@ -50,29 +57,39 @@ struct Outcome {
 }
 
 // ---------------------------------------------------------------- the places before a call's body
-// 13, 10, 8, and 9 for a partition that the record has no place for; 0 where none of them refuses.
-fn place_code(table: Table, t: u32, r: Request) -> u8
-    ensures { λ n. ⌜ n ≡ placeCode table t r ⌝ }
+// 13, and for a tick 10; a tick that is taken lets t rise by one.
+fn event_places(table: Table, t: u32, k: u32, r: Request) -> Placed
+    ensures { λ x. ⌜ x ≡ eventPlaces table t k r ⌝ }
 {
-    let own = r.partition;
     if events::is_malformed(table, r) {
-        return 13;
+        return Placed { code: 13, time: t };
     }
-    let k = fields::number_of(own);
     if k == 0 {
         if Module::END <= t {
-            return 10;
+            return Placed { code: 10, time: t };
         }
+        return Placed {
+            code: 0,
+            time: t + 1,
+        };
+    }
+    Placed { code: 0, time: t }
+}
+
+// Then for a call 8, and 9 for a partition that the record has no place for; 0 where none of them refuses.
+fn call_places(code: u8, k: u32, current: u8) -> u8
+    ensures { λ n. ⌜ n ≡ callPlaces code k current ⌝ }
+{
+    if code != 0 {
+        return code;
+    }
+    if k == 0 {
         return 0;
     }
-    let now = windows::lookup_at(table, t);
-    if now.partition as u32 != k {
+    if current as u32 != k {
         return 8;
     }
-    if k <= Module::PARTITIONS as u32 {
-        return 0;
-    }
-    9
+    if k <= Module::PARTITIONS as u32 { 0 } else { 9 }
 }
 
 // ---------------------------------------------------------------- calls
@@ -204,12 +221,11 @@ fn running_shown(m: Module, r: Request, k: u8) -> u8
     if is_shown(r, k) { running_in(m, k) } else { 0 }
 }
 
-// The answer, read off the module after the event.
-fn answer_of(m: Module, r: Request, reply: Reply) -> Answer
+// The answer, read off the module after the event and the lookup at its time.
+fn answer_of(m: Module, r: Request, reply: Reply, now: Lookup) -> Answer
+    requires { ⌜ now ≡ lookup (m .table) (m .t) ⌝ }
     ensures { λ a. ⌜ a ≡ answerTo r (record { state = m; reply = reply }) ⌝ }
 {
-    let table = m.table;
-    let now = windows::lookup_at(table, m.t);
     let extra = reply.extra;
     Answer {
         code: reply.code,
@@ -241,15 +257,17 @@ impl Executive {
         ensures { λ x. ⌜ x ≡ turned (step (self .inner) event) ⌝ }
     {
         let r = fields::request_of(event);
+        let own = r.partition;
+        let k = fields::number_of(own);
         let mut m = self.inner;
         let table = m.table;
-        let code = place_code(table, m.t, r);
+        let placed = event_places(table, m.t, k, r);
+        let now = windows::lookup_at(table, placed.time);
+        let code = call_places(placed.code, k, now.partition);
         let mut reply = channels::reply_of(code);
         if code == 0 {
-            let own = r.partition;
-            let k = fields::number_of(own);
             if k == 0 {
-                m.t = m.t + 1;
+                m.t = placed.time;
                 if events::is_any_due(m) {
                     m = events::tick_partitions(m);
                 }
@@ -265,7 +283,7 @@ impl Executive {
                 reply = said;
             }
         }
-        let answer = answer_of(m, r, reply);
+        let answer = answer_of(m, r, reply, now);
         Turn {
             executive: Executive { inner: m },
             answer,

@@ -1,11 +1,12 @@
+use Prim.Native.Nat.{_≤_}
 use mathlib.Core.Logic.{⊎-elim}
-use mathlib.Core.Path.{_≡_, sym, _∙_}
+use mathlib.Core.Path.{_≡_, _∙_}
 use native.Mathlib.Omega.{arith}
 use lib.ListN.{length}
 use borrow.Author.Needs.{needs}
 use Rattle.machine.specs.Limits.{partitionLimit}
 use Rattle.machine.proofs.Taken.{length-mapped}
-use Rattle.executive.proofs.Laws.{place-time, place-partition, step-refused, step-ticked, step-quiet, step-called, step-answered}
+use Rattle.executive.proofs.Laws.{place-partition, After, Found, step-refused, step-ticked, step-quiet, step-called, step-answered}
 use Rattle.executive.proofs.Executive.step.Statement.{statement}
 use Rattle.executive.proofs.Executive.step.Tie as tie
 
@@ -13,84 +14,55 @@ use Rattle.executive.proofs.Executive.step.Tie as tie
 long : (c : tie.Start) → length (c .args .self .inner .partitions) ≡ partitionLimit
 long c = search (needs, length-mapped)
 
-request-of-requires : tie.Need-request-of-requires
-request-of-requires c κs = search needs
+-- the partition of a call that no place refuses is one of them
+within : (c : tie.Else2) → c .before .before .before .before .before .before .before .before .number-of .result ≤ partitionLimit
+within c = place-partition (c .before .before .before .before .before .event-places .result .code) _ (c .before .before .before .before .lookup-at .result .partition) _ (c .before .before .before .call-places .ensures) (c .before .if1 .taken) (c .if2 .left)
 
-place-code-requires : tie.Need-place-code-requires
-place-code-requires c κs = search needs
-
-reply-of-requires : tie.Need-reply-of-requires
-reply-of-requires c κs = search needs
-
-number-of-requires : tie.Need-number-of-requires
-number-of-requires c κs = search needs
-
-add-m : tie.Need-add-m
-add-m c =
-    let h = place-time (c .before .before .before .before .before .before .before .before .args .self .inner .table) (c .before .before .before .before .before .before .before .before .args .self .inner .t) (c .before .before .before .before .before .before .before .request-of .result) _ (c .before .before .before .before .place-code .ensures) (c .before .before .if1 .taken) (sym (c .before .number-of .ensures) ∙ c .if2 .taken) in
-    record { fits = omega arith }
-
-is-any-due-requires : tie.Need-is-any-due-requires
-is-any-due-requires c κs = search needs
-
-tick-partitions-requires : tie.Need-tick-partitions-requires
-tick-partitions-requires c κs = search needs
+-- each way through the event
+after : (c : tie.Joined1) → After (c .before .before .before .before .before .before .before .before .before .args .self .inner) (c .before .before .before .before .before .before .before .before .request-of .result) (c .before .before .before .lookup-at .result) (c .if1 .m) (c .if1 .reply)
+after c =
+    let f : Found _ _ _ _ _ _ _ = record {
+      long = long (c .before .before .before .before .before .before .before .before .before);
+      partition = c .before .before .before .before .before .before .before .number-of .ensures;
+      first = c .before .before .before .before .event-places .ensures;
+      looked = c .before .before .before .lookup-at .ensures;
+      code = c .before .before .call-places .ensures;
+      said = c .before .reply-of .ensures;
+    } in
+    ⊎-elim (λ w. step-ticked f (w .0 .taken) (w .1 .taken) (w .5 ∙ w .4 .ensures) (w .6))
+    (λ u. ⊎-elim (λ w. step-quiet f (w .0 .taken) _ (w .2 .ensures) (w .3 .left) (w .1 .taken) (w .4) (w .5))
+    (λ v. ⊎-elim (λ w. step-called f (w .0 .taken) _ (w .2 .ensures) (w .1 .left) (w .7) (w .8))
+    (λ w. step-refused f (w .0 .left) (w .1) (w .2)) v) u)
+    (c .if1 .came)
 
 act-requires : tie.Need-act-requires
-act-requires c κs =
-    let h = place-partition (c .before .before .before .before .before .before .before .before .args .self .inner .table) (c .before .before .before .before .before .before .before .before .args .self .inner .t) (c .before .before .before .before .before .before .before .request-of .result) _ (c .before .before .before .before .place-code .ensures) (c .before .before .if1 .taken) (λ z. c .if2 .left (c .before .number-of .ensures ∙ z)) in
-    (omega arith, omega (arith, c .before .number-of .ensures))
-
-sub-i : tie.Need-sub-i
-sub-i c = search needs
-
-cast-i : tie.Need-cast-i
-cast-i c = search needs
-
-mul-p : tie.Need-mul-p
-mul-p c = search needs
+act-requires c κs = (omega arith, within c)
 
 element-set-from-p : tie.Need-element-set-from-p
-element-set-from-p c =
-    let h = place-partition (c .before .before .before .before .before .before .before .before .before .before .before .before .before .args .self .inner .table) (c .before .before .before .before .before .before .before .before .before .before .before .before .before .args .self .inner .t) (c .before .before .before .before .before .before .before .before .before .before .before .before .request-of .result) _ (c .before .before .before .before .before .before .before .before .before .place-code .ensures) (c .before .before .before .before .before .before .before .if1 .taken) (λ z. c .before .before .before .before .before .if2 .left (c .before .before .before .before .before .before .number-of .ensures ∙ z)) in
-    omega (arith, c .before .before .before .before .before .before .number-of .ensures)
+element-set-from-p c = let h = within (c .before .before .before .before .before) in omega arith
 
 answer-of-requires : tie.Need-answer-of-requires
-answer-of-requires c κs = search needs
+answer-of-requires c κs = after c .sees
 
 returns : tie.Need-returns
-returns c =
-    let s = c .before .before .before .before .before .before .before in
-    let m = s .args .self .inner in
-    let r = c .before .before .before .before .before .before .request-of .result in
-    let n = c .before .before .before .place-code .result in
-    let q = c .before .if1 .m in
-    let a = c .before .before .reply-of .result in
-    let b = c .before .if1 .reply in
-    let f = c .before .before .before .place-code .ensures in
-    let g = c .before .before .reply-of .ensures in
-    step-answered m (s .args .event) r q b _ (c .before .before .before .before .before .before .request-of .ensures)
-    (⊎-elim (λ w. step-ticked m r n _ q a b f g (long s) (w .0 .taken) (w .1 .ensures) (w .2 .taken) (w .6 ∙ w .5 .ensures) (w .7))
-    (λ u. ⊎-elim (λ w. step-quiet m r n _ q a b f g (long s) (w .0 .taken) (w .1 .ensures) _ (w .3 .ensures) (w .4 .left) (w .2 .taken) (w .5) (w .6))
-    (λ v. ⊎-elim (λ w. step-called m r n _ q a b f g (long s) (w .0 .taken) (w .1 .ensures) _ (w .3 .ensures) (w .2 .left) (w .8) (w .9))
-    (λ w. step-refused m r n 0 q a b f g (long s) (w .0 .left) (w .1) (w .2)) v) u)
-    (c .before .if1 .came)) (c .answer-of .ensures)
+returns c = step-answered _ _ _ _ _ _ (c .before .before .before .before .before .before .before .before .before .request-of .ensures) (after (c .before) .did) (c .answer-of .ensures)
 
 pub step-spec : {M : Type 1} → statement M
 step-spec =
     tie.close
     (tie.spec
-    request-of-requires
-    place-code-requires
-    reply-of-requires
-    number-of-requires
-    add-m
-    is-any-due-requires
-    tick-partitions-requires
+    (λ _ _. tt)
+    (λ _ _. tt)
+    (λ _ _. tt)
+    (λ _ _. tt)
+    (λ _ _. tt)
+    (λ _ _. tt)
+    (λ _ _. tt)
+    (λ _ _. tt)
     act-requires
-    sub-i
-    cast-i
-    mul-p
+    (λ c. search needs)
+    (λ c. search needs)
+    (λ c. search needs)
     element-set-from-p
     answer-of-requires
     returns)

@@ -28,13 +28,14 @@ mul-at c = omega (arith, c .struct-known2 .given)
 returns-2 : tie.Need-returns-2 Inv-loop μ-loop
 returns-2 c =
     let opening = c .before .before .before .before .before .before .«open» in
-    let g = too-many _ _ _ (opening .ensures) (c .before .before .before .before .if1 .left) _ (c .before .before .count-lines .ensures) (c .before .if2 .taken) in
+    let out = c .before .before .before .before .before .before .before .before .before .args .out .now in
+    let g = too-many _ out _ (opening .ensures) (c .before .before .before .before .if1 .left) _ (c .before .before .count-lines .ensures) (omega (arith, c .before .if2 .taken)) in
     (c .no-room .ensures ∙ g .0, g .1)
 
 loop-holds : tie.Need-loop-holds Inv-loop μ-loop
 loop-holds c =
     let opening = c .before .before .before .before .before .before .«open» in
-    begins _ _ _ (opening .ensures) (c .before .before .before .before .if1 .left) _ (c .before .before .count-lines .ensures) (c .before .if2 .left)
+    begins _ _ _ (opening .ensures) (c .before .before .before .before .if1 .left) _ (c .before .before .count-lines .ensures) (omega (arith, c .before .if2 .left))
 
 add-to : tie.Need-add-to Inv-loop μ-loop
 add-to c =

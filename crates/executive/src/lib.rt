@@ -201,7 +201,8 @@ fn is_shown(r: Request, k: u8) -> bool
     fields::is_number(own, 0) || fields::is_number(own, k as u32)
 }
 
-fn running_in(m: Module, k: u8) -> u8
+// The running process of the current partition k; 0 where there is none.
+pub fn running_in(m: Module, k: u8) -> u8
     ensures { λ n. ⌜ n ≡ runningIn k m ⌝ }
 {
     if k == 0 {
@@ -288,6 +289,13 @@ impl Executive {
             executive: Executive { inner: m },
             answer,
         }
+    }
+
+    // The whole record.
+    pub fn module(self) -> Module
+        ensures { λ m. ⌜ m ≡ self .inner ⌝ }
+    {
+        self.inner
     }
 
     // The answer to a line that is no event: 11. It steps nothing.

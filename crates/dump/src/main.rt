@@ -1,0 +1,266 @@
+// Reads a table and event lines from standard input and prints the whole record at the end, one item a line
+// (tests/separate/README.md, "The dump format").
+use libc::STDOUT_FILENO;
+use machine::EventState;
+use machine::Ids;
+use machine::Message;
+use machine::Module;
+use machine::Partition;
+use machine::Process;
+use machine::Semaphore;
+use machine::Time;
+use machine::Times;
+use machine::Wait;
+
+// What a partition has a line of for each id.
+enum Item {
+    Process,
+    Semaphore,
+    Event,
+    SemaphoreQueue,
+    EventQueue,
+}
+
+// ---------------------------------------------------------------- words
+fn print(text: &[u8]) {
+    io::write_all(STDOUT_FILENO, text);
+}
+
+fn print_number(label: &[u8], n: u32) {
+    print(label);
+    io::print_decimal(STDOUT_FILENO, n as u64);
+}
+
+fn print_flag(label: &[u8], b: bool) {
+    if b {
+        print_number(label, 1);
+    } else {
+        print_number(label, 0);
+    }
+}
+
+fn print_never(label: &[u8]) {
+    print(label);
+    print(b"-1");
+}
+
+fn print_time(label: &[u8], a: Time) {
+    match a {
+        Time::Never => print_never(label),
+        Time::At(t) => print_number(label, t),
+    }
+}
+
+// ---------------------------------------------------------------- a process
+fn print_times(s: Times) {
+    let release = s.release;
+    let deadline = s.deadline;
+    let wake = s.wake;
+    print_time(b" release ", release);
+    print_time(b" deadline ", deadline);
+    print_time(b" wake ", wake);
+    print_number(b" delay ", s.delay);
+}
+
+fn print_wait(w: Wait) {
+    match w {
+        Wait::None => print(b" wait none\n"),
+        Wait::Normal => print(b" wait normal\n"),
+        Wait::Delay => print(b" wait delay\n"),
+        Wait::Timed => print(b" wait timed\n"),
+        Wait::Period => print(b" wait period\n"),
+        Wait::Semaphore(id) => print_object(b" wait semaphore ", id),
+        Wait::Event(id) => print_object(b" wait event ", id),
+    }
+}
+
+fn print_object(label: &[u8], id: u8) {
+    print_number(label, id as u32);
+    print(b"\n");
+}
+
+fn print_process(id: u8, x: Process) {
+    let given = x.given;
+    let period = given.period;
+    let capacity = given.capacity;
+    let times = x.times;
+    let wait = x.wait;
+    print_number(b"process ", id as u32);
+    print_number(b" name ", given.name as u32);
+    print_number(b" base ", given.base as u32);
+    print_number(b" current ", x.current as u32);
+    print_time(b" period ", period);
+    print_time(b" capacity ", capacity);
+    print_times(times);
+    print_flag(b" suspended ", x.suspended);
+    print_flag(b" missed ", x.missed);
+    print_number(b" code ", x.code as u32);
+    print_flag(b" started ", x.started);
+    print_wait(wait);
+}
+
+// ---------------------------------------------------------------- a partition
+fn print_semaphore(id: u8, s: Semaphore) {
+    print_number(b"semaphore ", id as u32);
+    print_number(b" name ", s.name as u32);
+    print_number(b" value ", s.value as u32);
+    print_number(b" max ", s.max as u32);
+    print(b"\n");
+}
+
+fn print_event(id: u8, v: EventState) {
+    print_number(b"event ", id as u32);
+    print_number(b" name ", v.name as u32);
+    print_flag(b" up ", v.up);
+    print(b"\n");
+}
+
+fn print_id(q: Ids, i: u8) {
+    let at = i as usize;
+    if at < Module::PROCESSES {
+        print_number(b" ", q.items[at] as u32);
+    }
+}
+
+fn print_ids(q: Ids) {
+    let n = q.len;
+    for i in 0..n {
+        print_id(q, i);
+    }
+    print(b"\n");
+}
+
+// The queue of the object that a wait names.
+fn print_queue(label: &[u8], id: u8, p: Partition, w: Wait) {
+    print_number(label, id as u32);
+    print_ids(partition::queue_of(p, process::object_of(w)));
+}
+
+fn print_item(p: Partition, item: Item, id: u8) {
+    match item {
+        Item::Process => print_process(id, partition::process_at(p, id as u32)),
+        Item::Semaphore => print_semaphore(id, objects::semaphore_at(p, id as u32)),
+        Item::Event => print_event(id, objects::event_at(p, id as u32)),
+        Item::SemaphoreQueue => print_queue(b"waiters semaphore ", id, p, Wait::Semaphore(id)),
+        Item::EventQueue => print_queue(b"waiters event ", id, p, Wait::Event(id)),
+    }
+}
+
+fn print_items(p: Partition, item: Item, n: u8) {
+    for id in 1..=n {
+        print_item(p, item, id);
+    }
+}
+
+fn print_partition(k: u32, p: Partition) {
+    let arrival = p.arrival;
+    print_number(b"partition ", k);
+    print_number(b" mode ", p.mode as u32);
+    print_number(b" processes ", p.processCount as u32);
+    print_number(b" semaphores ", p.semaphoreCount as u32);
+    print_number(b" events ", p.eventCount as u32);
+    print(b"\n");
+    print_items(p, Item::Process, p.processCount);
+    print_items(p, Item::Semaphore, p.semaphoreCount);
+    print_items(p, Item::Event, p.eventCount);
+    print(b"arrival");
+    print_ids(arrival);
+    print_items(p, Item::SemaphoreQueue, p.semaphoreCount);
+    print_items(p, Item::EventQueue, p.eventCount);
+}
+
+// ---------------------------------------------------------------- the module
+fn print_window(m: Module, i: u8) {
+    let table = m.table;
+    let at = i as usize;
+    if at < Module::WINDOWS {
+        let w = table.windows[at];
+        print_number(b"window ", i as u32 + 1);
+        print_number(b" start ", w.start as u32);
+        print_number(b" duration ", w.duration as u32);
+        print_number(b" partition ", w.partition as u32);
+        print_flag(b" flag ", w.flag);
+        print(b"\n");
+    }
+}
+
+fn print_message(x: Message) {
+    if x.present {
+        print_number(b" message ", x.value);
+        print_number(b" written ", x.written);
+    } else {
+        print(b" message -1 written -1");
+    }
+    print(b"\n");
+}
+
+fn print_channel(m: Module, i: u8) {
+    let table = m.table;
+    let at = i as usize;
+    if at < Module::CHANNELS {
+        let c = table.channels[at];
+        let x = m.messages[at];
+        print_number(b"channel ", i as u32 + 1);
+        print_number(b" source ", c.source as u32);
+        print_number(b" destination ", c.destination as u32);
+        print_number(b" refresh ", c.refresh);
+        print_message(x);
+    }
+}
+
+fn print_partition_at(m: Module, i: u8) {
+    let at = i as usize;
+    if at < Module::PARTITIONS {
+        let p = m.partitions[at];
+        print_partition(i as u32 + 1, p);
+    }
+}
+
+fn print_heading(m: Module) {
+    let table = m.table;
+    let now = windows::lookup_at(table, m.t);
+    print_number(b"module t ", m.t);
+    print_number(b" current ", now.partition as u32);
+    print_number(b" running ", executive::running_in(m, now.partition) as u32);
+    print_number(b" frame ", table.frame as u32);
+    print_number(b" partitions ", table.size as u32);
+    print_number(b" windows ", table.windowCount as u32);
+    print_number(b" channels ", table.channelCount as u32);
+    print(b"\n");
+}
+
+fn print_windows(m: Module, n: u8) {
+    for i in 0..n {
+        print_window(m, i);
+    }
+}
+
+fn print_channels(m: Module, n: u8) {
+    for i in 0..n {
+        print_channel(m, i);
+    }
+}
+
+fn print_partitions(m: Module, n: u8) {
+    for i in 0..n {
+        print_partition_at(m, i);
+    }
+}
+
+// The record of a refused table is empty.
+fn print_module(m: Module) {
+    let table = m.table;
+    if table.size == 0 {
+        print(b"empty\n");
+        return;
+    }
+    print_heading(m);
+    print_windows(m, table.windowCount);
+    print_channels(m, table.channelCount);
+    print_partitions(m, table.size);
+}
+
+fn main() {
+    let x = console::replay(false);
+    print_module(x.module());
+}

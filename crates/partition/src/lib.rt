@@ -1,10 +1,12 @@
 // A partition's record: its processes, the lists that follow them, the running process and the tick.
 ghost use mathlib.Core.Path.{_≡_};
-ghost use Prim.Native.Nat.{_≤_};
+ghost use Prim.Native.Nat.{_-_, _≤_};
 ghost use mathlib.Core.Bool.{cond};
 ghost use lib.ListN.{length};
+ghost use lib.Dec.{eqb};
 ghost use Rattle.machine.specs.Limits.{processLimit};
 ghost use Rattle.machine.specs.Ids.{members, idsOf, appended, removed, follow};
+ghost use Rattle.machine.specs.Process as Pr;
 ghost use Rattle.machine.specs.Process.{ready, onObject, ticked, entered, waitEnded};
 ghost use Rattle.machine.specs.Partition.{process, stored, arrivedLast, preferred, running, waitsOn, waiters, ended, endedAll, tickPartition, enteredNormal, soonestOf, noted, sooner, nothingCreated};
 use machine::Choice;
@@ -77,6 +79,16 @@ fn followed(q: Ids, was: bool, now: bool, id: u8) -> Ids
     } else {
         if now { append(q, id) } else { q }
     }
+}
+
+// Where a process's record lies in the array, or past the last. A loop that reads it there copies no partition.
+fn slot(id: u32) -> usize
+    ensures { λ r. ⌜ r ≡ cond (eqb id 0) processLimit (id - 1) ⌝ }
+{
+    if id == 0 {
+        return Module::PROCESSES;
+    }
+    (id - 1) as usize
 }
 
 pub fn process_at(p: Partition, id: u32) -> Process
@@ -156,17 +168,20 @@ pub fn running_process(p: Partition) -> u8
     let mut i: usize = 0;
     while i < n {
         let id = arrival.items[i];
-        let x = process_at(p, wide(id));
+        let k = slot(wide(id));
+        let mut x = Process::blank();
+        if k < Module::PROCESSES {
+            x = p.processes[k];
+        }
         best = or_later(best, id, x.current);
         i = i + 1;
     }
     best.id
 }
 
-fn waits_on(p: Partition, id: u8, object: u16) -> bool
-    ensures { λ r. ⌜ r ≡ waitsOn object p id ⌝ }
+fn is_on(x: Process, object: u16) -> bool
+    ensures { λ r. ⌜ r ≡ eqb (Pr.object (x .wait)) object ⌝ }
 {
-    let x = process_at(p, wide(id));
     let w = x.wait;
     process::object_of(w) == object
 }
@@ -183,8 +198,13 @@ pub fn queue_of(p: Partition, object: u16) -> Ids
     };
     let mut i: usize = 0;
     while i < n {
-        let x = waiting.items[i];
-        found = append_if(found, waits_on(p, x, object), x);
+        let id = waiting.items[i];
+        let k = slot(wide(id));
+        let mut x = Process::blank();
+        if k < Module::PROCESSES {
+            x = p.processes[k];
+        }
+        found = append_if(found, is_on(x, object), id);
         i = i + 1;
     }
     found
@@ -276,7 +296,11 @@ pub fn soonest_of(p: Partition) -> u32
     let mut id = n;
     let mut s = Module::LATEST;
     while 0 < id {
-        let x = process_at(p, id);
+        let k = slot(id);
+        let mut x = Process::blank();
+        if k < Module::PROCESSES {
+            x = p.processes[k];
+        }
         s = soonest_with(x, s);
         id = id - 1;
     }

@@ -29,6 +29,13 @@ pub ends : (s₀ : Stream) (chunk out₀ : List ℕ) (s : Stream) (i : ℕ) (out
 unfolding fedAll
 ends s₀ chunk out₀ s i out k h = rw (drop-of-length-le chunk {i = i} h) at (k .rest)
 
+-- what a turn of the loop leaves
+pub record Turned (s₀ : Stream) (chunk out₀ : List ℕ) (i : ℕ) (a : Advance) (out : List ℕ) : Type 0 where
+  pub some : 0 < a .taken
+  pub inside : i + a .taken ≤ length chunk
+  pub printed : a .printed ≤ length out
+  pub next : Taking s₀ chunk out₀ (a .stream) (i + a .taken) out
+
 module _ (s₀ : Stream) (chunk out₀ : List ℕ) (s : Stream) (i : ℕ) (out : List ℕ) (k : Taking s₀ chunk out₀ s i out) (more : i < length chunk) (room : lineLength ≤ length out₀)
     (part : List ℕ) (cut : part ≡ drop i chunk) (a : Advance) (went : a ≡ advanceOf (run s (length out) part)) (out′ : List ℕ) (stored : out′ ≡ over (run s (length out) part .text) out) where
   size : length part ≡ length chunk - i
@@ -42,24 +49,23 @@ module _ (s₀ : Stream) (chunk out₀ : List ℕ) (s : Stream) (i : ℕ) (out :
       let text = run s (length out) part .text in
       ap length stored ∙ length-append text (drop (length text) out) ∙ omega (arith, length-drop (length text) out, run-room s (length out) part)
 
-  pub some-taken : 0 < a .taken
-  some-taken = omega (arith, taken, run-some s (length out) part (omega (arith, k .size)) (omega (arith, size)))
-
-  pub within : i + a .taken ≤ length chunk
+  within : i + a .taken ≤ length chunk
   within = omega (arith, taken, run-within s (length out) part, size)
 
-  pub printed-within : a .printed ≤ length out′
-  printed-within = omega (arith, ap (λ (x : Advance). x .printed) went, run-room s (length out) part, kept)
-
-  pub goes-on : Taking s₀ chunk out₀ (a .stream) (i + a .taken) out′
-  goes-on = record {
+  pub turned : Turned s₀ chunk out₀ i a out′
+  turned = record {
+    some = omega (arith, taken, run-some s (length out) part (omega (arith, k .size)) (omega (arith, size)));
     inside = within;
-    size = kept ∙ k .size;
-    rest =
-        ap (λ (x : Advance). fedAll (x .stream) (drop (i + x .taken) chunk) .stream) went
-        ∙ rw (← drop-drop (run s (length out) part .taken) i chunk, ← cut) (fed-rest s (length out) part)
-        ∙ ap (λ (l : List ℕ). fedAll s l .stream) cut
-        ∙ k .rest;
+    printed = omega (arith, ap (λ (x : Advance). x .printed) went, run-room s (length out) part, kept);
+    next = record {
+      inside = within;
+      size = kept ∙ k .size;
+      rest =
+          ap (λ (x : Advance). fedAll (x .stream) (drop (i + x .taken) chunk) .stream) went
+          ∙ rw (← drop-drop (run s (length out) part .taken) i chunk, ← cut) (fed-rest s (length out) part)
+          ∙ ap (λ (l : List ℕ). fedAll s l .stream) cut
+          ∙ k .rest;
+    };
   }
 
 -- ---------------------------------------------------------------- the whole input

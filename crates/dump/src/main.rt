@@ -216,12 +216,25 @@ fn print_partition_at(m: Module, i: u8) {
     }
 }
 
+// The running process of the current partition k; 0 where there is none.
+fn running_in(m: Module, k: u8) -> u32 {
+    if k == 0 {
+        return 0;
+    }
+    let i = (k - 1) as usize;
+    if i < Module::PARTITIONS {
+        let p = m.partitions[i];
+        return partition::running_process(p) as u32;
+    }
+    0
+}
+
 fn print_heading(m: Module) {
     let table = m.table;
     let now = windows::lookup_at(table, m.t);
     print_number(b"module t ", m.t);
     print_number(b" current ", now.partition as u32);
-    print_number(b" running ", executive::running_in(m, now.partition) as u32);
+    print_number(b" running ", running_in(m, now.partition));
     print_number(b" frame ", table.frame as u32);
     print_number(b" partitions ", table.size as u32);
     print_number(b" windows ", table.windowCount as u32);

@@ -1,26 +1,25 @@
 -- The step's parts, put together, are the machine's step. Assumes nothing.
 use Prim.Native.Nat.{ℕ, zero, suc, _+_, _-_, _≤_, _<_}
-use mathlib.Core.Bool.{Bool, true, false, cond, not, _&&_, _||_, or-true}
+use mathlib.Core.Bool.{Bool, true, false, cond, not, or-true}
 use mathlib.Core.List.{[], _∷_}
 use mathlib.Core.Logic.{⊎-elim}
 use mathlib.Core.Path.{_≡_, refl, sym, ap, _∙_}
 use native.Mathlib.Omega.{arith}
-use lib.Dec.{eqb, leb}
+use lib.Dec.{eqb, leb, ltb}
 use lib.IntN.{ℤ}
-use lib.ListN.{length, List·getD-eq-default}
+use lib.ListN.{length, length-set, List·getD-eq-default}
 use lib.Seq.{set-getD}
 use mir.Syntax.{w64}
 use mir.Val.{toZ, ofZ, SFits}
 use mir.ValLaws.{toZ-ofZ}
-use borrow.Author.Tests.{eq-eqb, ne-eqb, lt-leb, leb-true, leb-false, eqb-false}
+use borrow.Author.Tests.{eq-eqb, ne-eqb, lt-ltb, le-ltb, lt-leb, ltb-false, leb-true, leb-false, eqb-false}
 use Rattle.channels.specs.Channels.{sentBy, readBy, erasedIn}
 use Rattle.channels.specs.declared.Messages.{Messages}
-use Rattle.channels.specs.declared.Sent.{Sent}
 use Rattle.events.specs.Due.{anyDue}
 use Rattle.machine.specs.Calls.{coded, checked, partitionCall}
 use Rattle.machine.specs.Field.{requestOf, numberOf, field, between}
 use Rattle.machine.specs.Limits.{timeLimit, partitionLimit}
-use Rattle.machine.specs.Module.{noPartition, emptyTable, emptyModule, lookup, releasePoint, part, current, runningIn, withPart, withTime, dueAt, tickAt, tickTo, partitionCount, tickModule, refuse, restarts, restarted, accepts, storedCall, callDone, malformed, noCaller, done, answerTo, step}
+use Rattle.machine.specs.Module.{noPartition, emptyTable, emptyModule, lookup, part, current, runningIn, withPart, withTime, dueAt, tickAt, tickTo, partitionCount, tickModule, refuse, restarts, restarted, accepts, storedCall, contextOf, callDone, malformed, noCaller, done, sees, answerTo, step}
 use Rattle.machine.specs.Partition.{running, noted}
 use Rattle.machine.specs.Valid.{SoundModule, Reached}
 use Rattle.machine.specs.Waiting.{waitingRefused, WaitingTime}
@@ -44,7 +43,7 @@ use Rattle.machine.proofs.Bounds.{either}
 use Rattle.machine.proofs.Reached.{reached-valid}
 use Rattle.machine.proofs.Tests.{by-test, not-both}
 use Rattle.windows.proofs.Waiting.{waiting-time}
-use Rattle.executive.specs.Executive.{turned, eventPlaces, callPlaces, applied, settled, Awaited}
+use Rattle.executive.specs.Executive.{turned, eventPlaces, callPlaces, applied, settled, outcomeOf, actOf, shownSlot, answerOf, Awaited}
 use Rattle.executive.specs.declared.Outcome.{Outcome}
 use Rattle.executive.specs.declared.Placed.{Placed}
 
@@ -56,61 +55,66 @@ module _ (m : Module) (long : length (m .partitions) ≡ partitionLimit) where
   pub no-caller-past : (k : ℕ) → partitionLimit < k → noCaller (part m (k - 1)) ≡ true
   no-caller-past k h = rw (none-past (k - 1) (omega arith))
 
-  pub none-runs-past : (k : ℕ) → (k ≡ 0 → ⊥) → partitionLimit ≤ k - 1 → 0 ≡ runningIn k m
+  none-runs-past : (k : ℕ) → partitionLimit ≤ k → running (part m k) ≡ 0
   unfolding running
-  none-runs-past k some h = rw (ne-eqb k 0 some, none-past (k - 1) h)
+  none-runs-past k h = rw (none-past k h)
 
-pub runs-in : (m : Module) (k n : ℕ) → (k ≡ 0 → ⊥) → n ≡ running (part m (k - 1)) → n ≡ runningIn k m
-runs-in m k n some h = rw (ne-eqb k 0 some) h
+  -- the running process of one partition is what the answer shows
+  module _ (r : Request) (k : ℕ) where
+    shown-running : cond (ltb (shownSlot r k) partitionLimit) (running (part m (shownSlot r k))) 0 ≡ cond (sees r k) (runningIn k m) 0
+    shown-running = either (eqb k 0)
+        (λ e. either (sees r k) (λ s. rw (e, s)) (λ s. rw (e, s)))
+        (λ e. either (sees r k)
+        (λ s. either (ltb (k - 1) partitionLimit)
+        (λ l. rw (e, s, l))
+        (λ l. rw (e, s, l) (sym (none-runs-past (k - 1) (ltb-false (k - 1) partitionLimit l)))))
+        (λ s. rw (e, s)))
+
+    module _ (i n : ℕ) (at : i ≡ shownSlot r k) where
+      shown-at : cond (ltb i partitionLimit) (running (part m i)) 0 ≡ cond (sees r k) (runningIn k m) 0
+      shown-at = rw at shown-running
+
+      pub runs-shown : i < partitionLimit → n ≡ running (part m i) → n ≡ cond (sees r k) (runningIn k m) 0
+      runs-shown h e = e ∙ (rw (lt-ltb i partitionLimit h) at shown-at)
+
+      pub none-shown : partitionLimit ≤ i → n ≡ 0 → n ≡ cond (sees r k) (runningIn k m) 0
+      none-shown h e = e ∙ (rw (le-ltb i partitionLimit h) at shown-at)
 
 -- ---------------------------------------------------------------- a call
--- what leaves partition and messages as they are leaves the module
-apply-same : (m : Module) (k : ℕ) (p : Partition) (a : Reply) → p ≡ part m (k - 1) → applied k (record { messages = messagesOf m; partition = p; reply = a }) m ≡ record { state = m; reply = a }
-apply-same m k p a e = rw (e, set-getD (m .partitions) (k - 1) noPartition)
+module _ (m : Module) (k : ℕ) where
+  -- where the partition stays as it is, the messages alone change
+  apply-messages : (q : Messages) (a : Reply) → applied k (record { messages = q; partition = part m (k - 1); reply = a }) m ≡ record { state = withMessages q m; reply = a }
+  apply-messages q a = rw (set-getD (m .partitions) (k - 1) noPartition)
 
--- and so with other messages
-apply-messages : (m : Module) (k : ℕ) (p : Partition) (q : Messages) (a : Reply) → p ≡ part m (k - 1) → applied k (record { messages = q; partition = p; reply = a }) m ≡ record { state = withMessages q m; reply = a }
-apply-messages m k p q a e = rw (e, set-getD (m .partitions) (k - 1) noPartition)
+  -- an accepted call's partition is stored
+  apply-settled : (n : ℕ) (r : Request) (c : Called) → applied k (settled (m .table) k n r (part m (k - 1)) (messagesOf m) c) m ≡ storedCall m k n r c
+  apply-settled n r c = either (accepts (c .reply))
+      (λ y. rw y (go (restarts n r)))
+      (λ y. rw (y, set-getD (m .partitions) (k - 1) noPartition))
+    where
+      go : (b : Bool) → applied k (record { messages = cond b (erasedIn (m .table) k (messagesOf m)) (messagesOf m); partition = noted (c .partition); reply = c .reply }) m
+          ≡ record { state = withPart (k - 1) (c .partition) (restarted b k m); reply = c .reply }
+      go true = rw (erased-messages k m)
+      go false = refl
 
--- an accepted call's partition is stored
-apply-settled : (m : Module) (k n : ℕ) (r : Request) (p : Partition) (c : Called) → p ≡ part m (k - 1) → applied k (settled (m .table) k n r p (messagesOf m) c) m ≡ storedCall m k n r c
-apply-settled m k n r p c e = either (accepts (c .reply))
-    (λ y. rw y (go (restarts n r)))
-    (λ y. rw (y, e, set-getD (m .partitions) (k - 1) noPartition))
-  where
-    go : (b : Bool) → applied k (record { messages = cond b (erasedIn (m .table) k (messagesOf m)) (messagesOf m); partition = noted (c .partition); reply = c .reply }) m
-        ≡ record { state = withPart (k - 1) (c .partition) (restarted b k m); reply = c .reply }
-    go true = rw (erased-messages k m)
-    go false = refl
+  module _ (r : Request) where
+    -- the body of a call is the machine's
+    body-applied : applied k (outcomeOf (m .table) (m .t) k r (part m (k - 1)) (running (part m (k - 1))) (messagesOf m)) m ≡ callDone m k (numberOf (r .call)) r
+    body-applied =
+        let n = numberOf (r .call) in
+        let s = sentBy (m .table) (m .t) k r (messagesOf m) in
+        either (eqb n 21)
+        (λ e. rw e (apply-messages (s .messages) (s .reply) ∙ sym (write-sent m k r)))
+        (λ e. either (eqb n 22)
+        (λ f. rw (e, f) (apply-messages (messagesOf m) (readBy (m .table) (m .t) k r (messagesOf m)) ∙ sym (read-replied m k r)))
+        (λ f. rw (e, f) (apply-settled n r (partitionCall (contextOf m k) n r (part m (k - 1))))))
 
-module _ (m : Module) (k : ℕ) (r : Request) (p : Partition) (own : p ≡ part m (k - 1)) where
-  module _ (n : ℕ) (number : n ≡ numberOf (r .call)) where
-    pub body-write : (s : Sent) → s ≡ sentBy (m .table) (m .t) k r (messagesOf m) → n ≡ 21 → applied k (record { messages = s .messages; partition = p; reply = s .reply }) m ≡ callDone m k (numberOf (r .call)) r
-    body-write s h e = apply-messages m k p (s .messages) (s .reply) own ∙ rw (h, ← number, eq-eqb n 21 e) (sym (write-sent m k r))
-
-    pub body-read : (a : Reply) → a ≡ readBy (m .table) (m .t) k r (messagesOf m) → (n ≡ 21 → ⊥) → n ≡ 22 → applied k (record { messages = messagesOf m; partition = p; reply = a }) m ≡ callDone m k (numberOf (r .call)) r
-    body-read a h ne e = apply-same m k p a own ∙ rw (h, ← number, ne-eqb n 21 ne, eq-eqb n 22 e) (sym (read-replied m k r))
-
-    pub body-settle : (caller at : ℕ) (c : Called) (o : Outcome) → caller ≡ running p → at ≡ releasePoint (m .table) (m .t) k
-        → c ≡ partitionCall (record { time = m .t; frame = m .table .frame; release = at; caller = caller }) n r p
-        → o ≡ settled (m .table) k n r p (messagesOf m) c → (n ≡ 21 → ⊥) → (n ≡ 22 → ⊥) → applied k o m ≡ callDone m k (numberOf (r .call)) r
-    body-settle caller at c o runs h f g ne nf =
-        rw g (apply-settled m k n r p c own ∙ rw (f, h, runs, own, ← number, ne-eqb n 21 ne, ne-eqb n 22 nf))
-
-  -- 9 comes first
-  module _ (caller : ℕ) (b : Bool) (runs : caller ≡ running p) (silent : b ≡ (eqb (p .mode) 0 || (eqb (p .mode) 3 && eqb caller 0))) where
-    no-caller : b ≡ noCaller (part m (k - 1))
-    no-caller = rw (silent, runs, own)
-
-    pub act-silent : (a : Reply) → a ≡ coded 9 → b ≡ true
-        → applied k (record { messages = messagesOf m; partition = p; reply = a }) m ≡ checked (refuse m) ((noCaller (part m (k - 1)), 9) ∷ []) (callDone m k (numberOf (r .call)) r)
+    -- and so with 9 before it
+    pub act-applied : applied k (actOf (m .table) (m .t) k r (part m (k - 1)) (messagesOf m)) m ≡ checked (refuse m) ((noCaller (part m (k - 1)), 9) ∷ []) (callDone m k (numberOf (r .call)) r)
     unfolding checked
-    act-silent a h e = apply-same m k p a own ∙ rw (h, ← no-caller, e)
-
-    pub act-called : (o : Outcome) → applied k o m ≡ callDone m k (numberOf (r .call)) r → b ≡ false
-        → applied k o m ≡ checked (refuse m) ((noCaller (part m (k - 1)), 9) ∷ []) (callDone m k (numberOf (r .call)) r)
-    unfolding checked
-    act-called o h e = h ∙ rw (← no-caller, e)
+    act-applied = either (noCaller (part m (k - 1)))
+        (λ e. rw e (apply-messages (messagesOf m) (coded 9)))
+        (λ e. rw e body-applied)
 
 -- ---------------------------------------------------------------- the places
 -- the code of the places, with the window looked up at the time after the event
@@ -166,10 +170,10 @@ module _ (m : Module) (r : Request) (long : length (m .partitions) ≡ partition
       (λ b e. rw (b, e) (stands-checked (refuse m) Called? ((not (eqb (current m) own), 8) ∷ []) _ Called? refl past))
 
 -- where no place refuses a call, the record has its partition
-pub place-partition : (c k now n : ℕ) → n ≡ callPlaces c k now → n ≡ 0 → (k ≡ 0 → ⊥) → k ≤ partitionLimit
+pub place-partition : (c k now : ℕ) (a : Reply) → a ≡ coded (callPlaces c k now) → a .code ≡ 0 → (k ≡ 0 → ⊥) → k ≤ partitionLimit
 unfolding checked
-place-partition c k now n found none some =
-    let passed : callPlaces c k now ≡ 0 = sym found ∙ none in
+place-partition c k now a said none some =
+    let passed : callPlaces c k now ≡ 0 = rw said at none in
     either (eqb c 0)
     (λ z. either (eqb now k)
     (λ l. either (leb k partitionLimit)
@@ -179,65 +183,72 @@ place-partition c k now n found none some =
     (λ z. absurd (eqb-false c 0 z (rw z at passed)))
 
 -- ---------------------------------------------------------------- one event
--- the tick of the partitions leaves the current one
-tick-lookup : (n : ℕ) (m : Module) → lookup (m .table) (m .t) ≡ lookup (tickTo n m .table) (tickTo n m .t)
+-- what storing a partition leaves, the tick of the partitions leaves
+tick-keeps : (P : Module → Type 0) → ((i : ℕ) (p : Partition) (q : Module) → P q → P (withPart i p q)) → (n : ℕ) (m : Module) → P m → P (tickTo n m)
 unfolding tickTo tickAt
-tick-lookup zero m = refl
-tick-lookup (suc n) m = by-test (λ (q : Module). lookup (m .table) (m .t) ≡ lookup (q .table) (q .t)) (dueAt n (tickTo n m)) (λ _. tick-lookup n m) (λ _. tick-lookup n m)
+tick-keeps P f zero m h = h
+tick-keeps P f (suc n) m h = by-test P (dueAt n (tickTo n m)) (λ _. f n _ (tickTo n m) (tick-keeps P f n m h)) (λ _. tick-keeps P f n m h)
 
--- record and reply after an event are the machine's, and the window was looked up as it is then
+-- record and reply after an event are the machine's, the record has its places, and the window was looked up as it is then
 pub record After (m : Module) (r : Request) (l : Lookup) (q : Module) (b : Reply) : Type 0 where
   pub did : record { state = q; reply = b } ≡ done m r
-  pub sees : l ≡ lookup (q .table) (q .t)
+  pub long : length (q .partitions) ≡ partitionLimit
+  pub window : l ≡ lookup (q .table) (q .t)
 
--- what the code finds of an event: its partition k, x before the lookup, l the lookup, n the code of the places, a the reply
-pub record Found (m : Module) (r : Request) (k : ℕ) (x : Placed) (l : Lookup) (n : ℕ) (a : Reply) : Type 0 where
+-- what the code finds of an event: its partition k, x before the lookup, l the lookup, a the reply of the places
+pub record Found (m : Module) (r : Request) (k : ℕ) (x : Placed) (l : Lookup) (a : Reply) : Type 0 where
   pub long : length (m .partitions) ≡ partitionLimit
   pub partition : k ≡ numberOf (r .partition)
   pub first : x ≡ eventPlaces (m .table) (m .t) k r
   pub looked : l ≡ lookup (m .table) (x .time)
-  pub code : n ≡ callPlaces (x .code) k (l .partition)
-  pub said : a ≡ coded n
+  pub said : a ≡ coded (callPlaces (x .code) k (l .partition))
 
-module _ {m : Module} {r : Request} {k : ℕ} {x : Placed} {l : Lookup} {n : ℕ} {a : Reply} (f : Found m r k x l n a) where
-  found : n ≡ codeOf (m .table) (numberOf (r .partition)) (eventPlaces (m .table) (m .t) (numberOf (r .partition)) r)
-  found = rw (f .code, f .looked, f .first, f .partition)
+module _ {m : Module} {r : Request} {k : ℕ} {x : Placed} {l : Lookup} {a : Reply} (f : Found m r k x l a) where
+  found : a .code ≡ codeOf (m .table) (numberOf (r .partition)) (eventPlaces (m .table) (m .t) (numberOf (r .partition)) r)
+  found = rw (f .said, f .looked, f .first, f .partition)
 
-  time : x .time ≡ cond (eqb k 0) (cond (eqb n 0) (m .t + 1) (m .t)) (m .t)
+  time : x .time ≡ cond (eqb k 0) (cond (eqb (a .code) 0) (m .t + 1) (m .t)) (m .t)
   time = rw (found, f .first, f .partition) (time-after (m .table) (m .t) (numberOf (r .partition)) r)
 
-  accepted : n ≡ 0 → cond (eqb k 0) (record { state = tickModule m; reply = coded 0 }) (checked (refuse m) ((noCaller (part m (k - 1)), 9) ∷ []) (callDone m k (numberOf (r .call)) r)) ≡ done m r
+  accepted : a .code ≡ 0 → cond (eqb k 0) (record { state = tickModule m; reply = coded 0 }) (checked (refuse m) ((noCaller (part m (k - 1)), 9) ∷ []) (callDone m k (numberOf (r .call)) r)) ≡ done m r
   accepted none = rw (f .partition) (sym (placed m r (f .long) .accepts (sym found ∙ none)))
+
+  coded-reply : a ≡ coded (a .code)
+  coded-reply = rw (f .said)
 
   -- q and b are record and reply after the event
   module _ {q : Module} {b : Reply} where
-    pub step-refused : (n ≡ 0 → ⊥) → q ≡ m → b ≡ a → After m r l q b
+    pub step-refused : (a .code ≡ 0 → ⊥) → q ≡ m → b ≡ a → After m r l q b
     step-refused e g h = record {
-      did = rw (g, h, f .said, found) (sym (placed m r (f .long) .refuses (λ z. e (found ∙ z))));
-      sees = rw (g, f .looked, time, ne-eqb n 0 e) (either (eqb k 0) (λ z. rw z) (λ z. rw z));
+      did = rw (g, h ∙ coded-reply, found) (sym (placed m r (f .long) .refuses (λ z. e (found ∙ z))));
+      long = rw g (f .long);
+      window = rw (g, f .looked, time, ne-eqb (a .code) 0 e) (either (eqb k 0) (λ z. rw z) (λ z. rw z));
     }
 
-    pub step-ticked : n ≡ 0 → k ≡ 0 → q ≡ tickTo (partitionCount (m .table)) (withTime (x .time) m) → b ≡ a → After m r l q b
+    pub step-ticked : a .code ≡ 0 → k ≡ 0 → q ≡ tickTo (partitionCount (m .table)) (withTime (x .time) m) → b ≡ a → After m r l q b
     step-ticked none z g h = record {
-      did = rw (g, time, h, f .said, none, eq-eqb k 0 z) (rw (eq-eqb k 0 z) at (accepted none));
-      sees = rw (g, f .looked) (tick-lookup (partitionCount (m .table)) (withTime (x .time) m));
+      did = rw (g, time, h ∙ coded-reply, none, eq-eqb k 0 z) (rw (eq-eqb k 0 z) at (accepted none));
+      long = rw g (tick-keeps (λ (y : Module). length (y .partitions) ≡ partitionLimit) (λ i p y s. length-set (y .partitions) i (noted p) ∙ s) (partitionCount (m .table)) (withTime (x .time) m) (f .long));
+      window = rw (g, f .looked) (tick-keeps (λ (y : Module). lookup (m .table) (x .time) ≡ lookup (y .table) (y .t)) (λ i p y s. s) (partitionCount (m .table)) (withTime (x .time) m) refl);
     }
 
-    pub step-quiet : n ≡ 0 → (d : Bool) → d ≡ anyDue (withTime (x .time) m) → d ≡ false → k ≡ 0 → q ≡ withTime (x .time) m → b ≡ a → After m r l q b
+    pub step-quiet : a .code ≡ 0 → (d : Bool) → d ≡ anyDue (withTime (x .time) m) → d ≡ false → k ≡ 0 → q ≡ withTime (x .time) m → b ≡ a → After m r l q b
     step-quiet none d due e z g h = step-ticked none z (g ∙ sym (tick-same (withTime (x .time) m) (sym due ∙ e))) h
 
-    pub step-called : n ≡ 0 → (o : Outcome) → applied k o m ≡ checked (refuse m) ((noCaller (part m (k - 1)), 9) ∷ []) (callDone m k (numberOf (r .call)) r) → (k ≡ 0 → ⊥) → q ≡ applied k o m .state → b ≡ o .reply → After m r l q b
+    pub step-called : a .code ≡ 0 → (o : Outcome) → o ≡ actOf (m .table) (m .t) k r (part m (k - 1)) (messagesOf m) → (k ≡ 0 → ⊥) → q ≡ applied k o m .state → b ≡ o .reply → After m r l q b
     step-called none o d z g h = record {
-      did = rw (g, h) (d ∙ (rw (ne-eqb k 0 z) at (accepted none)));
-      sees = rw (g, f .looked, time, ne-eqb k 0 z);
+      did = rw (g, h, d) (act-applied m k r ∙ (rw (ne-eqb k 0 z) at (accepted none)));
+      long = rw g (length-set (m .partitions) (k - 1) (o .partition) ∙ f .long);
+      window = rw (g, f .looked, time, ne-eqb k 0 z);
     }
 
 -- the answer is read off the record after the event
-pub step-answered : (m : Module) (e : Event) (r : Request) (q : Module) (b : Reply) (a : Answer) → r ≡ requestOf e → record { state = q; reply = b } ≡ done m r → a ≡ answerTo r (record { state = q; reply = b })
+pub step-answered : (m : Module) (e : Event) (r : Request) (l : Lookup) (q : Module) (b : Reply) (n : ℕ) (a : Answer) → r ≡ requestOf e → After m r l q b
+    → n ≡ cond (sees r (l .partition)) (runningIn (l .partition) q) 0 → a ≡ answerOf b (q .t) (l .partition) n
     → record { executive = record { inner = q }; answer = a } ≡ turned (step m e)
 unfolding step
-step-answered m e r q b a heard did said =
-    rw said (ap (λ (d : Done). turned (record { state = d .state; answer = answerTo r d })) did
+step-answered m e r l q b n a heard after shows said =
+    rw (said, shows, after .window) (ap (λ (d : Done). turned (record { state = d .state; answer = answerTo r d })) (after .did)
     ∙ ap (λ (x : Request). turned (record { state = done m x .state; answer = answerTo x (done m x) })) heard)
 
 -- ---------------------------------------------------------------- the waiting time

@@ -6,13 +6,13 @@ use mathlib.Core.Path.{_≡_}
 use lib.Dec.{eqb, leb}
 use lib.IntN.{ℤ}
 use lib.ListN.{set}
-use Rattle.channels.specs.Channels.{erasedIn}
+use Rattle.channels.specs.Channels.{sentBy, readBy, erasedIn}
 use Rattle.channels.specs.declared.Messages.{Messages}
-use Rattle.machine.specs.Calls.{checked}
-use Rattle.machine.specs.Field.{field}
+use Rattle.machine.specs.Calls.{coded, checked, partitionCall}
+use Rattle.machine.specs.Field.{field, numberOf}
 use Rattle.machine.specs.Limits.{timeLimit, partitionLimit}
-use Rattle.machine.specs.Module.{current, restarts, accepts, malformed}
-use Rattle.machine.specs.Partition.{noted}
+use Rattle.machine.specs.Module.{releasePoint, current, restarts, accepts, malformed, noCaller, sees}
+use Rattle.machine.specs.Partition.{running, noted}
 use Rattle.machine.specs.Text.{lineRefusal}
 use Rattle.machine.specs.Valid.{SoundTable}
 use Rattle.machine.specs.Waiting.{waitingRefused, WaitingTime}
@@ -22,6 +22,7 @@ use Rattle.machine.specs.declared.Done.{Done}
 use Rattle.machine.specs.declared.Module.{Module}
 use Rattle.machine.specs.declared.Partition.{Partition}
 use Rattle.machine.specs.declared.Reading.{Reading}
+use Rattle.machine.specs.declared.Reply.{Reply}
 use Rattle.machine.specs.declared.Request.{Request}
 use Rattle.machine.specs.declared.Stepped.{Stepped}
 use Rattle.machine.specs.declared.Table.{Table}
@@ -69,6 +70,31 @@ abbrev pub settled : Table → ℕ → ℕ → Request → Partition → Message
 settled T k n r p q c = cond (accepts (c .reply))
     (record { messages = cond (restarts n r) (erasedIn T k q) q; partition = noted (c .partition); reply = c .reply })
     (record { messages = q; partition = p; reply = c .reply })
+
+-- The body of a call: 21 WRITE and 22 READ see the messages, every other its partition's own record.
+-- Its caller is the running process; in start modes the main program, which is no process: 0.
+abbrev pub outcomeOf : Table → ℕ → ℕ → Request → Partition → ℕ → Messages → Outcome
+outcomeOf T t k r p caller q =
+    let n = numberOf (r .call) in
+    let s = sentBy T t k r q in
+    cond (eqb n 21) (record { messages = s .messages; partition = p; reply = s .reply })
+    (cond (eqb n 22) (record { messages = q; partition = p; reply = readBy T t k r q })
+    (settled T k n r p q (partitionCall (record { time = t; frame = T .frame; release = releasePoint T t k; caller = caller }) n r p)))
+
+-- A call by the current partition: 9, IDLE, or NORMAL and nothing runs; then its body.
+abbrev pub actOf : Table → ℕ → ℕ → Request → Partition → Messages → Outcome
+actOf T t k r p q =
+    checked (λ n. record { messages = q; partition = p; reply = coded n }) ((noCaller p, 9) ∷ [])
+    (outcomeOf T t k r p (running p) q)
+
+-- Where the current partition k lies, if its running process is shown: that reads 0 where the event's partition is neither 0 nor current.
+-- Past the last partition where it is not shown, or none is current.
+abbrev pub shownSlot : Request → ℕ → ℕ
+shownSlot r k = cond (eqb k 0) partitionLimit (cond (sees r k) (k - 1) partitionLimit)
+
+-- The answer is code, value, extra, then t, current partition, running process.
+abbrev pub answerOf : Reply → ℕ → ℕ → ℕ → Answer
+answerOf a t k n = record { code = a .code; value = a .value; extra = a .extra; t = t; current = k; running = n }
 
 -- the waiting time: 13 and 0, or code 0; of a sound table, which every record but the empty one has, it is as document 01 says
 pub record Awaited (T : Table) (t k : ℤ) (w : Waiting) : Type 0 where

@@ -1,22 +1,15 @@
 // The executive: a module that comes only from table reading and from events.
 ghost use mathlib.Core.Path.{_≡_};
 ghost use mathlib.Core.Bool.{cond};
-ghost use mathlib.Core.List.{[], _∷_};
-ghost use Prim.Native.Nat.{_-_, _≤_, _<_};
-ghost use Rattle.machine.specs.Limits.{partitionLimit};
-ghost use Rattle.machine.specs.Field.{numberOf};
-ghost use Rattle.machine.specs.Partition.{running};
-ghost use Rattle.machine.specs.Calls.{checked};
-ghost use Rattle.machine.specs.Module.{lookup, part, runningIn, refuse, restarts, accepts, callDone, noCaller, sees, answerTo, step};
+ghost use Rattle.machine.specs.Module.{restarts, accepts, sees, step};
 ghost use Rattle.machine.specs.Table.{readTable};
 ghost use Rattle.channels.specs.Channels.{erasedIn};
-ghost use Rattle.executive.specs.Executive.{turned, opened, unread, eventPlaces, callPlaces, applied, settled, Awaited};
+ghost use Rattle.executive.specs.Executive.{turned, opened, unread, eventPlaces, callPlaces, settled, outcomeOf, actOf, shownSlot, answerOf, Awaited};
 use channels::Messages;
 use machine::Answer;
 use machine::Called;
 use machine::Context;
 use machine::Event;
-use machine::Lookup;
 use machine::Module;
 use machine::Partition;
 use machine::Reply;
@@ -138,17 +131,13 @@ fn settle(q: Messages, table: Table, k: u32, n: u32, r: Request, p: Partition, c
 }
 
 // The body of a call by partition k, whose record is p.
-fn body(m: Module, k: u32, r: Request, p: Partition, caller: u8) -> Outcome
-    requires { ⌜ (p ≡ part m (k - 1)) × (caller ≡ running p) ⌝ }
-    ensures { λ o. ⌜ applied k o m ≡ callDone m k (numberOf (r .call)) r ⌝ }
+fn body(q: Messages, table: Table, t: u32, k: u32, r: Request, p: Partition, caller: u8) -> Outcome
+    ensures { λ o. ⌜ o ≡ outcomeOf table t k r p caller q ⌝ }
 {
-    let table = m.table;
-    let items = m.messages;
-    let q = Messages { items };
     let call = r.call;
     let n = fields::number_of(call);
     if n == 21 {
-        let s = channels::write(q, table, m.t, k, r);
+        let s = channels::write(q, table, t, k, r);
         let messages = s.messages;
         let reply = s.reply;
         return Outcome {
@@ -161,35 +150,31 @@ fn body(m: Module, k: u32, r: Request, p: Partition, caller: u8) -> Outcome
         return Outcome {
             messages: q,
             partition: p,
-            reply: channels::read(q, table, m.t, k, r),
+            reply: channels::read(q, table, t, k, r),
         };
     }
     let context = Context {
-        time: m.t,
+        time: t,
         frame: table.frame,
-        release: windows::release_point(table, m.t, k),
+        release: windows::release_point(table, t, k),
         caller,
     };
     settle(q, table, k, n, r, p, services::call(p, context, n, r))
 }
 
-// A call by the current partition k: 9, then its body.
-fn act(m: Module, k: u32, r: Request) -> Outcome
-    requires { ⌜ (0 < k) × (k ≤ partitionLimit) ⌝ }
-    ensures { λ o. ⌜ applied k o m ≡ checked (refuse m) ((noCaller (part m (k - 1)), 9) ∷ []) (callDone m k (numberOf (r .call)) r) ⌝ }
+// A call by the current partition k, whose record is p: 9, then its body.
+fn act(q: Messages, table: Table, t: u32, k: u32, r: Request, p: Partition) -> Outcome
+    ensures { λ o. ⌜ o ≡ actOf table t k r p q ⌝ }
 {
-    let i = (k - 1) as usize;
-    let p = m.partitions[i];
     let caller = partition::running_process(p);
     if events::is_silent(p.mode, caller) {
-        let items = m.messages;
         return Outcome {
-            messages: Messages { items },
+            messages: q,
             partition: p,
             reply: channels::reply_of(9),
         };
     }
-    body(m, k, r, p, caller)
+    body(q, table, t, k, r, p, caller)
 }
 
 // ---------------------------------------------------------------- the answer
@@ -201,40 +186,31 @@ fn is_shown(r: Request, k: u8) -> bool
     fields::is_number(own, 0) || fields::is_number(own, k as u32)
 }
 
-// The running process of the current partition k; 0 where there is none.
-pub fn running_in(m: Module, k: u8) -> u8
-    ensures { λ n. ⌜ n ≡ runningIn k m ⌝ }
+// Where the partition lies whose running process the event is shown, k being current; past the last for none.
+fn shown_slot(r: Request, k: u8) -> usize
+    ensures { λ i. ⌜ i ≡ shownSlot r k ⌝ }
 {
     if k == 0 {
-        return 0;
+        return Module::PARTITIONS;
     }
-    let i = (k - 1) as usize;
-    if i < Module::PARTITIONS {
-        let p = m.partitions[i];
-        return partition::running_process(p);
+    if is_shown(r, k) {
+        (k - 1) as usize
+    } else {
+        Module::PARTITIONS
     }
-    0
 }
 
-fn running_shown(m: Module, r: Request, k: u8) -> u8
-    ensures { λ n. ⌜ n ≡ cond (sees r k) (runningIn k m) 0 ⌝ }
-{
-    if is_shown(r, k) { running_in(m, k) } else { 0 }
-}
-
-// The answer, read off the module after the event and the lookup at its time.
-fn answer_of(m: Module, r: Request, reply: Reply, now: Lookup) -> Answer
-    requires { ⌜ now ≡ lookup (m .table) (m .t) ⌝ }
-    ensures { λ a. ⌜ a ≡ answerTo r (record { state = m; reply = reply }) ⌝ }
+fn answer_of(reply: Reply, t: u32, current: u8, running: u8) -> Answer
+    ensures { λ a. ⌜ a ≡ answerOf reply t current running ⌝ }
 {
     let extra = reply.extra;
     Answer {
         code: reply.code,
         value: reply.value,
         extra,
-        t: m.t,
-        current: now.partition,
-        running: running_shown(m, r, now.partition),
+        t,
+        current,
+        running,
     }
 }
 
@@ -264,31 +240,34 @@ impl Executive {
         let table = m.table;
         let placed = event_places(table, m.t, k, r);
         let now = windows::lookup_at(table, placed.time);
-        let code = call_places(placed.code, k, now.partition);
-        let mut reply = channels::reply_of(code);
-        if code == 0 {
+        let mut reply = channels::reply_of(call_places(placed.code, k, now.partition));
+        if reply.code == 0 {
             if k == 0 {
                 m.t = placed.time;
                 if events::is_any_due(m) {
                     m = events::tick_partitions(m);
                 }
             } else {
-                let o = act(m, k, r);
+                let i = (k - 1) as usize;
+                let items = m.messages;
+                let o = act(Messages { items }, table, m.t, k, r, m.partitions[i]);
                 let messages = o.messages;
-                let items = messages.items;
+                let kept = messages.items;
                 let p = o.partition;
                 let said = o.reply;
-                let i = (k - 1) as usize;
-                m.messages = items;
+                m.messages = kept;
                 m.partitions[i] = p;
                 reply = said;
             }
         }
-        let answer = answer_of(m, r, reply, now);
-        Turn {
-            executive: Executive { inner: m },
-            answer,
+        let shown = shown_slot(r, now.partition);
+        let mut running: u8 = 0;
+        if shown < Module::PARTITIONS {
+            running = partition::running_process(m.partitions[shown]);
         }
+        let executive = Executive { inner: m };
+        let answer = answer_of(reply, m.t, now.partition, running);
+        Turn { executive, answer }
     }
 
     // The whole record.

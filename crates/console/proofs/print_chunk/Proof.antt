@@ -34,7 +34,7 @@ Advanced = lts.After-advance (advance-reads.Asked, advance-reads.Learnt, print-r
 abbrev start : Advanced → tie.Start Inv-loop μ-loop
 start c = c .before .before .before .before .before .before .before
 
-turn : (c : Advanced) → Turned (start c .args .s) (start c .args .chunk .now) (start c .args .out .now) (c .before .before .before .before .loop .at) (c .advance .result) (c .advance .last .2 .0)
+turn : (c : Advanced) → Turned (start c .args .s) (start c .args .chunk .now) (start c .args .out .now) (c .before .before .before .before .loop .at) (c .advance .result) (c .advance .last .1 .1 .0)
 turn c =
     turned _ _ _ _ _ _ (c .before .before .before .before .loop .inv) (c .before .before .before .loop-test .taken) (start c .pre)
     _ (tail-is (c .before .before .before .before .loop .at) (start c .args .chunk .now)) _ (c .advance .ensures .0) _ (c .advance .ensures .1)

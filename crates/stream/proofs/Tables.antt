@@ -47,7 +47,7 @@ next-same f g j l e (inr h) = inr (record { same = λ ls. e ls ∙ h .same ls �
 next-at : (f : List Line → Reading) (j k : ℕ) (l : Line) → j ≡ k → Next f j l → Next f k l
 next-at f j k l e h = rw (← e) h
 
-six-good : (x : Numbers) → Six x ≡ Bad → ⊥
+pub six-good : (x : Numbers) → Six x ≡ Bad → ⊥
 six-good x e = let q : _≡_ {A = ℕ} 0 lineRefusal = ap lineCode e in omega arith
 
 -- what is refused whatever follows

@@ -3,23 +3,21 @@ use Prim.Native.Nat.{ℕ, suc, _+_, _-_, _≤_, _<_, min}
 use native.Mathlib.Nat.{min-eq-left, min-eq-right}
 use mathlib.Core.Path.{_≡_, refl, sym, ap, _∙_}
 use mathlib.Core.Bool.{Bool, true, false, cond, _&&_}
-use mathlib.Core.List.{List, [], _∷_, _++_, append-assoc, append-nil}
+use mathlib.Core.List.{List, [], _∷_, _++_, append-assoc}
 use native.Mathlib.Omega.{arith}
 use native.Mathlib.Numerals.{add-one}
-use lib.ListN.{length, getD, take, drop, set, length-append, length-take, length-drop, length-set, take-append-drop, drop-of-length-le}
-use lib.Seq.{take-all, drop-cons, drop-drop, take-append-seam, drop-append-seam, take-at, drop-at, length-take-le, set-out}
+use lib.ListN.{length, getD, take, drop, set, length-append, length-drop, length-set, take-append-drop, drop-of-length-le}
+use lib.Seq.{take-all, drop-cons, drop-drop, take-at, drop-at, length-take-le, set-out}
 use lib.Dec.{leb, ltb}
 use borrow.Author.Tests.{le-leb, leb-true, leb-false, ltb-false}
 use Rattle.machine.specs.declared.Numbers.{Numbers}
 use Rattle.machine.specs.Limits.{lineLength}
-use Rattle.machine.specs.Text.{lineText, numberList, allInRange}
+use Rattle.machine.specs.Text.{numberList, allInRange}
 use Rattle.machine.proofs.Bounds.{either}
 use Rattle.machine.proofs.Tests.{by-test}
 use Rattle.machine.proofs.TextLine.{six-length}
-use Rattle.stream.specs.declared.Place.{Place}
 use Rattle.stream.specs.declared.Spoken.{Spoken}
 use Rattle.stream.specs.declared.Stream.{Stream}
-use Rattle.stream.specs.declared.Advance.{Advance}
 use Rattle.stream.specs.Stream.{heldLimit, at, close, turn, textOf, said, oneMore, put, due, Fed, feed, Run, run, over, advanceOf, closed, finished}
 use Rattle.stream.proofs.Turns.{Prints}
 

@@ -1,12 +1,12 @@
 -- The parts of a stream's code, put together, are its definitions. Assumes nothing.
-use Prim.Native.Nat.{ℕ, suc, _+_, _-_, _≤_, _<_}
+use Prim.Native.Nat.{ℕ, _+_, _-_, _≤_}
 use mathlib.Core.Path.{_≡_, refl, sym, ap, _∙_}
-use mathlib.Core.Bool.{Bool, true, false, cond, not, _&&_}
-use mathlib.Core.List.{List, [], _∷_, _++_}
+use mathlib.Core.Bool.{Bool, true, false}
+use mathlib.Core.List.{List, _++_}
 use native.Mathlib.Omega.{arith}
-use lib.ListN.{length, take, drop, length-append, length-drop, take-append-drop}
-use lib.Dec.{eqb, leb}
-use borrow.Author.Tests.{eq-eqb, ne-eqb, eqb-true, leb-true, leb-false, le-leb, lt-leb}
+use lib.ListN.{length, take, drop, length-drop, take-append-drop}
+use lib.Dec.{leb}
+use borrow.Author.Tests.{eq-eqb, ne-eqb, le-leb}
 use Rattle.machine.specs.declared.Event.{Event}
 use Rattle.machine.specs.declared.Line.{Line}
 use Rattle.machine.specs.declared.Line.the-variants.{Six}
@@ -17,7 +17,7 @@ use Rattle.machine.specs.Module.{step}
 use Rattle.machine.specs.Table.{readTable}
 use Rattle.machine.specs.Replay.{eventOf, answerNumbers}
 use Rattle.machine.proofs.Bounds.{either}
-use Rattle.machine.proofs.Tests.{and-left, and-right}
+use Rattle.machine.proofs.Tests.{and-right}
 use Rattle.machine.proofs.TextLine.{six-length}
 use Rattle.executive.specs.Executive.{turned, opened}
 use Rattle.executive.specs.declared.Executive.{Executive}

@@ -3,24 +3,22 @@ use Prim.Native.Nat.{ℕ, suc, _+_, _-_, _≤_, _<_, min}
 use native.Mathlib.Nat.{min-eq-left, min-eq-right}
 use mathlib.Core.Path.{_≡_, refl, sym, ap, _∙_}
 use mathlib.Core.Bool.{Bool, true, false, cond, _&&_}
-use mathlib.Core.List.{List, [], _∷_, _++_, append-assoc, append-nil}
+use mathlib.Core.List.{List, [], _∷_, _++_, append-assoc}
 use native.Mathlib.Omega.{arith}
 use native.Mathlib.Numerals.{add-one}
-use lib.ListN.{length, getD, take, drop, set, length-append, length-take, length-drop, length-set, take-append-drop, drop-of-length-le}
-use lib.Seq.{take-all, drop-cons, drop-drop, take-append-seam, drop-append-seam, take-at, drop-at, length-take-le, set-out}
+use lib.ListN.{length, getD, take, drop, set, length-append, length-drop, length-set, take-append-drop, drop-of-length-le}
+use lib.Seq.{take-all, drop-cons, drop-drop, take-at, drop-at, length-take-le, set-out}
 use lib.Dec.{leb, ltb}
-use borrow.Author.Tests.{le-leb, lt-ltb, le-ltb, leb-true, leb-false}
+use borrow.Author.Tests.{le-leb, leb-true, leb-false, ltb-false}
 use Rattle.machine.specs.declared.Numbers.{Numbers}
 use Rattle.machine.specs.Limits.{lineLength}
-use Rattle.machine.specs.Text.{lineText, numberList, allInRange}
+use Rattle.machine.specs.Text.{numberList, allInRange}
 use Rattle.machine.proofs.Bounds.{either}
 use Rattle.machine.proofs.Tests.{by-test}
 use Rattle.machine.proofs.TextLine.{six-length}
-use Rattle.stream.specs.declared.Place.{Place}
 use Rattle.stream.specs.declared.Spoken.{Spoken}
 use Rattle.stream.specs.declared.Stream.{Stream}
-use Rattle.stream.specs.declared.Advance.{Advance}
-use Rattle.stream.specs.Stream.{heldLimit, at, close, turn, textOf, said, put, due, Fed, feed, Run, run, over, advanceOf, closed, finished}
+use Rattle.stream.specs.Stream.{heldLimit, at, close, turn, textOf, said, oneMore, put, due, Fed, feed, Run, run, over, advanceOf, closed, finished}
 use Rattle.stream.proofs.Turns.{Prints}
 
 -- ---------------------------------------------------------------- what is held
@@ -43,14 +41,14 @@ pub put-length : (s : Stream) (b : ℕ) (p : Stream) → length (s .held) ≡ he
 put-length s b p h e = ap (λ (q : Stream). length (q .held)) e ∙ length-set (s .held) (s .place .count) b ∙ h
 
 -- ---------------------------------------------------------------- one byte
-module _ (s : Stream) (b : ℕ) where
-  -- the byte is stored, or all places are taken
-  module _ (held : List ℕ) (x : Place) where
-    pub put-more : s .place .count < heldLimit → held ≡ set (s .held) (s .place .count) b → x ≡ at (s .place .stage) (s .place .executive) (s .place .count + 1) → record { place = x; held = held } ≡ put s b
-    put-more h e f = rw (e, f, lt-ltb (s .place .count) heldLimit h)
+-- all places are taken, or the byte is stored
+store-held : (held : List ℕ) (n b : ℕ) → length held ≡ heldLimit → cond (ltb n heldLimit) (set held n b) held ≡ set held n b
+store-held held n b e = either (ltb n heldLimit) (λ t. rw t) (λ t. let far : heldLimit ≤ n = ltb-false n heldLimit t in rw t (sym (set-out held n b (omega arith))))
 
-    pub put-full : length (s .held) ≡ heldLimit → heldLimit ≤ s .place .count → held ≡ s .held → x ≡ s .place → record { place = x; held = held } ≡ put s b
-    put-full n h e f = rw (e, f, le-ltb (s .place .count) heldLimit h, set-out (s .held) (s .place .count) b (omega arith))
+module _ (s : Stream) (b : ℕ) where
+  pub put-held : (n : ℕ) (held : List ℕ) → length (s .held) ≡ heldLimit → n ≡ oneMore (s .place .count) → held ≡ cond (ltb (s .place .count) heldLimit) (set (s .held) (s .place .count) b) (s .held)
+      → record { place = at (s .place .stage) (s .place .executive) n; held = held } ≡ put s b
+  put-held n held h e f = rw (e, f, store-held (s .held) (s .place .count) b h)
 
   fed-held : due (put s b .place .stage) (put s b .place .count) b ≡ false → feed s b ≡ record { stream = put s b; text = [] }
   unfolding feed

@@ -1,7 +1,7 @@
 -- A table line by line: as long as its next line is missing, what one more line settles. Assumes nothing.
 use Prim.Native.Nat.{ℕ, zero, suc, _+_, _≤_, _<_}
 use mathlib.Core.Path.{_≡_, refl, sym, ap, _∙_}
-use mathlib.Core.Bool.{Bool, true, false, cond}
+use mathlib.Core.Bool.{true}
 use mathlib.Core.List.{List, [], _∷_, _++_}
 use mathlib.Core.Logic.{_⊎_, inl, inr}
 use native.Mathlib.Omega.{arith}
@@ -18,7 +18,7 @@ use Rattle.machine.specs.Module.{windows}
 use Rattle.machine.specs.Table.{headGood, headDraft, rowGood, withRow, flaggedFrom, refusedTable, checkedTable, tableFrom, tableOf}
 use Rattle.machine.proofs.Bounds.{either}
 use Rattle.machine.proofs.Tests.{by-test}
-use Rattle.machine.proofs.Tables.{SoundDraft, head-draft}
+use Rattle.machine.proofs.Tables.{head-draft}
 
 -- the lines so far are good, and the next one is missing
 pub record Missing (j : ℕ) (r : Reading) : Type 0 where
@@ -47,7 +47,7 @@ next-same f g j l e (inr h) = inr (record { same = λ ls. e ls ∙ h .same ls �
 next-at : (f : List Line → Reading) (j k : ℕ) (l : Line) → j ≡ k → Next f j l → Next f k l
 next-at f j k l e h = rw (← e) h
 
-six-good : (x : Numbers) → Six x ≡ Bad → ⊥
+pub six-good : (x : Numbers) → Six x ≡ Bad → ⊥
 six-good x e = let q : _≡_ {A = ℕ} 0 lineRefusal = ap lineCode e in omega arith
 
 -- what is refused whatever follows
@@ -127,27 +127,3 @@ reads (Six x ∷ xs) h = either (headGood (rowOf x)) good (λ t. absurd (let e =
           bad = λ ls. rw t (k .after (Bad ∷ ls) ∙ rw j);
           short = omega (arith, k .count, s .announced .1, s .announcedChannels);
         }
-
--- the numbers of a refused table
-pub record Small (r : Reading) : Type 0 where
-  pub code : r .code ≤ 12
-  pub value : r .value ≤ 1 + windowLimit + channelLimit
-
-from-small : (n line : ℕ) (d : Draft) (ls : List Line) → line + n ≤ 1 + windowLimit + channelLimit → Small (tableFrom n line d ls)
-unfolding tableFrom
-from-small zero line d ls h = by-test Small (flaggedFrom (d .table .size) 1 (windows (d .table))) (λ t. record { code = omega arith; value = omega arith }) (λ t. record { code = omega arith; value = omega arith })
-from-small (suc n) line d [] h = record { code = omega arith; value = omega arith }
-from-small (suc n) line d (Bad ∷ ls) h = record { code = omega arith; value = omega arith }
-from-small (suc n) line d (Six x ∷ ls) h =
-    by-test Small (rowGood d (rowOf x))
-    (λ t. from-small n (line + 1) (withRow d (rowOf x)) ls (omega arith))
-    (λ t. record { code = omega arith; value = omega arith })
-
-pub small : (ls : List Line) → Small (tableOf ls)
-unfolding tableOf
-small [] = record { code = omega arith; value = omega arith }
-small (Bad ∷ ls) = record { code = omega arith; value = omega arith }
-small (Six x ∷ ls) =
-    by-test Small (headGood (rowOf x))
-    (λ t. let s = head-draft (rowOf x) t in from-small _ 1 (headDraft (rowOf x)) ls (omega (arith, s .announced .1, s .announcedChannels)))
-    (λ t. record { code = omega arith; value = omega arith })

@@ -1,33 +1,38 @@
 -- The parts of a stream's code, put together, are its definitions. Assumes nothing.
-use Prim.Native.Nat.{ℕ, suc, _+_, _-_, _≤_, _<_, min}
-use native.Mathlib.Nat.{min-le-right}
+use Prim.Native.Nat.{ℕ, _+_, _-_, _≤_}
 use mathlib.Core.Path.{_≡_, refl, sym, ap, _∙_}
-use mathlib.Core.Bool.{Bool, true, false, cond, not, _&&_}
-use mathlib.Core.List.{List, [], _∷_, _++_}
+use mathlib.Core.Bool.{Bool, true, false}
+use mathlib.Core.List.{List, _++_}
 use native.Mathlib.Omega.{arith}
-use lib.ListN.{length, take, drop, length-append, length-drop, take-append-drop}
-use lib.Dec.{eqb, leb}
-use borrow.Author.Tests.{eq-eqb, ne-eqb, eqb-true, leb-true, leb-false, le-leb, lt-leb}
+use lib.ListN.{length, take, drop, length-drop, take-append-drop}
+use lib.Dec.{leb}
+use borrow.Author.Tests.{eq-eqb, ne-eqb, le-leb}
+use Rattle.machine.specs.declared.Event.{Event}
+use Rattle.machine.specs.declared.Line.{Line}
+use Rattle.machine.specs.declared.Line.the-variants.{Six}
 use Rattle.machine.specs.declared.Numbers.{Numbers}
 use Rattle.machine.specs.Limits.{lineLength}
-use Rattle.machine.specs.Text.{lineText, numberList, allInRange, canWrite, writeCode, written, writtenAt}
+use Rattle.machine.specs.Text.{lineText, numbersOf, numberList, allInRange, canWrite, writeCode, written, writtenAt}
+use Rattle.machine.specs.Module.{step}
 use Rattle.machine.specs.Table.{readTable}
+use Rattle.machine.specs.Replay.{eventOf, answerNumbers}
 use Rattle.machine.proofs.Bounds.{either}
-use Rattle.machine.proofs.Tests.{and-left, and-right}
+use Rattle.machine.proofs.Tests.{and-right}
 use Rattle.machine.proofs.TextLine.{six-length}
-use Rattle.executive.specs.Executive.{opened}
+use Rattle.executive.specs.Executive.{turned, opened}
+use Rattle.executive.specs.declared.Executive.{Executive}
 use Rattle.executive.specs.declared.Opening.{Opening}
+use Rattle.executive.specs.declared.Turn.{Turn}
 use Rattle.stream.specs.declared.Stage.{Stage}
+use Rattle.stream.specs.declared.Stage.the-variants.{Table, Events, Ended}
 use Rattle.stream.specs.declared.Spoken.{Spoken}
 use Rattle.stream.specs.declared.Place.{Place}
-use Rattle.stream.specs.Stream.{silent, refusal, missing, accepted, tableTurn, tableClose, textOf, over}
+use Rattle.stream.specs.Stream.{at, silent, refusal, missing, accepted, tableTurn, tableClose, eventLine, turn, textOf, over}
+use Rattle.stream.proofs.Tables.{six-good}
 
 -- by the stage that a place has
 pub by-stage : (f : Stage → Spoken) (a b : Stage) → a ≡ b → (y : Spoken) → y ≡ f b → y ≡ f a
 by-stage f a b e y h = h ∙ ap f (sym e)
-
-pub at-most : (r n k : ℕ) → r ≡ min n k → r ≤ k
-at-most r n k e = omega (arith, min-le-right n k)
 
 -- ---------------------------------------------------------------- the table so far
 module _ (x : Place) (text : List ℕ) (r : Opening) (e : r ≡ opened (readTable text)) where
@@ -49,6 +54,19 @@ module _ (x : Place) (text : List ℕ) (r : Opening) (e : r ≡ opened (readTabl
 
     pub turn-refused : b ≡ false → refusal x (r .code) (r .value) ≡ tableTurn x text
     turn-refused t = rw (ne-eqb (readTable text .code) 0 (λ z. h (sym same-code ∙ z)), rw e at (sym m ∙ t), e)
+
+-- ---------------------------------------------------------------- an event
+-- a line of six numbers in the events is stepped
+stage-turn : (s : Stage) (e : Executive) (k : ℕ) (text : List ℕ) (q : Numbers) → eventLine s text ≡ Six q
+    → let t = step (e .inner) (eventOf q) in turn (at s e k) text ≡ record { place = at s (record { inner = t .state }) 0; speaks = true; numbers = numbersOf (answerNumbers (t .answer)) }
+stage-turn Table e k text q h = absurd (six-good q (sym h))
+stage-turn Events e k text q h = rw h
+stage-turn Ended e k text q h = absurd (six-good q (sym h))
+
+pub event-turn : (x : Place) (text : List ℕ) (l : Line) (q : Numbers) (v : Event) (h : Turn) (n : Numbers) → l ≡ eventLine (x .stage) text → l ≡ Six q
+    → v ≡ eventOf q → h ≡ turned (step (x .executive .inner) v) → n ≡ numbersOf (answerNumbers (h .answer))
+    → record { place = at (x .stage) (h .executive) 0; speaks = true; numbers = n } ≡ turn x text
+event-turn x text l q v h n e six w t m = rw (m, t, w) (sym (stage-turn (x .stage) (x .executive) (x .count) text q (sym e ∙ six)))
 
 -- ---------------------------------------------------------------- a line of output
 -- how many bytes are printed at a position, and the output after

@@ -1,22 +1,22 @@
 -- An input that comes byte by byte gives what the whole input gives. Assumes nothing.
-use Prim.Native.Nat.{ℕ, zero, suc, _+_, _-_, _*_, _≤_, _<_}
+use Prim.Native.Nat.{ℕ, _+_, _*_, _≤_, _<_}
 use mathlib.Core.Path.{_≡_, refl, sym, ap, _∙_}
-use mathlib.Core.Bool.{Bool, true, false, cond, not, _&&_, _||_, or-true, and-eq-true-iff}
+use mathlib.Core.Bool.{true, false, not, and-eq-true-iff}
 use mathlib.Core.List.{List, [], _∷_, _++_, map, append-assoc, append-nil}
-use mathlib.Core.Logic.{_⊎_, inl, inr}
+use mathlib.Core.Logic.{inl, inr}
 use native.Mathlib.Omega.{arith}
 use lib.ListN.{length, take, drop, length-append, length-take, length-map, length-replicate, take-append-drop}
 use lib.Seq.{append-snoc, take-all, take-append-le, drop-append-add}
-use lib.Dec.{eqb, leb, ltb}
-use lib.IntN.{ℤ, pos}
-use borrow.Author.Tests.{eqb-true, eqb-false, eq-eqb, ne-eqb, leb-true, leb-false, le-leb, lt-leb}
+use lib.Dec.{eqb, leb}
+use lib.IntN.{pos}
+use borrow.Author.Tests.{eqb-true, eqb-false, eq-eqb, ne-eqb, leb-true, leb-false}
 use Rattle.machine.specs.declared.Module.{Module}
 use Rattle.machine.specs.declared.Reading.{Reading}
 use Rattle.machine.specs.declared.Line.{Line}
 use Rattle.machine.specs.declared.Line.the-variants.{Six, Bad}
-use Rattle.machine.specs.Limits.{numberLimit, lineLength, windowLimit, channelLimit}
-use Rattle.machine.specs.Text.{lineEnd, lineFeed, lineText, readLine, lines, lineRefusal, inRange, allInRange, numbersOf}
-use Rattle.machine.specs.Module.{step, emptyModule}
+use Rattle.machine.specs.Limits.{lineLength, windowLimit, channelLimit}
+use Rattle.machine.specs.Text.{lineEnd, lineFeed, lineText, readLine, lines, lineRefusal, numbersOf}
+use Rattle.machine.specs.Module.{emptyModule}
 use Rattle.machine.specs.Table.{refusedTable, tableOf, readTable}
 use Rattle.machine.specs.TwoRuns.{final, replies}
 use Rattle.machine.specs.Replay.{answerNumbers, lineAnswer, lineNext, texts, badTableLine, replayed, replayedRecord}
@@ -27,16 +27,13 @@ use Rattle.machine.proofs.Replays.{line-valid, line-in-range}
 use Rattle.machine.proofs.Tables.{table-read}
 use Rattle.machine.proofs.TextLine.{read-six, six-length}
 use Rattle.machine.proofs.TextInput.{noFeed, unfed-bad, line-at}
-use Rattle.executive.specs.declared.Executive.{Executive}
 use Rattle.answers.specs.Answers.{heard}
-use Rattle.stream.specs.declared.Stage.{Stage}
+use Rattle.answers.proofs.Laws.{heard-next, refusal-in-range}
 use Rattle.stream.specs.declared.Stage.the-variants.{Table, Events, Ended}
-use Rattle.stream.specs.declared.Place.{Place}
-use Rattle.stream.specs.declared.Spoken.{Spoken}
 use Rattle.stream.specs.declared.Stream.{Stream}
 use Rattle.stream.specs.Stream.{heldLimit, begun, at, missing, eventTurn, turn, textOf, Fed, said, put, due, feed, fedAll, closed, streamed, streamEnd}
 use Rattle.stream.proofs.Lines.{line-ends, line-last, unfed-more, read-held, Holds, holds-none, holds-put}
-use Rattle.stream.proofs.Tables.{Missing, Next, GoesOn, Settled, Reads, reads, Small, small}
+use Rattle.stream.proofs.Tables.{Missing, Next, GoesOn, Settled, Reads, reads}
 
 -- what a stream prints for the rest of its input, and the record at the end
 record Gives (s : Stream) (bs text : List ℕ) (m : Module) : Type 0 where
@@ -69,18 +66,6 @@ ended-gives (b ∷ bs) s m h e =
     (λ t. gives-more s b bs [] m (endedAs (put s b)) (rw t) (ended-gives bs (put s b) m h e))
 
 -- ---------------------------------------------------------------- events
-heard-next : (m : Module) (l : Line) → heard m l .executive .inner ≡ lineNext m l
-heard-next m (Six n) = refl
-heard-next m Bad = refl
-
-heard-answer : (m : Module) (l : Line) → answerNumbers (heard m l .answer) ≡ lineAnswer m l
-heard-answer m (Six n) = refl
-heard-answer m Bad = refl
-
-heard-module : (m : Module) (l : Line) → heard m l .executive ≡ record { inner = lineNext m l }
-heard-module m (Six n) = refl
-heard-module m Bad = refl
-
 heard-text : (m : Module) (l : Line) → ValidModule m → textOf true (numbersOf (answerNumbers (heard m l .answer))) ≡ lineText (lineAnswer m l)
 heard-text m (Six n) v = rw (line-in-range m (Six n) v)
 heard-text m Bad v = rw (line-in-range m Bad v)
@@ -94,7 +79,7 @@ lineDone s m p = record {
 
 line-done : (s : Stream) (m : Module) (p : List ℕ) → s .place .executive .inner ≡ m → ValidModule m → Holds s p
     → said s (eventTurn (s .place) (take (s .place .count) (s .held))) ≡ lineDone s m p
-line-done s m p own v h = rw (h .bytes, read-held p, own, heard-module m (readLine p), heard-text m (readLine p) v)
+line-done s m p own v h = rw (h .bytes, read-held p, own, heard-next m (readLine p), heard-text m (readLine p) v)
 
 event-feed : (s : Stream) (m : Module) (p : List ℕ) (b : ℕ) → s .place .stage ≡ Events → s .place .executive .inner ≡ m → ValidModule m → Holds s p
     → eqb b lineFeed ≡ true → feed s b ≡ lineDone (put s b) m (p ++ b ∷ [])
@@ -155,13 +140,6 @@ map-append : (xs ys : List (List ℕ)) → map readLine (xs ++ ys) ≡ map readL
 map-append [] ys = refl
 map-append (x ∷ xs) ys = ap (λ (l : List Line). readLine x ∷ l) (map-append xs ys)
 
--- replay over lines
-abbrev replayedLines : List Line → List ℕ
-replayedLines ls = let r = tableOf ls in cond (eqb (r .code) 0) (texts (replies lineNext lineAnswer (r .state) (drop (r .lines) ls))) (badTableLine r)
-
-abbrev recordOf : List Line → Module
-recordOf ls = let r = tableOf ls in cond (eqb (r .code) 0) (final lineNext lineAnswer (r .state) (drop (r .lines) ls)) (r .state)
-
 -- the table so far: whole lines, and bytes of the next one
 record TableHeld (p : List ℕ) : Type 0 where
   done : List ℕ
@@ -173,9 +151,8 @@ record TableHeld (p : List ℕ) : Type 0 where
   unfed : noFeed rest ≡ true
 
 -- a refused table's line
-refused-text : (ls : List Line) → textOf true (numbersOf (pos (tableOf ls .code) ∷ pos (tableOf ls .value) ∷ [])) ≡ badTableLine (tableOf ls)
-unfolding allInRange inRange
-refused-text ls = let h = small ls in rw (le-leb (tableOf ls .code) numberLimit (omega (arith, h .code)), le-leb (tableOf ls .value) numberLimit (omega (arith, h .value)))
+refused-text : (p : List ℕ) → let r = readTable p in textOf true (numbersOf (pos (r .code) ∷ pos (r .value) ∷ [])) ≡ badTableLine r
+refused-text p = rw (refusal-in-range p)
 
 refused-state : (p : List ℕ) → (readTable p .code ≡ 0 → ⊥) → readTable p .state ≡ emptyModule
 refused-state p h = table-read p .refused h
@@ -203,11 +180,11 @@ module _ (s : Stream) (p : List ℕ) (stage : s .place .stage ≡ Table) (own : 
   text-held = h .bytes ∙ take-all heldLimit p short
 
   turn-refused : (readTable p .code ≡ 0 → ⊥) → missing (readTable p .code) (readTable p .value) (length p) ≡ false → said s (turn (s .place) (take (s .place .count) (s .held))) ≡ refusedAs s p
-  turn-refused bad m = rw (stage, text-held, ne-eqb _ 0 bad, m, refused-text (map readLine (lines p)))
+  turn-refused bad m = rw (stage, text-held, ne-eqb _ 0 bad, m, refused-text p)
 
   close-refused : (readTable p .code ≡ 0 → ⊥) → closed s ≡ refusedAs s p
   unfolding closed
-  close-refused bad = rw (stage, text-held, ne-eqb _ 0 bad, refused-text (map readLine (lines p)))
+  close-refused bad = rw (stage, text-held, ne-eqb _ 0 bad, refused-text p)
 
   turn-missing : (readTable p .code ≡ 0 → ⊥) → missing (readTable p .code) (readTable p .value) (length p) ≡ true → said s (turn (s .place) (take (s .place .count) (s .held))) ≡ endedAs s
   turn-missing bad m = rw (stage, text-held, ne-eqb _ 0 bad, m)

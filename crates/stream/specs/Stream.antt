@@ -7,6 +7,8 @@ use lib.Dec.{eqb, leb, ltb}
 use lib.IntN.{pos}
 use Rattle.machine.specs.declared.Module.{Module}
 use Rattle.machine.specs.declared.Numbers.{Numbers}
+use Rattle.machine.specs.declared.Line.{Line}
+use Rattle.machine.specs.declared.Line.the-variants.{Six, Bad}
 use Rattle.machine.specs.Limits.{windowLimit, channelLimit, lineLength}
 use Rattle.machine.specs.Text.{lineFeed, lineText, numberList, numbersOf, readLine, allInRange, lineRefusal}
 use Rattle.machine.specs.Module.{emptyModule}
@@ -62,6 +64,12 @@ abbrev pub eventTurn : Place → List ℕ → Spoken
 eventTurn x text =
     let h = heard (x .executive .inner) (readLine text) in
     record { place = at Events (h .executive) 0; speaks = true; numbers = numbersOf (answerNumbers (h .answer)) }
+
+-- what a line reads as where it belongs to the events; no event elsewhere
+abbrev pub eventLine : Stage → List ℕ → Line
+eventLine Table text = Bad
+eventLine Events text = readLine text
+eventLine Ended text = Bad
 
 abbrev pub turnIn : Stage → Place → List ℕ → Spoken
 turnIn Table x text = tableTurn x text

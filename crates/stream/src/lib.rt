@@ -1,14 +1,17 @@
 // Replay of an input that comes in chunks of any size, in constant memory.
 ghost use mathlib.Core.Path.{_≡_};
+ghost use mathlib.Core.Bool.{cond};
 ghost use mathlib.Core.List.{[], _++_};
 ghost use Prim.Native.Nat.{_+_, _≤_, min};
-ghost use lib.ListN.{length, take, drop};
+ghost use lib.ListN.{length, take, drop, set};
+ghost use lib.Dec.{ltb};
 ghost use Rattle.machine.specs.declared.Numbers.{Numbers};
 ghost use Rattle.machine.specs.Limits.{lineLength};
 ghost use Rattle.machine.specs.Text.{numbersOf, numberList};
-ghost use Rattle.stream.specs.Stream.{heldLimit, begun, silent, refusal, missing, accepted, tableTurn, tableClose, eventTurn, eventClose, turn, close, textOf, due, run, over, advanceOf, finished};
+ghost use Rattle.stream.specs.Stream.{heldLimit, begun, silent, refusal, missing, accepted, tableTurn, tableClose, eventTurn, eventClose, turn, close, textOf, oneMore, eventLine, due, run, over, advanceOf, finished};
 use executive::Executive;
 use executive::Opening;
+use machine::Line;
 use machine::Module;
 use machine::Numbers;
 
@@ -219,6 +222,28 @@ fn held_count(n: usize) -> usize
     if n < HELD { n } else { HELD }
 }
 
+// Holds a byte, where there is a place for it: how many are held.
+fn hold(held: &mut [u8; HELD], n: usize, b: u8) -> usize
+    ensures { λ r. ⌜ (r ≡ oneMore n) × (now (held .exit) ≡ cond (ltb n heldLimit) (set (now (held .entry)) n b) (now (held .entry))) ⌝ }
+{
+    if n < HELD {
+        held[n] = b;
+        return n + 1;
+    }
+    n
+}
+
+// What a line reads as where it belongs to the events; no event elsewhere.
+fn event_line(stage: Stage, text: &[u8]) -> Line
+    ensures { λ l. ⌜ l ≡ eventLine stage (now (text .entry)) ⌝ }
+{
+    match stage {
+        Stage::Table => Line::Bad,
+        Stage::Events => line::read(text),
+        Stage::Ended => Line::Bad,
+    }
+}
+
 // ---------------------------------------------------------------- output
 // Prints a line at a position of the output: how many bytes it has.
 fn print(out: &mut [u8], to: usize, speaks: bool, numbers: Numbers) -> usize
@@ -266,19 +291,24 @@ impl Stream {
             }
             let b = chunk[at];
             at += 1;
-            let i = x.count;
-            if i < HELD {
-                held[i] = b;
-                x.count = i + 1;
-            }
+            x.count = hold(&mut held, x.count, b);
             let stage = x.stage;
             if is_due(stage, x.count, b) {
                 let n = held_count(x.count);
-                let y = turn_of(x, &held[..n]);
-                let numbers = y.numbers;
-                to += print(out, to, y.speaks, numbers);
-                let next = y.place;
-                x = next;
+                let l = event_line(stage, &held[..n]);
+                // An event is stepped here and not by turn_of: each function that it passed through would copy the executive.
+                if let Line::Six(q) = l {
+                    let h = x.executive.step(answers::event_of(q));
+                    to += print(out, to, true, answers::numbers_of(h.answer));
+                    let next = h.executive;
+                    x.executive = next;
+                    x.count = 0;
+                } else {
+                    let y = turn_of(x, &held[..n]);
+                    to += print(out, to, y.speaks, y.numbers);
+                    let next = y.place;
+                    x = next;
+                }
             }
         }
         Advance {

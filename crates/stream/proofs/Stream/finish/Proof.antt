@@ -3,7 +3,6 @@ use lib.ListN.{length}
 use Rattle.stream.specs.Stream.{heldLimit}
 use Rattle.stream.proofs.Chunks.{held-inside, held-length, finish-done}
 use mathlib.Core.Path.{refl}
-use Rattle.stream.proofs.Turns.{at-most}
 use native.Mathlib.Omega.{arith}
 use borrow.Author.Tests.{lt-leb}
 use Rattle.stream.specs.Stream.{finished}

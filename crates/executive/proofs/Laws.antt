@@ -55,9 +55,9 @@ module _ (m : Module) (long : length (m .partitions) ≡ partitionLimit) where
   pub no-caller-past : (k : ℕ) → partitionLimit < k → noCaller (part m (k - 1)) ≡ true
   no-caller-past k h = rw (none-past (k - 1) (omega arith))
 
-  none-runs-past : (k : ℕ) → partitionLimit ≤ k → running (part m k) ≡ 0
+  none-runs-past : (i : ℕ) → partitionLimit ≤ i → running (part m i) ≡ 0
   unfolding running
-  none-runs-past k h = rw (none-past k h)
+  none-runs-past i h = rw (none-past i h)
 
   -- the running process of one partition is what the answer shows
   module _ (r : Request) (k : ℕ) where

@@ -46,6 +46,11 @@ fn print_chunk(s: Stream, chunk: &[u8], out: &mut [u8], prints: bool) -> Turn
     Turn { stream, more }
 }
 
+// Not where a write failed, and not after a refused table.
+fn goes_on(written: bool, ended: bool) -> bool {
+    written && !ended
+}
+
 // Reads once.
 fn read_some(s: Stream, prints: bool) -> Turn
     ensures { λ r. ⌜ ReadOn s (r .stream) ⌝ }
@@ -60,7 +65,10 @@ fn read_some(s: Stream, prints: bool) -> Turn
             more: false,
         };
     }
-    print_chunk(s, &input[..n], &mut out, prints)
+    let t = print_chunk(s, &input[..n], &mut out, prints);
+    let stream = t.stream;
+    let more = goes_on(t.more, stream.is_ended());
+    Turn { stream, more }
 }
 
 // Reads to the end. A proved loop has to end, and nothing says that the input does: the turns are counted down from a

@@ -121,6 +121,12 @@ isTable Table = true
 isTable Events = false
 isTable Ended = false
 
+-- A bad table ends the replay.
+abbrev pub isEnded : Stage → Bool
+isEnded Table = false
+isEnded Events = false
+isEnded Ended = true
+
 -- a line ends at its LF; no table is longer than the limit
 abbrev pub due : Stage → ℕ → ℕ → Bool
 due stage n b = eqb b lineFeed || (isTable stage && leb heldLimit n)

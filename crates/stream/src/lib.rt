@@ -8,7 +8,7 @@ ghost use lib.Dec.{ltb};
 ghost use Rattle.machine.specs.declared.Numbers.{Numbers};
 ghost use Rattle.machine.specs.Limits.{lineLength};
 ghost use Rattle.machine.specs.Text.{numbersOf, numberList};
-ghost use Rattle.stream.specs.Stream.{heldLimit, begun, silent, refusal, missing, accepted, tableTurn, tableClose, eventTurn, eventClose, turn, close, textOf, oneMore, eventLine, due, run, over, advanceOf, finished};
+ghost use Rattle.stream.specs.Stream.{heldLimit, begun, silent, refusal, missing, accepted, tableTurn, tableClose, eventTurn, eventClose, turn, close, textOf, oneMore, eventLine, due, isEnded, run, over, advanceOf, finished};
 use executive::Executive;
 use executive::Opening;
 use machine::Line;
@@ -340,6 +340,19 @@ impl Stream {
             stream: Stream { place, held },
             taken: 0,
             printed,
+        }
+    }
+
+    // Whether nothing more is read: after a refused table.
+    pub fn is_ended(self) -> bool
+        ensures { λ b. ⌜ b ≡ isEnded (self .place .stage) ⌝ }
+    {
+        let x = self.place;
+        let stage = x.stage;
+        match stage {
+            Stage::Table => false,
+            Stage::Events => false,
+            Stage::Ended => true,
         }
     }
 

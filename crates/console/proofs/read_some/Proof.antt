@@ -7,7 +7,7 @@ returns : tie.Need-returns
 returns c = none-read _
 
 returns-2 : tie.Need-returns-2
-returns-2 c = record { read = _; is = c .before .print-chunk .ensures }
+returns-2 c = record { read = _; is = c .before .before .before .before .print-chunk .ensures }
 
 pub read-some-spec : {M : Type 1} → statement M
 read-some-spec =
@@ -23,5 +23,7 @@ read-some-spec =
     (λ c. search needs)
     (λ c. search needs)
     (λ c. search needs)
+    (λ c κs. search needs)
+    (λ c κs. search needs)
     (λ c κs. search needs)
     returns-2)

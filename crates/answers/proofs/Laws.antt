@@ -20,7 +20,7 @@ use Rattle.machine.specs.Table.{headGood, headDraft, rowGood, withRow, flaggedF
 use Rattle.machine.specs.Replay.{answerNumbers, lineAnswer, lineNext}
 use Rattle.machine.proofs.Tests.{by-test}
 use Rattle.machine.proofs.Tables.{head-draft}
-use Rattle.answers.specs.Answers.{heard}
+use Rattle.answers.specs.Answers.{heard, refusalNumbers}
 
 -- ---------------------------------------------------------------- an event line
 pub heard-next : (m : Module) (l : Line) → heard m l .executive ≡ record { inner = lineNext m l }
@@ -57,7 +57,7 @@ small (Six x ∷ ls) =
     (λ t. record { code = omega arith; value = omega arith })
 
 -- code, line number, four 0
-pub refusal-in-range : (input : List ℕ) → let r = readTable input in allInRange (pos (r .code) ∷ pos (r .value) ∷ pos 0 ∷ pos 0 ∷ pos 0 ∷ pos 0 ∷ []) ≡ true
+pub refusal-in-range : (input : List ℕ) → let r = readTable input in allInRange (refusalNumbers (r .code) (r .value)) ≡ true
 unfolding allInRange inRange
 refusal-in-range input =
     let r = readTable input in

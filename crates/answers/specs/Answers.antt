@@ -1,8 +1,7 @@
 -- One event line: the record after it and its answer.
-use mathlib.Core.Bool.{cond}
 use mathlib.Core.List.{List, [], _∷_}
 use Prim.Native.Nat.{ℕ}
-use lib.IntN.{ℤ}
+use lib.IntN.{ℤ, pos}
 use Rattle.machine.specs.declared.Module.{Module}
 use Rattle.machine.specs.declared.Line.{Line}
 use Rattle.machine.specs.declared.Line.the-variants.{Six, Bad}
@@ -15,3 +14,7 @@ use Rattle.executive.specs.declared.Turn.{Turn}
 abbrev pub heard : Module → Line → Turn
 heard m (Six n) = turned (step m (eventOf n))
 heard m Bad = record { executive = record { inner = m }; answer = unread m }
+
+-- A bad table prints one line: code, line number, four 0.
+abbrev pub refusalNumbers : ℕ → ℕ → List ℤ
+refusalNumbers code value = pos code ∷ pos value ∷ pos 0 ∷ pos 0 ∷ pos 0 ∷ pos 0 ∷ []

@@ -2,7 +2,7 @@
 ghost use mathlib.Core.Path.{_≡_};
 ghost use Rattle.machine.specs.Text.{numbersOf};
 ghost use Rattle.machine.specs.Replay.{eventOf, timeNumber, answerNumbers};
-ghost use Rattle.answers.specs.Answers.{heard};
+ghost use Rattle.answers.specs.Answers.{heard, refusalNumbers};
 use executive::Executive;
 use executive::Turn;
 use machine::Answer;
@@ -47,6 +47,20 @@ pub fn numbers_of(a: Answer) -> Numbers
         n4: a.t as i64,
         n5: a.current as i64,
         n6: a.running as i64,
+    }
+}
+
+// A bad table prints one line: code, line number, four 0.
+pub fn refusal(code: u8, value: u32) -> Numbers
+    ensures { λ r. ⌜ r ≡ numbersOf (refusalNumbers code value) ⌝ }
+{
+    Numbers {
+        n1: code as i64,
+        n2: value as i64,
+        n3: 0,
+        n4: 0,
+        n5: 0,
+        n6: 0,
     }
 }
 

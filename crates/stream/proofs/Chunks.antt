@@ -18,7 +18,7 @@ use Rattle.machine.proofs.Tests.{by-test}
 use Rattle.machine.proofs.TextLine.{six-length}
 use Rattle.stream.specs.declared.Spoken.{Spoken}
 use Rattle.stream.specs.declared.Stream.{Stream}
-use Rattle.stream.specs.Stream.{heldLimit, at, close, turn, textOf, said, oneMore, put, due, Fed, feed, Run, run, over, advanceOf, closed, finished}
+use Rattle.stream.specs.Stream.{heldLimit, at, turn, textOf, said, oneMore, put, due, Fed, feed, Run, run, over, advanceOf, closed, finished}
 use Rattle.stream.proofs.Turns.{Prints}
 
 -- ---------------------------------------------------------------- what is held
@@ -54,7 +54,7 @@ module _ (s : Stream) (b : ℕ) where
   unfolding feed
   fed-held d = rw d
 
-  fed-due : due (put s b .place .stage) (put s b .place .count) b ≡ true → feed s b ≡ said (put s b) (turn (put s b .place) (take (put s b .place .count) (put s b .held)))
+  fed-due : due (put s b .place .stage) (put s b .place .count) b ≡ true → feed s b ≡ said (put s b) (turn false (put s b .place) (take (put s b .place .count) (put s b .held)))
   unfolding feed
   fed-due d = rw d
 
@@ -62,11 +62,11 @@ module _ (s : Stream) (b : ℕ) where
     pub feed-held : due (p .place .stage) (p .place .count) b ≡ false → feed s b ≡ record { stream = p; text = [] }
     feed-held d = fed-held (rw e at d) ∙ ap (λ (q : Stream). record { stream = q; text = [] }) (sym e)
 
-    pub feed-due : (n : ℕ) (y : Spoken) → due (p .place .stage) (p .place .count) b ≡ true → length (p .held) ≡ heldLimit → n ≡ min (p .place .count) heldLimit → y ≡ turn (p .place) (take n (p .held)) → feed s b ≡ said p y
+    pub feed-due : (n : ℕ) (y : Spoken) → due (p .place .stage) (p .place .count) b ≡ true → length (p .held) ≡ heldLimit → n ≡ min (p .place .count) heldLimit → y ≡ turn false (p .place) (take n (p .held)) → feed s b ≡ said p y
     feed-due n y d h m t =
         fed-due (rw e at d)
-        ∙ ap (λ (q : Stream). said q (turn (q .place) (take (q .place .count) (q .held)))) (sym e)
-        ∙ ap (said p) (ap (turn (p .place)) (sym (take-held (p .held) (p .place .count) n h m)) ∙ sym t)
+        ∙ ap (λ (q : Stream). said q (turn false (q .place) (take (q .place .count) (q .held)))) (sym e)
+        ∙ ap (said p) (ap (turn false (p .place)) (sym (take-held (p .held) (p .place .count) n h m)) ∙ sym t)
 
 text-short : (b : Bool) (n : Numbers) → length (textOf b n) ≤ lineLength
 text-short b n = by-test (λ (l : List ℕ). length l ≤ lineLength) (b && allInRange (numberList n)) (λ t. omega (arith, six-length n)) (λ t. omega arith)
@@ -75,7 +75,7 @@ pub feed-short : (s : Stream) (b : ℕ) → length (feed s b .text) ≤ lineLeng
 unfolding feed
 feed-short s b =
     by-test (λ (f : Fed). length (f .text) ≤ lineLength) (due (put s b .place .stage) (put s b .place .count) b)
-    (λ t. let y = turn (put s b .place) (take (put s b .place .count) (put s b .held)) in text-short (y .speaks) (y .numbers))
+    (λ t. let y = turn false (put s b .place) (take (put s b .place .count) (put s b .held)) in text-short (y .speaks) (y .numbers))
     (λ t. omega arith)
 
 feed-length : (s : Stream) (b : ℕ) → length (s .held) ≡ heldLimit → length (feed s b .stream .held) ≡ heldLimit
@@ -190,12 +190,12 @@ module _ (s₀ : Stream) (chunk out₀ : List ℕ) (s : Stream) (i to : ℕ) (ou
     goes-on p t e to′ c out′ o = rw (c, o, add-one) (rw e at next)
 
 -- ---------------------------------------------------------------- the last line
-pub finish-done : (s : Stream) (out after : List ℕ) (r k : ℕ) (y : Spoken) → length (s .held) ≡ heldLimit → r ≡ min (s .place .count) heldLimit → y ≡ close (s .place) (take r (s .held)) → lineLength ≤ length out
+pub finish-done : (s : Stream) (out after : List ℕ) (r k : ℕ) (y : Spoken) → length (s .held) ≡ heldLimit → r ≡ min (s .place .count) heldLimit → y ≡ turn true (s .place) (take r (s .held)) → lineLength ≤ length out
     → Prints out 0 (y .speaks) (y .numbers) k after
     → (record { stream = record { place = y .place; held = s .held }; taken = 0; printed = k } ≡ advanceOf (finished s (length out))) × (after ≡ over (finished s (length out) .text) out)
 unfolding finished closed
 finish-done s out after r k y h m c room q =
-    let e : close (s .place) (take (s .place .count) (s .held)) ≡ y = ap (close (s .place)) (sym (take-held (s .held) (s .place .count) r h m)) ∙ sym c in
+    let e : turn true (s .place) (take (s .place .count) (s .held)) ≡ y = ap (turn true (s .place)) (sym (take-held (s .held) (s .place .count) r h m)) ∙ sym c in
     rw (le-leb lineLength (length out) room, e) (rw (← q .0), q .1)
 
 -- where a chunk's byte count fits, so does the next position
@@ -206,7 +206,7 @@ printed-fits out to k b n e h r = omega (arith, text-short b n)
 pub finished-room : (s : Stream) (room : ℕ) → length (finished s room .text) ≤ room
 unfolding finished closed
 finished-room s room =
-    let y = close (s .place) (take (s .place .count) (s .held)) in
+    let y = turn true (s .place) (take (s .place .count) (s .held)) in
     either (leb lineLength room)
     (λ t. let h : lineLength ≤ room = leb-true lineLength room t in rw t (omega (arith, text-short (y .speaks) (y .numbers))))
     (λ t. rw t (omega arith))

@@ -1,7 +1,7 @@
 -- The parts of a stream's code, put together, are its definitions. Assumes nothing.
 use Prim.Native.Nat.{ℕ, _+_, _-_, _≤_}
 use mathlib.Core.Path.{_≡_, refl, sym, ap, _∙_}
-use mathlib.Core.Bool.{Bool, true, false}
+use mathlib.Core.Bool.{Bool, true, false, not, _&&_}
 use mathlib.Core.List.{List, _++_}
 use native.Mathlib.Omega.{arith}
 use lib.ListN.{length, take, drop, length-drop, take-append-drop}
@@ -27,7 +27,7 @@ use Rattle.stream.specs.declared.Stage.{Stage}
 use Rattle.stream.specs.declared.Stage.the-variants.{Table, Events, Ended}
 use Rattle.stream.specs.declared.Spoken.{Spoken}
 use Rattle.stream.specs.declared.Place.{Place}
-use Rattle.stream.specs.Stream.{at, silent, refusal, missing, accepted, tableTurn, tableClose, eventLine, turn, textOf, over}
+use Rattle.stream.specs.Stream.{at, silent, refusal, missing, accepted, tableTurn, eventLine, turn, textOf, over}
 use Rattle.stream.proofs.Tables.{six-good}
 
 -- by the stage that a place has
@@ -35,37 +35,31 @@ pub by-stage : (f : Stage → Spoken) (a b : Stage) → a ≡ b → (y : Spoken)
 by-stage f a b e y h = h ∙ ap f (sym e)
 
 -- ---------------------------------------------------------------- the table so far
-module _ (x : Place) (text : List ℕ) (r : Opening) (e : r ≡ opened (readTable text)) where
+module _ (ended : Bool) (x : Place) (text : List ℕ) (r : Opening) (e : r ≡ opened (readTable text)) where
   same-code : readTable text .code ≡ r .code
   same-code = sym (ap (λ (o : Opening). o .code) e)
 
-  pub close-accepted : r .code ≡ 0 → accepted (r .executive) ≡ tableClose x text
-  close-accepted h = rw (e, eq-eqb (readTable text .code) 0 (same-code ∙ h))
-
-  pub close-refused : (r .code ≡ 0 → ⊥) → refusal x (r .code) (r .value) ≡ tableClose x text
-  close-refused h = rw (e, ne-eqb (readTable text .code) 0 (λ z. h (sym same-code ∙ z)))
-
-  pub turn-accepted : r .code ≡ 0 → accepted (r .executive) ≡ tableTurn x text
+  pub turn-accepted : r .code ≡ 0 → accepted (r .executive) ≡ tableTurn ended x text
   turn-accepted h = rw (e, eq-eqb (readTable text .code) 0 (same-code ∙ h))
 
-  module _ (h : r .code ≡ 0 → ⊥) (b : Bool) (m : b ≡ missing (r .code) (r .value) (length text)) where
-    pub turn-missing : b ≡ true → silent x ≡ tableTurn x text
+  module _ (h : r .code ≡ 0 → ⊥) (b : Bool) (m : b ≡ (not ended && missing (r .code) (r .value) (length text))) where
+    pub turn-missing : b ≡ true → silent x ≡ tableTurn ended x text
     turn-missing t = rw (ne-eqb (readTable text .code) 0 (λ z. h (sym same-code ∙ z)), rw e at (sym m ∙ t))
 
-    pub turn-refused : b ≡ false → refusal x (r .code) (r .value) ≡ tableTurn x text
+    pub turn-refused : b ≡ false → refusal x (r .code) (r .value) ≡ tableTurn ended x text
     turn-refused t = rw (ne-eqb (readTable text .code) 0 (λ z. h (sym same-code ∙ z)), rw e at (sym m ∙ t), e)
 
 -- ---------------------------------------------------------------- an event
 -- a line of six numbers in the events is stepped
 stage-turn : (s : Stage) (e : Executive) (k : ℕ) (text : List ℕ) (q : Numbers) → eventLine s text ≡ Six q
-    → let t = step (e .inner) (eventOf q) in turn (at s e k) text ≡ record { place = at s (record { inner = t .state }) 0; speaks = true; numbers = numbersOf (answerNumbers (t .answer)) }
+    → let t = step (e .inner) (eventOf q) in turn false (at s e k) text ≡ record { place = at s (record { inner = t .state }) 0; speaks = true; numbers = numbersOf (answerNumbers (t .answer)) }
 stage-turn Table e k text q h = absurd (six-good q (sym h))
 stage-turn Events e k text q h = rw h
 stage-turn Ended e k text q h = absurd (six-good q (sym h))
 
 pub event-turn : (x : Place) (text : List ℕ) (l : Line) (q : Numbers) (v : Event) (h : Turn) (n : Numbers) → l ≡ eventLine (x .stage) text → l ≡ Six q
     → v ≡ eventOf q → h ≡ turned (step (x .executive .inner) v) → n ≡ numbersOf (answerNumbers (h .answer))
-    → record { place = at (x .stage) (h .executive) 0; speaks = true; numbers = n } ≡ turn x text
+    → record { place = at (x .stage) (h .executive) 0; speaks = true; numbers = n } ≡ turn false x text
 event-turn x text l q v h n e six w t m = rw (m, t, w) (sym (stage-turn (x .stage) (x .executive) (x .count) text q (sym e ∙ six)))
 
 -- ---------------------------------------------------------------- a line of output

@@ -179,17 +179,17 @@ module _ (s : Stream) (p : List ℕ) (stage : s .place .stage ≡ Table) (own : 
   text-held : take (s .place .count) (s .held) ≡ p
   text-held = h .bytes ∙ take-all heldLimit p short
 
-  turn-refused : (readTable p .code ≡ 0 → ⊥) → missing (readTable p .code) (readTable p .value) (length p) ≡ false → said s (turn (s .place) (take (s .place .count) (s .held))) ≡ refusedAs s p
+  turn-refused : (readTable p .code ≡ 0 → ⊥) → missing (readTable p .code) (readTable p .value) (length p) ≡ false → said s (turn false (s .place) (take (s .place .count) (s .held))) ≡ refusedAs s p
   turn-refused bad m = rw (stage, text-held, ne-eqb _ 0 bad, m, refused-text p)
 
   close-refused : (readTable p .code ≡ 0 → ⊥) → closed s ≡ refusedAs s p
   unfolding closed
   close-refused bad = rw (stage, text-held, ne-eqb _ 0 bad, refused-text p)
 
-  turn-missing : (readTable p .code ≡ 0 → ⊥) → missing (readTable p .code) (readTable p .value) (length p) ≡ true → said s (turn (s .place) (take (s .place .count) (s .held))) ≡ endedAs s
+  turn-missing : (readTable p .code ≡ 0 → ⊥) → missing (readTable p .code) (readTable p .value) (length p) ≡ true → said s (turn false (s .place) (take (s .place .count) (s .held))) ≡ endedAs s
   turn-missing bad m = rw (stage, text-held, ne-eqb _ 0 bad, m)
 
-  turn-accepted : readTable p .code ≡ 0 → said s (turn (s .place) (take (s .place .count) (s .held)))
+  turn-accepted : readTable p .code ≡ 0 → said s (turn false (s .place) (take (s .place .count) (s .held)))
       ≡ endedAs (record { place = at Events (record { inner = readTable p .state }) 0; held = s .held })
   turn-accepted good = rw (stage, text-held, eq-eqb _ 0 good)
 

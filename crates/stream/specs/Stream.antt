@@ -1,10 +1,9 @@
 -- Replay of an input that comes byte by byte. What is held of the input is the table so far, or the line so far.
 use Prim.Native.Nat.{ℕ, suc, _+_, _-_, _*_}
-use mathlib.Core.Bool.{Bool, true, false, cond, _&&_, _||_}
+use mathlib.Core.Bool.{Bool, true, false, cond, not, _&&_, _||_}
 use mathlib.Core.List.{List, [], _∷_, _++_}
 use lib.ListN.{length, take, drop, set, replicate}
 use lib.Dec.{eqb, leb, ltb}
-use lib.IntN.{pos}
 use Rattle.machine.specs.declared.Module.{Module}
 use Rattle.machine.specs.declared.Numbers.{Numbers}
 use Rattle.machine.specs.declared.Line.{Line}
@@ -15,7 +14,7 @@ use Rattle.machine.specs.Module.{emptyModule}
 use Rattle.machine.specs.Table.{readTable}
 use Rattle.machine.specs.Replay.{answerNumbers}
 use Rattle.executive.specs.declared.Executive.{Executive}
-use Rattle.answers.specs.Answers.{heard}
+use Rattle.answers.specs.Answers.{heard, refusalNumbers}
 use Rattle.stream.specs.declared.Stage.{Stage}
 use Rattle.stream.specs.declared.Stage.the-variants.{Table, Events, Ended}
 use Rattle.stream.specs.declared.Place.{Place}
@@ -44,7 +43,7 @@ silent x = record { place = x; speaks = false; numbers = numbersOf [] }
 
 -- A bad table prints one line: code, line number, four 0, and ends there.
 abbrev pub refusal : Place → ℕ → ℕ → Spoken
-refusal x code value = record { place = at Ended (x .executive) 0; speaks = true; numbers = numbersOf (pos code ∷ pos value ∷ []) }
+refusal x code value = record { place = at Ended (x .executive) 0; speaks = true; numbers = numbersOf (refusalNumbers code value) }
 
 -- so many bytes are good lines, and the table's next line is missing
 abbrev pub missing : ℕ → ℕ → ℕ → Bool
@@ -53,11 +52,12 @@ missing code value n = eqb code lineRefusal && eqb (value * lineLength) (n + lin
 abbrev pub accepted : Executive → Spoken
 accepted e = silent (at Events e 0)
 
--- the table so far is accepted, or goes on, or is refused
-abbrev pub tableTurn : Place → List ℕ → Spoken
-tableTurn x text =
+-- the table so far is accepted, or goes on, or is refused; at the input's end it does not go on
+abbrev pub tableTurn : Bool → Place → List ℕ → Spoken
+tableTurn ended x text =
     let r = readTable text in
-    cond (eqb (r .code) 0) (accepted (record { inner = r .state })) (cond (missing (r .code) (r .value) (length text)) (silent x) (refusal x (r .code) (r .value)))
+    cond (eqb (r .code) 0) (accepted (record { inner = r .state }))
+    (cond (not ended && missing (r .code) (r .value) (length text)) (silent x) (refusal x (r .code) (r .value)))
 
 -- one answer line per event, 11 too
 abbrev pub eventTurn : Place → List ℕ → Spoken
@@ -71,30 +71,18 @@ eventLine Table text = Bad
 eventLine Events text = readLine text
 eventLine Ended text = Bad
 
-abbrev pub turnIn : Stage → Place → List ℕ → Spoken
-turnIn Table x text = tableTurn x text
-turnIn Events x text = eventTurn x text
-turnIn Ended x text = silent (at Ended (x .executive) 0)
+-- bytes after the last LF are a line; nothing after it is none
+abbrev pub eventsTurn : Bool → Place → List ℕ → Spoken
+eventsTurn ended x text = cond (ended && eqb (length text) 0) (silent x) (eventTurn x text)
 
-abbrev pub turn : Place → List ℕ → Spoken
-turn x text = turnIn (x .stage) x text
+-- a line is complete, or the input has ended
+abbrev pub turnIn : Bool → Stage → Place → List ℕ → Spoken
+turnIn ended Table x text = tableTurn ended x text
+turnIn ended Events x text = eventsTurn ended x text
+turnIn ended Ended x text = silent (at Ended (x .executive) 0)
 
--- ---------------------------------------------------------------- the input ends
--- a table that is not complete is refused
-abbrev pub tableClose : Place → List ℕ → Spoken
-tableClose x text = let r = readTable text in cond (eqb (r .code) 0) (accepted (record { inner = r .state })) (refusal x (r .code) (r .value))
-
--- bytes after the last LF are a line
-abbrev pub eventClose : Place → List ℕ → Spoken
-eventClose x text = cond (eqb (length text) 0) (silent x) (eventTurn x text)
-
-abbrev pub closeIn : Stage → Place → List ℕ → Spoken
-closeIn Table x text = tableClose x text
-closeIn Events x text = eventClose x text
-closeIn Ended x text = silent x
-
-abbrev pub close : Place → List ℕ → Spoken
-close x text = closeIn (x .stage) x text
+abbrev pub turn : Bool → Place → List ℕ → Spoken
+turn ended x text = turnIn ended (x .stage) x text
 
 -- ---------------------------------------------------------------- one byte
 -- a stream, and what it prints
@@ -134,7 +122,7 @@ due stage n b = eqb b lineFeed || (isTable stage && leb heldLimit n)
 unfoldable pub feed : Stream → ℕ → Fed
 feed s b =
     let p = put s b in
-    cond (due (p .place .stage) (p .place .count) b) (said p (turn (p .place) (take (p .place .count) (p .held)))) (record { stream = p; text = [] })
+    cond (due (p .place .stage) (p .place .count) b) (said p (turn false (p .place) (take (p .place .count) (p .held)))) (record { stream = p; text = [] })
 
 -- ---------------------------------------------------------------- a chunk
 pub record Run : Type 0 where
@@ -159,7 +147,7 @@ advanceOf r = record { stream = r .stream; taken = r .taken; printed = length (r
 
 -- the last line
 unfoldable pub closed : Stream → Fed
-closed s = said s (close (s .place) (take (s .place .count) (s .held)))
+closed s = said s (turn true (s .place) (take (s .place .count) (s .held)))
 
 -- where there is room for one
 unfoldable pub finished : Stream → ℕ → Run

@@ -1,6 +1,6 @@
 // Replay of an input that comes in chunks of any size, in constant memory.
 ghost use mathlib.Core.Path.{_≡_};
-ghost use mathlib.Core.Bool.{cond};
+ghost use mathlib.Core.Bool.{cond, not, _&&_};
 ghost use mathlib.Core.List.{[], _++_};
 ghost use Prim.Native.Nat.{_+_, _≤_, min};
 ghost use lib.ListN.{length, take, drop, set};
@@ -8,7 +8,7 @@ ghost use lib.Dec.{ltb};
 ghost use Rattle.machine.specs.declared.Numbers.{Numbers};
 ghost use Rattle.machine.specs.Limits.{lineLength};
 ghost use Rattle.machine.specs.Text.{numbersOf, numberList};
-ghost use Rattle.stream.specs.Stream.{heldLimit, begun, silent, refusal, missing, accepted, tableTurn, tableClose, eventTurn, eventClose, turn, close, textOf, oneMore, eventLine, due, isEnded, run, over, advanceOf, finished};
+ghost use Rattle.stream.specs.Stream.{heldLimit, begun, silent, refusal, missing, accepted, tableTurn, eventTurn, eventsTurn, turn, textOf, oneMore, eventLine, due, isEnded, run, over, advanceOf, finished};
 use executive::Executive;
 use executive::Opening;
 use machine::Line;
@@ -100,14 +100,7 @@ fn refuse(x: Place, code: u8, value: u32) -> Spoken
             count: 0,
         },
         speaks: true,
-        numbers: Numbers {
-            n1: code as i64,
-            n2: value as i64,
-            n3: 0,
-            n4: 0,
-            n5: 0,
-            n6: 0,
-        },
+        numbers: answers::refusal(code, value),
     }
 }
 
@@ -119,30 +112,29 @@ fn is_missing(code: u8, value: u32, n: usize) -> bool
     code == REFUSED && value as usize * Module::LINE == n + Module::LINE
 }
 
-// The table so far, at the end of a line.
-fn table_turn(x: Place, text: &[u8]) -> Spoken
-    requires { ⌜ length (now text) ≤ heldLimit ⌝ }
-    ensures { λ y. ⌜ y ≡ tableTurn x (now (text .entry)) ⌝ }
+// The same before the input's end.
+fn is_awaited(ended: bool, code: u8, value: u32, n: usize) -> bool
+    requires { ⌜ n ≤ heldLimit ⌝ }
+    ensures { λ b. ⌜ b ≡ (not ended && missing code value n) ⌝ }
 {
-    let r = Executive::open(text);
-    if r.code == 0 {
-        let executive = r.executive;
-        return accept(executive);
+    if ended {
+        return false;
     }
-    if is_missing(r.code, r.value, text.len()) {
-        return silence(x);
-    }
-    refuse(x, r.code, r.value)
+    is_missing(code, value, n)
 }
 
-// The table at the end of the input.
-fn table_close(x: Place, text: &[u8]) -> Spoken
-    ensures { λ y. ⌜ y ≡ tableClose x (now (text .entry)) ⌝ }
+// The table so far.
+fn table_turn(ended: bool, x: Place, text: &[u8]) -> Spoken
+    requires { ⌜ length (now text) ≤ heldLimit ⌝ }
+    ensures { λ y. ⌜ y ≡ tableTurn ended x (now (text .entry)) ⌝ }
 {
     let r = Executive::open(text);
     if r.code == 0 {
         let executive = r.executive;
         return accept(executive);
+    }
+    if is_awaited(ended, r.code, r.value, text.len()) {
+        return silence(x);
     }
     refuse(x, r.code, r.value)
 }
@@ -166,39 +158,28 @@ fn event_turn(x: Place, text: &[u8]) -> Spoken
     }
 }
 
-// ---------------------------------------------------------------- by stage
-// A line is complete.
-fn turn_of(x: Place, text: &[u8]) -> Spoken
-    requires { ⌜ length (now text) ≤ heldLimit ⌝ }
-    ensures { λ y. ⌜ y ≡ turn x (now (text .entry)) ⌝ }
+// Bytes after the last LF are a line; nothing after it is none.
+fn events_turn(ended: bool, x: Place, text: &[u8]) -> Spoken
+    ensures { λ y. ⌜ y ≡ eventsTurn ended x (now (text .entry)) ⌝ }
 {
-    let stage = x.stage;
-    match stage {
-        Stage::Table => table_turn(x, text),
-        Stage::Events => event_turn(x, text),
-        Stage::Ended => silence(Place { count: 0, ..x }),
-    }
-}
-
-// The input has ended.
-fn close_of(x: Place, text: &[u8]) -> Spoken
-    ensures { λ y. ⌜ y ≡ close x (now (text .entry)) ⌝ }
-{
-    let stage = x.stage;
-    match stage {
-        Stage::Table => table_close(x, text),
-        Stage::Events => event_close(x, text),
-        Stage::Ended => silence(x),
-    }
-}
-
-fn event_close(x: Place, text: &[u8]) -> Spoken
-    ensures { λ y. ⌜ y ≡ eventClose x (now (text .entry)) ⌝ }
-{
-    if text.len() == 0 {
+    if ended && text.len() == 0 {
         return silence(x);
     }
     event_turn(x, text)
+}
+
+// ---------------------------------------------------------------- by stage
+// A line is complete, or the input has ended.
+fn turn_of(ended: bool, x: Place, text: &[u8]) -> Spoken
+    requires { ⌜ length (now text) ≤ heldLimit ⌝ }
+    ensures { λ y. ⌜ y ≡ turn ended x (now (text .entry)) ⌝ }
+{
+    let stage = x.stage;
+    match stage {
+        Stage::Table => table_turn(ended, x, text),
+        Stage::Events => events_turn(ended, x, text),
+        Stage::Ended => silence(Place { count: 0, ..x }),
+    }
 }
 
 // Whether the bytes held are looked at after a byte: at an LF, and where no table is longer.
@@ -304,7 +285,7 @@ impl Stream {
                     x.executive = next;
                     x.count = 0;
                 } else {
-                    let y = turn_of(x, &held[..n]);
+                    let y = turn_of(false, x, &held[..n]);
                     to += print(out, to, y.speaks, y.numbers);
                     let next = y.place;
                     x = next;
@@ -332,7 +313,7 @@ impl Stream {
         let x = self.place;
         let held = self.held;
         let n = held_count(x.count);
-        let y = close_of(x, &held[..n]);
+        let y = turn_of(true, x, &held[..n]);
         let numbers = y.numbers;
         let printed = print(out, 0, y.speaks, numbers);
         let place = y.place;

@@ -19,11 +19,17 @@ returns c = rw (lt-leb _ _ (c .if1 .taken)) (refl, refl)
 array-share-prefix-held : tie.Need-array-share-prefix-held
 array-share-prefix-held c = held-inside (c .before .before .before .before .before .args .self .held) _ _ (long ((c .before .before .before .before .before))) (c .held-count .ensures)
 
-slice-aggregate-close-of : tie.Need-slice-aggregate-close-of
-slice-aggregate-close-of c = held-length (c .before .before .before .before .before .before .args .self .held) _ (held-inside (c .before .before .before .before .before .before .args .self .held) _ _ (long ((c .before .before .before .before .before .before))) (c .before .held-count .ensures))
+slice-aggregate-turn-of : tie.Need-slice-aggregate-turn-of
+slice-aggregate-turn-of c = held-length (c .before .before .before .before .before .before .args .self .held) _ (held-inside (c .before .before .before .before .before .before .args .self .held) _ _ (long ((c .before .before .before .before .before .before))) (c .before .held-count .ensures))
+
+turn-of-requires : tie.Need-turn-of-requires
+turn-of-requires c κs =
+    let held = c .before .before .before .before .before .before .args .self .held in
+    let h = held-inside held _ (c .before .held-count .result) (long (c .before .before .before .before .before .before)) (c .before .held-count .ensures) in
+    omega (arith, held-length held (c .before .held-count .result) h, long (c .before .before .before .before .before .before), h)
 
 returns-2 : tie.Need-returns-2
-returns-2 c = finish-done (c .before .before .before .before .before .before .before .before .before .before .before .before .before .args .self) (c .before .before .before .before .before .before .before .before .before .before .before .before .before .args .out .now) _ _ _ _ (long ((c .before .before .before .before .before .before .before .before .before .before .before .before .before))) (c .before .before .before .before .before .before .before .before .held-count .ensures) (c .before .before .before .before .before .before .close-of .ensures) (omega (arith, c .before .before .before .before .before .before .before .before .before .before .before .if1 .left)) (c .before .before .before .print .ensures)
+returns-2 c = finish-done (c .before .before .before .before .before .before .before .before .before .before .before .before .before .args .self) (c .before .before .before .before .before .before .before .before .before .before .before .before .before .args .out .now) _ _ _ _ (long ((c .before .before .before .before .before .before .before .before .before .before .before .before .before))) (c .before .before .before .before .before .before .before .before .held-count .ensures) (c .before .before .before .before .before .before .turn-of .ensures) (omega (arith, c .before .before .before .before .before .before .before .before .before .before .before .if1 .left)) (c .before .before .before .print .ensures)
 
 pub finish-spec : {M : Type 1} → statement M
 finish-spec =
@@ -32,8 +38,8 @@ finish-spec =
     returns
     (λ c κs. search needs)
     array-share-prefix-held
-    slice-aggregate-close-of
-    (λ c κs. search needs)
+    slice-aggregate-turn-of
+    turn-of-requires
     (λ c κs. search needs)
     (λ c. search needs)
     returns-2)

@@ -92,10 +92,10 @@ abbrev pub linesFrom : List ℕ → ℕ → List Line
 linesFrom input at = map readLine (lines (drop at input))
 
 module _ (input : List ℕ) (at : ℕ) where
-  none-left : length input ≤ at → linesFrom input at ≡ []
+  pub none-left : length input ≤ at → linesFrom input at ≡ []
   none-left h = rw (lines-end input at h)
 
-  one-left : at < length input → linesFrom input at ≡ readAt input at ∷ linesFrom input (lineEnd input at)
+  pub one-left : at < length input → linesFrom input at ≡ readAt input at ∷ linesFrom input (lineEnd input at)
   one-left h = let l = line-at input at h in rw (l .first, l .reads)
 
   pub six-left : at + lineLength ≤ length input → (k : Numbers) → readAt input at ≡ Six k → linesFrom input at ≡ Six k ∷ linesFrom input (at + lineLength)

@@ -25,19 +25,13 @@ use Rattle.machine.proofs.TextLine.{line-length}
 use Rattle.executive.specs.Executive.{opened}
 use Rattle.executive.specs.declared.Opening.{Opening}
 use Rattle.answers.proofs.Laws.{refusal-in-range}
-use Rattle.table.proofs.Laws.{linesFrom}
+use Rattle.table.proofs.Laws.{linesFrom, none-left, one-left}
 use Rattle.table.proofs.Ends.{table-end}
 use Rattle.whole.specs.declared.Printed.{Printed}
-use Rattle.whole.specs.Whole.{refusal, done, noRoom, refusalPrinted, printed}
+use Rattle.answers.specs.Answers.{refusalNumbers}
+use Rattle.whole.specs.Whole.{done, noRoom, refusalPrinted, printed}
 
 -- ---------------------------------------------------------------- the lines from a position on
-module _ (input : List ℕ) (at : ℕ) where
-  line-from : at < length input → linesFrom input at ≡ readAt input at ∷ linesFrom input (lineEnd input at)
-  line-from h = let l = line-at input at h in rw (l .first, l .reads)
-
-  none-from : length input ≤ at → linesFrom input at ≡ []
-  none-from h = rw (lines-end input at h)
-
 -- how many they are
 abbrev pub countFrom : List ℕ → ℕ → ℕ
 countFrom input at = length (lines (drop at input))
@@ -65,11 +59,11 @@ answers-length input m at = texts-length m (linesFrom input at) ∙ ap (_*_ line
 module _ (input : List ℕ) (m : Module) (at : ℕ) where
   no-answer : length input ≤ at → answersFrom input m at ≡ []
   unfolding texts
-  no-answer h = rw (none-from input at h)
+  no-answer h = rw (none-left input at h)
 
   one-answer : at < length input → answersFrom input m at ≡ lineText (lineAnswer m (readAt input at)) ++ answersFrom input (lineNext m (readAt input at)) (lineEnd input at)
   unfolding texts
-  one-answer h = rw (line-from input at h)
+  one-answer h = rw (one-left input at h)
 
 -- a line in range that has room, written into the middle of an output
 line-written : (out : List ℕ) (to : ℕ) (ns : List ℤ) → allInRange ns ≡ true → to + length (lineText ns) ≤ length out
@@ -100,12 +94,12 @@ module _ (input out : List ℕ) where
   gives-none h = rw (lt-leb (length (replayed input)) (length out) h) (refl, refl)
 
 -- the code of the line writer
-module _ (room code value w : ℕ) (e : w ≡ writeCode room (refusal code value)) where
+module _ (room code value w : ℕ) (e : w ≡ writeCode room (refusalNumbers code value)) where
   pub refusal-done : w ≡ 0 → done lineLength ≡ refusalPrinted room code value
-  refusal-done z = either (canWrite room (refusal code value)) (λ t. rw t) (λ t. absurd (let q = rw t at (sym e ∙ z) in omega arith))
+  refusal-done z = either (canWrite room (refusalNumbers code value)) (λ t. rw t) (λ t. absurd (let q = rw t at (sym e ∙ z) in omega arith))
 
   pub refusal-no-room : (w ≡ 0 → ⊥) → noRoom ≡ refusalPrinted room code value
-  refusal-no-room n = either (canWrite room (refusal code value)) (λ t. absurd (n (e ∙ rw t))) (λ t. rw t)
+  refusal-no-room n = either (canWrite room (refusalNumbers code value)) (λ t. absurd (n (e ∙ rw t))) (λ t. rw t)
 
 -- by what table reading gives
 module _ (input out : List ℕ) (o : Opening) (e : o ≡ opened (readTable input)) where
@@ -117,10 +111,10 @@ module _ (input out : List ℕ) (o : Opening) (e : o ≡ opened (readTable input
     unfolding replayed
     refused-text = rw (ne-eqb (readTable input .code) 0 (λ z. bad (sym same-code ∙ z)))
 
-    pub refusal-gives : (r : Printed) (after : List ℕ) → r ≡ refusalPrinted (length out) (o .code) (o .value) → after ≡ written out (refusal (o .code) (o .value)) → Gives input out r after
+    pub refusal-gives : (r : Printed) (after : List ℕ) → r ≡ refusalPrinted (length out) (o .code) (o .value) → after ≡ written out (refusalNumbers (o .code) (o .value)) → Gives input out r after
     unfolding written
     refusal-gives r after p q =
-        rw (p, q, e, refusal-in-range input, refused-text, line-length (refusal (readTable input .code) (readTable input .value)))
+        rw (p, q, e, refusal-in-range input, refused-text, line-length (refusalNumbers (readTable input .code) (readTable input .value)))
         (either (leb lineLength (length out)) (λ t. rw t (refl, refl)) (λ t. rw t (refl, refl)))
 
   module _ (good : o .code ≡ 0) where

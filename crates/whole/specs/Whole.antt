@@ -1,13 +1,13 @@
 -- What the replay of a whole input gives back.
 use Prim.Native.Nat.{ℕ}
 use mathlib.Core.Bool.{cond}
-use mathlib.Core.List.{List, [], _∷_}
+use mathlib.Core.List.{List}
 use lib.ListN.{length}
 use lib.Dec.{leb}
-use lib.IntN.{ℤ, pos}
 use Rattle.machine.specs.Limits.{lineLength}
 use Rattle.machine.specs.Text.{lineRefusal, canWrite}
 use Rattle.machine.specs.Replay.{replayed, replayCode}
+use Rattle.answers.specs.Answers.{refusalNumbers}
 use Rattle.whole.specs.declared.Printed.{Printed}
 
 abbrev pub done : ℕ → Printed
@@ -17,12 +17,9 @@ done n = record { code = 0; value = 0; length = n }
 abbrev pub noRoom : Printed
 noRoom = record { code = lineRefusal; value = 0; length = 0 }
 
--- A bad table prints one line: code, line number, four 0.
-abbrev pub refusal : ℕ → ℕ → List ℤ
-refusal code value = pos code ∷ pos value ∷ pos 0 ∷ pos 0 ∷ pos 0 ∷ pos 0 ∷ []
-
+-- A bad table prints one line.
 abbrev pub refusalPrinted : ℕ → ℕ → ℕ → Printed
-refusalPrinted room code value = cond (canWrite room (refusal code value)) (done lineLength) noRoom
+refusalPrinted room code value = cond (canWrite room (refusalNumbers code value)) (done lineLength) noRoom
 
 -- 0 and how many bytes are printed, or 11 where there is too little room
 abbrev pub printed : List ℕ → ℕ → Printed

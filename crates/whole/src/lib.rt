@@ -3,10 +3,10 @@ ghost use mathlib.Core.Path.{_≡_};
 ghost use lib.ListN.{length, drop};
 ghost use Rattle.machine.specs.Text.{lines, readAt, written, writtenAt};
 ghost use Rattle.machine.specs.Replay.{lineNext, lineAnswer, replayedInto};
-ghost use Rattle.whole.specs.Whole.{refusal, done, noRoom, refusalPrinted, printed};
+ghost use Rattle.answers.specs.Answers.{refusalNumbers};
+ghost use Rattle.whole.specs.Whole.{done, noRoom, refusalPrinted, printed};
 use executive::Executive;
 use machine::Module;
-use machine::Numbers;
 
 // The number of an output that is too short.
 const REFUSED: u8 = 11;
@@ -40,17 +40,9 @@ fn no_room() -> Printed
 
 // A bad table prints one line: code, line number, four 0.
 fn print_refusal(out: &mut [u8], code: u8, value: u32) -> Printed
-    ensures { λ r. ⌜ (r ≡ refusalPrinted (length (now (out .entry))) code value) × (now (out .exit) ≡ written (now (out .entry)) (refusal code value)) ⌝ }
+    ensures { λ r. ⌜ (r ≡ refusalPrinted (length (now (out .entry))) code value) × (now (out .exit) ≡ written (now (out .entry)) (refusalNumbers code value)) ⌝ }
 {
-    let numbers = Numbers {
-        n1: code as i64,
-        n2: value as i64,
-        n3: 0,
-        n4: 0,
-        n5: 0,
-        n6: 0,
-    };
-    if line::write(out, numbers) == 0 {
+    if line::write(out, answers::refusal(code, value)) == 0 {
         return done(Module::LINE);
     }
     no_room()

@@ -54,7 +54,7 @@ fn run_often(s: Starts, list: Answered, rounds: u32) -> Answered {
 // ---------------------------------------------------------------- the input
 fn record_of(n: Numbers) -> EventRecord {
     EventRecord {
-        event: answers::event_of(n),
+        event: event_lines::event_of(n),
         answer: Answer {
             code: 0,
             value: 0,
@@ -101,7 +101,7 @@ fn list_at(input: &[u8], start: usize) -> Answered {
 // ---------------------------------------------------------------- the output
 fn print_answer(a: Answer) {
     let mut out = [0u8; Module::LINE];
-    line::write(&mut out, answers::numbers_of(a));
+    line::write(&mut out, event_lines::numbers_of(a));
     io::write_all(STDOUT_FILENO, &out);
 }
 

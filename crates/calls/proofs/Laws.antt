@@ -8,7 +8,7 @@ use Rattle.machine.specs.declared.Field.{Field}
 use Rattle.machine.specs.declared.Field.the-variants.{Number, MinusOne, Other}
 use Rattle.machine.specs.declared.Request.{Request}
 use Rattle.machine.specs.Limits.{nameLimit, priorityLimit}
-use Rattle.machine.specs.Field.{isNumber, between, isName, numberOf}
+use Rattle.machine.specs.Fields.{isNumber, between, isName, numberOf}
 use Rattle.machine.specs.Calls.{isPriority, admissible}
 use Rattle.machine.proofs.Tests.{and-left, and-right}
 use Rattle.machine.proofs.Fields.{in-limits}

@@ -5,7 +5,7 @@ ghost use mathlib.Core.Bool.{not, _&&_, _||_};
 ghost use lib.Dec.{eqb};
 ghost use lib.ListN.{length, take};
 ghost use Rattle.machine.specs.Limits.{processLimit, durationLimit};
-ghost use Rattle.machine.specs.Field.{isNumber, isMinusOne, between, isDuration, numberOf};
+ghost use Rattle.machine.specs.Fields.{isNumber, isMinusOne, between, isDuration, numberOf};
 ghost use Rattle.machine.specs.Process.{periodic};
 ghost use Rattle.machine.specs.Calls.{answered, answeredWith, blocked, unknown, dormant, setMode, processNamed, isMultiple, above, isPriority, admissible, createProcess, reaches, start, stop, stopSelf, suspend, suspendSelf, timedWait, periodicWait, resume, setPriority, status, getStatus};
 use machine::Called;

@@ -9,10 +9,11 @@ use lib.Dec.{eqb, leb}
 use lib.ListN.{length, set, List·getD-eq-default}
 use lib.Seq.{set-out}
 use borrow.Author.Tests.{eq-eqb, ne-eqb, eqb-true, eqb-false, not-true}
-use Rattle.machine.specs.Calls.{coded, valued, checked}
-use Rattle.machine.specs.Field.{isDuration, numberOf}
+use Rattle.machine.specs.Checks.{coded, valued, checked}
+use Rattle.machine.specs.Fields.{isDuration, numberOf}
 use Rattle.machine.specs.Limits.{channelLimit}
-use Rattle.machine.specs.Module.{noChannel, noMessage, channel, message, namedChannel, channelChecks, withMessage, refuse, age, write, read, erasedTo, leadsInto}
+use Rattle.machine.specs.Module.{noChannel, noMessage, channel, message, withMessage, refuse}
+use Rattle.machine.specs.Channels.{namedChannel, channelChecks, freshness, write, read, erasedTo, leadsInto}
 use Rattle.machine.specs.declared.Channel.{Channel}
 use Rattle.machine.specs.declared.Done.{Done}
 use Rattle.machine.specs.declared.Message.{Message}
@@ -82,7 +83,7 @@ module _ (T : Table) (k : ℕ) (r : Request) (c : Channel) (n : ℕ) (at : c ≡
         go false = refl
 
   module _ (t : ℕ) (x : Message) (ends : n ≡ firstCode (channelChecks T k r (c .destination))) where
-    read-checked : Stands coded (checked coded ((not (x .present), 1) ∷ []) (valued (x .value) (age t x c))) n (readReply T t k r x)
+    read-checked : Stands coded (checked coded ((not (x .present), 1) ∷ []) (valued (x .value) (freshness t x c))) n (readReply T t k r x)
     read-checked = rw (ends, at) (end-stands T k r (namedChannel T r .destination) coded _)
 
     pub read-refused : (a : Reply) → a ≡ coded n → (n ≡ 0 → ⊥) → a ≡ readReply T t k r x
@@ -141,7 +142,7 @@ pub read-replied : (m : Module) (k : ℕ) (r : Request) → read m k r ≡ recor
 unfolding read
 read-replied m k r =
     let x = message m (numberOf (r .a) - 1) in
-    let inner = checked-same m ((not (x .present), 1) ∷ []) (valued (x .value) (age (m .t) x (namedChannel (m .table) r))) in
+    let inner = checked-same m ((not (x .present), 1) ∷ []) (valued (x .value) (freshness (m .t) x (namedChannel (m .table) r))) in
     ap (checked (refuse m) (channelChecks (m .table) k r (namedChannel (m .table) r .destination))) inner
     ∙ checked-same m (channelChecks (m .table) k r (namedChannel (m .table) r .destination)) _
 

@@ -4,10 +4,11 @@ use mathlib.Core.Bool.{Bool, true, cond, not}
 use mathlib.Core.List.{List, [], _∷_}
 use lib.Dec.{eqb}
 use lib.ListN.{getD, set}
-use Rattle.machine.specs.Calls.{coded, valued, checked}
-use Rattle.machine.specs.Field.{isDuration, numberOf}
+use Rattle.machine.specs.Checks.{coded, valued, checked}
+use Rattle.machine.specs.Fields.{isDuration, numberOf}
 use Rattle.machine.specs.Limits.{channelLimit}
-use Rattle.machine.specs.Module.{noMessage, channel, namedChannel, channelChecks, age, leadsInto}
+use Rattle.machine.specs.Module.{noMessage, channel}
+use Rattle.machine.specs.Channels.{namedChannel, channelChecks, freshness, leadsInto}
 use Rattle.machine.specs.declared.Message.{Message}
 use Rattle.machine.specs.declared.Reply.{Reply}
 use Rattle.machine.specs.declared.Request.{Request}
@@ -30,7 +31,7 @@ writtenBy t r = record { present = true; value = numberOf (r .b); written = t }
 abbrev pub readReply : Table → ℕ → ℕ → Request → Message → Reply
 readReply T t k r x =
     checked coded (channelChecks T k r (namedChannel T r .destination))
-    (checked coded ((not (x .present), 1) ∷ []) (valued (x .value) (age t x (namedChannel T r))))
+    (checked coded ((not (x .present), 1) ∷ []) (valued (x .value) (freshness t x (namedChannel T r))))
 
 -- what the channel at place i holds, and the messages with x there
 abbrev pub held : ℕ → Messages → Message

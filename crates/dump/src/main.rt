@@ -274,6 +274,6 @@ fn print_module(m: Module) {
 }
 
 fn main() {
-    let x = console::replay(false);
+    let x = standard_io::replay(false);
     print_module(x.module());
 }

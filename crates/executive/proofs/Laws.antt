@@ -15,14 +15,19 @@ use mir.ValLaws.{toZ-ofZ}
 use borrow.Author.Tests.{eq-eqb, ne-eqb, lt-ltb, le-ltb, lt-leb, ltb-false, leb-true, leb-false, eqb-false}
 use Rattle.channels.specs.Channels.{sentBy, readBy, erasedIn}
 use Rattle.channels.specs.declared.Messages.{Messages}
-use Rattle.events.specs.Due.{anyDue}
-use Rattle.machine.specs.Calls.{coded, checked, partitionCall}
-use Rattle.machine.specs.Field.{requestOf, numberOf, field, between}
+use Rattle.ticks.specs.Due.{anyDue}
+use Rattle.machine.specs.Checks.{coded, checked}
+use Rattle.machine.specs.Services.{partitionCall}
+use Rattle.machine.specs.Fields.{requestOf, numberOf, field, between}
 use Rattle.machine.specs.Limits.{timeLimit, partitionLimit}
-use Rattle.machine.specs.Module.{noPartition, emptyTable, emptyModule, lookup, part, current, runningIn, withPart, withTime, dueAt, tickAt, tickTo, partitionCount, tickModule, refuse, restarts, restarted, accepts, storedCall, contextOf, callDone, malformed, noCaller, done, sees, answerTo, step}
+use Rattle.machine.specs.Module.{noPartition, emptyTable, emptyModule, part, current, runningIn, withPart, withTime, refuse}
+use Rattle.machine.specs.Windows.{lookup}
+use Rattle.machine.specs.Ticks.{dueAt, tickAt, tickTo, partitionCount, tickModule}
+use Rattle.machine.specs.Step.{restarts, restarted, accepts, storedCall, contextOf, callDone, done, sees, answerTo, step}
+use Rattle.machine.specs.Places.{malformed, noCaller}
 use Rattle.machine.specs.Partition.{running, noted}
 use Rattle.machine.specs.Valid.{SoundModule, Reached}
-use Rattle.machine.specs.Waiting.{waitingRefused, WaitingTime}
+use Rattle.machine.specs.Windows.{waitingRefused, WaitingTime}
 use Rattle.machine.specs.declared.Answer.{Answer}
 use Rattle.machine.specs.declared.Called.{Called}
 use Rattle.machine.specs.declared.Done.{Done}
@@ -38,7 +43,7 @@ use Rattle.machine.specs.declared.Table.{Table}
 use Rattle.machine.specs.declared.Waiting.{Waiting}
 use Rattle.windows.specs.Nearest.{waitingOf}
 use Rattle.channels.proofs.Laws.{Stands, stands-none, stands-checked, messagesOf, withMessages, write-sent, read-replied, erased-messages}
-use Rattle.events.proofs.Laws.{tick-same}
+use Rattle.ticks.proofs.Laws.{tick-same}
 use Rattle.machine.proofs.Bounds.{either}
 use Rattle.machine.proofs.Reached.{reached-valid}
 use Rattle.machine.proofs.Tests.{by-test, not-both}

@@ -1,7 +1,7 @@
 // The executive: a module that comes only from table reading and from events.
 ghost use mathlib.Core.Path.{_≡_};
 ghost use mathlib.Core.Bool.{cond};
-ghost use Rattle.machine.specs.Module.{restarts, accepts, sees, step};
+ghost use Rattle.machine.specs.Step.{restarts, accepts, sees, step};
 ghost use Rattle.machine.specs.Table.{readTable};
 ghost use Rattle.channels.specs.Channels.{erasedIn};
 ghost use Rattle.executive.specs.Executive.{turned, opened, unread, eventPlaces, callPlaces, settled, outcomeOf, actOf, shownSlot, answerOf, Awaited};
@@ -54,7 +54,7 @@ struct Outcome {
 fn event_places(table: Table, t: u32, k: u32, r: Request) -> Placed
     ensures { λ x. ⌜ x ≡ eventPlaces table t k r ⌝ }
 {
-    if events::is_malformed(table, r) {
+    if places::is_malformed(table, r) {
         return Placed { code: 13, time: t };
     }
     if k == 0 {
@@ -167,7 +167,7 @@ fn act(q: Messages, table: Table, t: u32, k: u32, r: Request, p: Partition) -> O
     ensures { λ o. ⌜ o ≡ actOf table t k r p q ⌝ }
 {
     let caller = partition::running_process(p);
-    if events::is_silent(p.mode, caller) {
+    if places::has_no_caller(p.mode, caller) {
         return Outcome {
             messages: q,
             partition: p,
@@ -244,8 +244,8 @@ impl Executive {
         if reply.code == 0 {
             if k == 0 {
                 m.t = placed.time;
-                if events::is_any_due(m) {
-                    m = events::tick_partitions(m);
+                if ticks::is_any_due(m) {
+                    m = ticks::tick_partitions(m);
                 }
             } else {
                 let i = (k - 1) as usize;

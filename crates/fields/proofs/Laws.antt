@@ -17,7 +17,7 @@ use Rattle.machine.specs.declared.Row.{Row}
 use Rattle.machine.specs.Limits.{greatestTime}
 use Rattle.machine.specs.declared.Event.{Event}
 use Rattle.machine.specs.declared.Request.{Request}
-use Rattle.machine.specs.Field.{field, rowOf, requestOf}
+use Rattle.machine.specs.Fields.{field, rowOf, requestOf}
 
 pub told : (z : ℤ) → SFits w64 z → (f : Field) → f ≡ field (toZ w64 (ofZ w64 z)) → f ≡ field z
 told z h f e = e ∙ ap field (toZ-ofZ w64 z h)

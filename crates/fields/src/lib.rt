@@ -1,6 +1,6 @@
 // The numbers of an event or a table line, as the rules look at them.
 ghost use mathlib.Core.Path.{_≡_};
-ghost use Rattle.machine.specs.Field.{field, rowOf, requestOf, isNumber, between, isDuration, isMinusOne, isTimeout, isName, numberOf, timeOf};
+ghost use Rattle.machine.specs.Fields.{field, rowOf, requestOf, isNumber, between, isDuration, isMinusOne, isTimeout, isName, numberOf, timeOf};
 use machine::Event;
 use machine::Field;
 use machine::Module;

@@ -18,7 +18,7 @@ use mir.Val.{toZ, ofZ}
 use mir.ValLaws.{toZ-pos}
 use Rattle.machine.specs.declared.Line.the-variants.{Six, Bad}
 use Rattle.machine.specs.Limits.{numberLimit, lineLength}
-use Rattle.machine.specs.Text.{lineFeed, space, minus, zeroDigit, base, fieldWidth, inRange, column, markAfter, columns, lastDigit, numberText, fieldText, sameBytes, spelled, candidate, readField, joined, fieldCount, readNumbers, readLine, firstLength, lineEnd}
+use Rattle.machine.specs.Line.{lineFeed, space, minus, zeroDigit, base, fieldWidth, inRange, column, markAfter, columns, lastDigit, numberText, fieldText, sameBytes, spelled, candidate, readField, joined, fieldCount, readNumbers, readLine, firstLength, lineEnd}
 use Rattle.machine.proofs.TextField.{columns-length, columns-more, columns-none, read-field}
 use Rattle.machine.proofs.TextLine.{reads-more, reads-none, read-line}
 use Rattle.line.proofs.Signed.{range-back, ranges-back}

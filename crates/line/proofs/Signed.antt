@@ -14,7 +14,7 @@ use mir.Val.{toZ, ofZ, SFits, Fits}
 use mir.ValLaws.{toZ-ofZ}
 use borrow.Author.Tests.{leb-true, ltb-true, eqb-true, ne-eqb}
 use Rattle.machine.specs.Limits.{numberLimit}
-use Rattle.machine.specs.Text.{space, minus, inRange, numberText, fieldText, allInRange}
+use Rattle.machine.specs.Line.{space, minus, inRange, numberText, fieldText, allInRange}
 
 -- the bits of −1
 abbrev ones : ℕ

@@ -14,7 +14,7 @@ use borrow.Author.Tests.{not-true, not-false, le-leb, lt-leb}
 use borrow.Rule.Slice.PartMut.{putMid}
 use Rattle.machine.specs.declared.Numbers.{Numbers}
 use Rattle.machine.specs.Limits.{lineLength}
-use Rattle.machine.specs.Text.{base, fieldWidth, column, markAfter, columns, lastDigit, numberText, fieldText, lineText, lineFeed, inRange, allInRange, numberList, lineRefusal, canWrite, writeCode, written, writtenAt}
+use Rattle.machine.specs.Line.{base, fieldWidth, column, markAfter, columns, lastDigit, numberText, fieldText, lineText, lineFeed, inRange, allInRange, numberList, lineRefusal, canWrite, writeCode, written, writtenAt}
 use Rattle.machine.proofs.TextField.{columns-length, columns-more, columns-none, field-length}
 use Rattle.machine.proofs.TextLine.{six-length}
 use Rattle.line.proofs.Parts.{tail-is, tail-put}

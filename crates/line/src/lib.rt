@@ -6,7 +6,7 @@ ghost use lib.ListN.{length, getD, take, drop};
 ghost use lib.Seq.{sets};
 ghost use lib.IntN.{pos};
 ghost use Rattle.machine.specs.Limits.{lineLength};
-ghost use Rattle.machine.specs.Text.{zeroDigit, fieldWidth, inRange, column, markAfter, lastDigit, numberText, fieldText, lineText, sameBytes, spelled, readField, numberList, readLine, readAt, allInRange, writeCode, written, writtenAt, lineEnd};
+ghost use Rattle.machine.specs.Line.{zeroDigit, fieldWidth, inRange, column, markAfter, lastDigit, numberText, fieldText, lineText, sameBytes, spelled, readField, numberList, readLine, readAt, allInRange, writeCode, written, writtenAt, lineEnd};
 ghost use Rattle.line.specs.Found.{foundOf};
 use machine::Line;
 use machine::Module;

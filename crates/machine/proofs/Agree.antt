@@ -11,7 +11,9 @@ use Rattle.machine.specs.declared.Table.{Table}
 use Rattle.machine.specs.declared.Message.{Message}
 use Rattle.machine.specs.declared.Module.{Module}
 use Rattle.machine.specs.Partition.{noted, tickPartition}
-use Rattle.machine.specs.Module.{part, message, channel, withPart, withMessage, withTime, dueAt, tickAt, tickTo, leadsInto, erasedTo, noMessage}
+use Rattle.machine.specs.Module.{part, message, channel, withPart, withMessage, withTime, noMessage}
+use Rattle.machine.specs.Ticks.{dueAt, tickAt, tickTo}
+use Rattle.machine.specs.Channels.{leadsInto, erasedTo}
 use Rattle.machine.proofs.Tests.{by-test, by-tests, set-both, not-both}
 
 pub record Agree (T : Table) (S : ℕ → Bool) (m n : Module) : Type 0 where

@@ -19,11 +19,18 @@ use Rattle.machine.specs.declared.Table.{Table}
 use Rattle.machine.specs.declared.Module.{Module}
 use Rattle.machine.specs.declared.Event.{Event as EventT}
 use Rattle.machine.specs.Limits.{processLimit, semaphoreLimit, eventLimit, timeLimit, numberLimit, channelLimit}
-use Rattle.machine.specs.Field.{requestOf, isNumber, numberOf}
+use Rattle.machine.specs.Fields.{requestOf, isNumber, numberOf}
 use Rattle.machine.specs.Process.{ready}
 use Rattle.machine.specs.Partition.{process, semaphore, event, running}
-use Rattle.machine.specs.Calls.{coded, checked, refused, blocked, dormant, setMode, createProcess, start, stop, stopSelf, suspend, suspendSelf, timedWait, periodicWait, resume, setPriority, status, getStatus, createSemaphore, createEvent, queued, waitSemaphore, waitEvent, signal, setEvent, resetEvent, partitionCall}
-use Rattle.machine.specs.Module.{emptyTable, emptyModule, lookup, part, message, current, runningIn, withTime, tickAt, tickTo, partitionCount, refuse, write, read, channelChecks, restarts, accepts, contextOf, sees, done, answerTo, step}
+use Rattle.machine.specs.Checks.{coded, checked}
+use Rattle.machine.specs.Calls.{refused, blocked, dormant, setMode, createProcess, start, stop, stopSelf, suspend, suspendSelf, timedWait, periodicWait, resume, setPriority, status, getStatus}
+use Rattle.machine.specs.Objects.{createSemaphore, createEvent, queued, waitSemaphore, waitEvent, signal, setEvent, resetEvent}
+use Rattle.machine.specs.Services.{partitionCall}
+use Rattle.machine.specs.Module.{emptyTable, emptyModule, part, message, current, runningIn, withTime, refuse}
+use Rattle.machine.specs.Windows.{lookup}
+use Rattle.machine.specs.Ticks.{tickAt, tickTo, partitionCount}
+use Rattle.machine.specs.Channels.{write, read, channelChecks}
+use Rattle.machine.specs.Step.{restarts, accepts, contextOf, sees, done, answerTo, step}
 use Rattle.machine.specs.Valid.{latestDeadline, NotAfter, Valid, SoundModule, ValidModule, Reached, ReplyInRange, AnswerInRange}
 use Rattle.machine.proofs.Tests.{by-test, by-checks, Passed, codesIn, by-codes}
 use Rattle.machine.proofs.Dispatch.{by-call}

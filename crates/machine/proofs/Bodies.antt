@@ -11,10 +11,13 @@ use Rattle.machine.specs.declared.Field.{Field}
 use Rattle.machine.specs.declared.Request.{Request}
 use Rattle.machine.specs.declared.Reply.{Reply}
 use Rattle.machine.specs.declared.Called.{Called}
-use Rattle.machine.specs.Field.{isNumber}
+use Rattle.machine.specs.Fields.{isNumber}
 use Rattle.machine.specs.Partition.{semaphore, event}
+use Rattle.machine.specs.Checks as Ck
 use Rattle.machine.specs.Calls as C
-use Rattle.machine.specs.Module.{accepts}
+use Rattle.machine.specs.Objects as Ob
+use Rattle.machine.specs.Services as Sv
+use Rattle.machine.specs.Step.{accepts}
 use Rattle.machine.proofs.Tests.{by-test, by-codes, codesIn, Passed, not-both}
 use Rattle.machine.proofs.Dispatch.{by-call}
 
@@ -41,7 +44,7 @@ blocked-body : (p : Partition) (id : ℕ) (x : _) → Body p (C.blocked id x p)
 unfolding C.blocked
 blocked-body p id x = taken p _ refl
 
-checks-body : (p : Partition) (l : List (Bool × ℕ)) (x : Called) → codesIn bodyRefusal l ≡ true → (Passed l → Body p x) → Body p (C.checked (C.refused p) l x)
+checks-body : (p : Partition) (l : List (Bool × ℕ)) (x : Called) → codesIn bodyRefusal l ≡ true → (Passed l → Body p x) → Body p (Ck.checked (C.refused p) l x)
 checks-body p l x h f = by-codes (Body p) bodyRefusal (C.refused p) l x h (denied p) f
 
 module _ (c : Context) (p : Partition) where
@@ -93,40 +96,40 @@ module _ (c : Context) (p : Partition) where
   unfolding C.getStatus
   get-status-body id = checks-body p _ _ refl (λ _. taken p _ refl)
 
-  create-semaphore-body : (r : Request) → Body p (C.createSemaphore r p)
-  unfolding C.createSemaphore
+  create-semaphore-body : (r : Request) → Body p (Ob.createSemaphore r p)
+  unfolding Ob.createSemaphore
   create-semaphore-body r = checks-body p _ _ refl (λ _. taken p _ refl)
 
-  create-event-body : (a : Field) → Body p (C.createEvent a p)
-  unfolding C.createEvent
+  create-event-body : (a : Field) → Body p (Ob.createEvent a p)
+  unfolding Ob.createEvent
   create-event-body a = checks-body p _ _ refl (λ _. taken p _ refl)
 
-  queued-body : (a : Field) (w : Wait) → Body p (C.queued c a w p)
-  unfolding C.queued
+  queued-body : (a : Field) (w : Wait) → Body p (Ob.queued c a w p)
+  unfolding Ob.queued
   queued-body a w = checks-body p _ _ refl (λ _. blocked-body p _ _)
 
-  wait-semaphore-body : (k : ℕ) (a : Field) → Body p (C.waitSemaphore c k a p)
-  unfolding C.waitSemaphore
+  wait-semaphore-body : (k : ℕ) (a : Field) → Body p (Ob.waitSemaphore c k a p)
+  unfolding Ob.waitSemaphore
   wait-semaphore-body k a = checks-body p _ _ refl (λ _. by-test (Body p) (ltb 0 (semaphore k p .value)) (λ _. taken p _ refl) (λ _. queued-body a _))
 
-  wait-event-body : (k : ℕ) (a : Field) → Body p (C.waitEvent c k a p)
-  unfolding C.waitEvent
+  wait-event-body : (k : ℕ) (a : Field) → Body p (Ob.waitEvent c k a p)
+  unfolding Ob.waitEvent
   wait-event-body k a = checks-body p _ _ refl (λ _. by-test (Body p) (event k p .up) (λ _. taken p _ refl) (λ _. queued-body a _))
 
-  signal-body : (k : ℕ) → Body p (C.signal k p)
-  unfolding C.signal
+  signal-body : (k : ℕ) → Body p (Ob.signal k p)
+  unfolding Ob.signal
   signal-body k = checks-body p _ _ refl (λ _. taken p _ refl)
 
-  set-event-body : (k : ℕ) → Body p (C.setEvent k p)
-  unfolding C.setEvent
+  set-event-body : (k : ℕ) → Body p (Ob.setEvent k p)
+  unfolding Ob.setEvent
   set-event-body k = checks-body p _ _ refl (λ _. taken p _ refl)
 
-  reset-event-body : (k : ℕ) → Body p (C.resetEvent k p)
-  unfolding C.resetEvent
+  reset-event-body : (k : ℕ) → Body p (Ob.resetEvent k p)
+  unfolding Ob.resetEvent
   reset-event-body k = checks-body p _ _ refl (λ _. taken p _ refl)
 
 -- the body of each call
-pub call-body : (c : Context) (n : ℕ) (r : Request) (p : Partition) → 1 ≤ n → n ≤ 20 → Body p (C.partitionCall c n r p)
+pub call-body : (c : Context) (n : ℕ) (r : Request) (p : Partition) → 1 ≤ n → n ≤ 20 → Body p (Sv.partitionCall c n r p)
 call-body c n r p lo hi =
     by-call c n r p (Body p)
     (set-mode-body c p _) (create-process-body c p _) (start-body c p _ _) (start-body c p _ _) (stop-body c p _)

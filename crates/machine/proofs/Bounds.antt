@@ -14,8 +14,9 @@ use Rattle.machine.specs.declared.Partition.{Partition}
 use Rattle.machine.specs.Limits.{processLimit, semaphoreLimit, eventLimit}
 use Rattle.machine.specs.Ids.{follow}
 use Rattle.machine.specs.Process.{blankProcess, ready, onObject}
-use Rattle.machine.specs.Partition.{within, named, replaced, noSemaphore, noEvent, withSemaphores, withEvents, withProcesses, stored}
-use Rattle.machine.specs.Calls.{unknown, withValue, withUp}
+use Rattle.machine.specs.Partition.{within, byId, replaced, noSemaphore, noEvent, withSemaphores, withEvents, withProcesses, stored}
+use Rattle.machine.specs.Calls.{unknown}
+use Rattle.machine.specs.Objects.{withValue, withUp}
 use Rattle.machine.proofs.Tests.{by-test, or-left, or-right, and-left, and-right}
 
 -- ---------------------------------------------------------------- tests
@@ -70,12 +71,12 @@ module _ (limit id : ℕ) where
   within-out h = let r = and-true-parts (ltb 0 id) (leb id limit) h in (ltb-true 0 id (r .0), leb-true id limit (r .1))
 
   module _ {A : Type 0} (d : A) (l : List A) where
-    pub named-in : within limit id ≡ true → named limit d id l ≡ getD l (id - 1) d
-    unfolding named
+    pub named-in : within limit id ≡ true → byId limit d id l ≡ getD l (id - 1) d
+    unfolding byId
     named-in h = rw h
 
-    pub named-out : within limit id ≡ false → named limit d id l ≡ d
-    unfolding named
+    pub named-out : within limit id ≡ false → byId limit d id l ≡ d
+    unfolding byId
     named-out h = rw h
 
     pub replaced-in : within limit id ≡ true → replaced limit id d l ≡ set l (id - 1) d
@@ -87,8 +88,8 @@ module _ (limit id : ℕ) where
     replaced-out h = rw h
 
     -- replacing what is there by itself changes nothing
-    pub replaced-same : replaced limit id (named limit d id l) l ≡ l
-    unfolding replaced named
+    pub replaced-same : replaced limit id (byId limit d id l) l ≡ l
+    unfolding replaced byId
     replaced-same = go (within limit id)
       where
         go : (b : Bool) → cond b (set l (id - 1) (cond b (getD l (id - 1) d) d)) l ≡ l
@@ -106,17 +107,17 @@ getD-replicate-any n i a = either (ltb i n)
     (λ e. getD-replicate n i a a (ltb-true i n e))
     (λ e. List·getD-eq-default (replicate n a) a (rw (length-replicate n a) (ltb-false i n e)))
 
-pub named-replicate : {A : Type 0} (limit n id : ℕ) (a : A) → named limit a id (replicate n a) ≡ a
-unfolding named
+pub named-replicate : {A : Type 0} (limit n id : ℕ) (a : A) → byId limit a id (replicate n a) ≡ a
+unfolding byId
 named-replicate limit n id a = by-test (λ (y : _). y ≡ a) (within limit id) (λ _. getD-replicate-any n (id - 1) a) (λ _. refl)
 
 -- what an id names after another, or the same, has been replaced
 module _ {A : Type 0} (limit : ℕ) (d : A) (id : ℕ) (a : A) (l : List A) (lo : 1 ≤ id) where
-  pub named-same : id ≤ limit → id ≤ length l → named limit d id (set l (id - 1) a) ≡ a
+  pub named-same : id ≤ limit → id ≤ length l → byId limit d id (set l (id - 1) a) ≡ a
   named-same hi long = named-in limit id d (set l (id - 1) a) (within-in limit id lo hi) ∙ getD-set-same l (id - 1) a d (omega arith)
 
-  pub named-other : (y : ℕ) → (y ≡ id → ⊥) → named limit d y (set l (id - 1) a) ≡ named limit d y l
-  unfolding named
+  pub named-other : (y : ℕ) → (y ≡ id → ⊥) → byId limit d y (set l (id - 1) a) ≡ byId limit d y l
+  unfolding byId
   named-other y ne = go (within limit y) refl
     where
       go : (b : Bool) → within limit y ≡ b → cond b (getD (set l (id - 1) a) (y - 1) d) d ≡ cond b (getD l (y - 1) d) d
@@ -135,17 +136,17 @@ module _ (id : ℕ) (x : Process) (p : Partition) where
 
 module _ (k : ℕ) (p : Partition) where
   pub value-in : (n : ℕ) → within semaphoreLimit k ≡ true → withValue k n p ≡ (let s = getD (p .semaphores) (k - 1) noSemaphore in withSemaphores (set (p .semaphores) (k - 1) (record { name = s .name; value = n; max = s .max })) (p .semaphoreCount) p)
-  unfolding withValue named replaced
+  unfolding withValue byId replaced
   value-in n h = rw h
 
   pub value-out : (n : ℕ) → within semaphoreLimit k ≡ false → withValue k n p ≡ p
-  unfolding withValue named replaced
+  unfolding withValue byId replaced
   value-out n h = rw h
 
   pub up-in : (b : Bool) → within eventLimit k ≡ true → withUp k b p ≡ withEvents (set (p .events) (k - 1) (record { name = getD (p .events) (k - 1) noEvent .name; up = b })) (p .eventCount) p
-  unfolding withUp named replaced
+  unfolding withUp byId replaced
   up-in b h = rw h
 
   pub up-out : (b : Bool) → within eventLimit k ≡ false → withUp k b p ≡ p
-  unfolding withUp named replaced
+  unfolding withUp byId replaced
   up-out b h = rw h

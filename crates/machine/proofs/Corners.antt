@@ -20,16 +20,19 @@ use Rattle.machine.specs.declared.Wait.the-variants.{Period}
 use Rattle.machine.specs.declared.Time.{Time}
 use Rattle.machine.specs.declared.Time.the-variants.{Never, At}
 use Rattle.machine.specs.Limits.{nameLimit, priorityLimit, valueLimit, durationLimit, timeLimit, greatestTime}
-use Rattle.machine.specs.Field.{isName, isNumber, between, isMinusOne, numberOf}
+use Rattle.machine.specs.Fields.{isName, isNumber, between, isMinusOne, numberOf}
 use Rattle.machine.specs.Process.{isNever, periodic, nextRelease}
 use Rattle.machine.specs.Partition.{normalMode, process, semaphore, event, stored, arrivedLast}
+use Rattle.machine.specs.Checks as Ck
 use Rattle.machine.specs.Calls as C
+use Rattle.machine.specs.Objects as Ob
 use Rattle.machine.specs.Module as M
+use Rattle.machine.specs.Channels as Ch
 use Rattle.machine.specs.Starred.{CanCreate, CanCreateSemaphore, CanCreateEvent, periodFits, capacityFits, Edge, withName, withPriority, withPeriod, Corners}
 
 -- where 4, 1 and 5 do not hold, CREATE_PROCESS answers 0 or 3
 create-code : (c : Context) (r : Request) (p : Partition) → CanCreate c r p → (b : Bool) → C.admissible c r ≡ b → C.createProcess c r p .reply .code ≡ cond b 0 3
-unfolding C.createProcess C.checked
+unfolding C.createProcess Ck.checked
 create-code c r p h true q = rw (h .room, h .new, q, h .early)
 create-code c r p h false q = rw (h .room, h .new, q)
 
@@ -42,7 +45,7 @@ priority-edge c r p h n f k = (
 
 set-priority-edge : (id : ℕ) (p : Partition) → C.unknown id (p .processCount) ≡ false → process id p .started ≡ true
     → Edge (C.setPriority id (Number priorityLimit) p .reply .code) (C.setPriority id (Number (priorityLimit + 1)) p .reply .code)
-unfolding C.setPriority C.checked
+unfolding C.setPriority Ck.checked
 set-priority-edge id p u s = (rw (u, s), rw u)
 
 process-name-edge : (c : Context) (r : Request) (p : Partition) → CanCreate c (withName nameLimit r) p → CanCreate c (withName (nameLimit + 1) r) p → C.isPriority (r .b) ≡ true → periodFits c r ≡ true → capacityFits r ≡ true
@@ -50,13 +53,13 @@ process-name-edge : (c : Context) (r : Request) (p : Partition) → CanCreate c 
 process-name-edge c r p h g b f k = (create-code c (withName nameLimit r) p h true (rw (b, f) k), create-code c (withName (nameLimit + 1) r) p g false refl)
 
 semaphore-name-edge : (r : Request) (p : Partition) → CanCreateSemaphore (withName nameLimit r) p → CanCreateSemaphore (withName (nameLimit + 1) r) p → (between 1 valueLimit (r .c) && between 0 (numberOf (r .c)) (r .b)) ≡ true
-    → Edge (C.createSemaphore (withName nameLimit r) p .reply .code) (C.createSemaphore (withName (nameLimit + 1) r) p .reply .code)
-unfolding C.createSemaphore C.checked
+    → Edge (Ob.createSemaphore (withName nameLimit r) p .reply .code) (Ob.createSemaphore (withName (nameLimit + 1) r) p .reply .code)
+unfolding Ob.createSemaphore Ck.checked
 semaphore-name-edge r p h g k = (rw (h .room, h .new, k, h .early), rw (g .room, g .new))
 
 event-name-edge : (p : Partition) → CanCreateEvent (Number nameLimit) p → CanCreateEvent (Number (nameLimit + 1)) p
-    → Edge (C.createEvent (Number nameLimit) p .reply .code) (C.createEvent (Number (nameLimit + 1)) p .reply .code)
-unfolding C.createEvent C.checked
+    → Edge (Ob.createEvent (Number nameLimit) p .reply .code) (Ob.createEvent (Number (nameLimit + 1)) p .reply .code)
+unfolding Ob.createEvent Ck.checked
 event-name-edge p h g = (rw (h .room, h .new, h .early), rw (g .room, g .new))
 
 no-third : (a b d : Bool) → (((a && b) && false) && d) ≡ false
@@ -83,7 +86,7 @@ period-edge c r p lo hi h n b m =
 
 delay-edge : (c : Context) (id n : ℕ) (p : Partition) → C.unknown id (p .processCount) ≡ false → process id p .started ≡ false → process id p .given .period ≡ At n → 1 ≤ n → n ≤ durationLimit
     → Edge (C.start c id (Number (n - 1)) p .reply .code) (C.start c id (Number n) p .reply .code)
-unfolding C.start C.checked
+unfolding C.start Ck.checked
 delay-edge c id n p u s e lo hi =
     let a : leb (n - 1) durationLimit ≡ true = le-leb (n - 1) durationLimit (omega arith) in
     let b : leb n (n - 1) ≡ false = lt-leb n (n - 1) (omega arith) in
@@ -91,16 +94,16 @@ delay-edge c id n p u s e lo hi =
     let f : leb n n ≡ true = le-leb n n (omega arith) in
     (rw (u, e, from-zero (n - 1), a, b, s), rw (u, e, from-zero n, d, f))
 
-age-edge : (m : Module) (k : ℕ) (r : Request) → between 1 (m .table .channelCount) (r .a) ≡ true → M.namedChannel (m .table) r .destination ≡ k → M.message m (numberOf (r .a) - 1) .present ≡ true
+age-edge : (m : Module) (k : ℕ) (r : Request) → between 1 (m .table .channelCount) (r .a) ≡ true → Ch.namedChannel (m .table) r .destination ≡ k → M.message m (numberOf (r .a) - 1) .present ≡ true
     → let written = M.message m (numberOf (r .a) - 1) .written in
-    let refresh = M.namedChannel (m .table) r .refresh in
-    (M.read m k r .reply .code ≡ 0) × (m .t ≡ written + refresh → M.read m k r .reply .extra ≡ At 1) × (m .t ≡ written + refresh + 1 → M.read m k r .reply .extra ≡ At 0)
-unfolding M.read M.channelChecks C.checked
+    let refresh = Ch.namedChannel (m .table) r .refresh in
+    (Ch.read m k r .reply .code ≡ 0) × (m .t ≡ written + refresh → Ch.read m k r .reply .extra ≡ At 1) × (m .t ≡ written + refresh + 1 → Ch.read m k r .reply .extra ≡ At 0)
+unfolding Ch.read Ch.channelChecks Ck.checked
 age-edge m k r b d x =
     let y = M.message m (numberOf (r .a) - 1) in
-    let f = M.namedChannel (m .table) r .refresh in
-    let e : eqb (M.namedChannel (m .table) r .destination) k ≡ true = eq-eqb _ _ d in
-    let a : M.apart k (M.namedChannel (m .table) r) ≡ false = rw e (and-false (not (eqb (M.namedChannel (m .table) r .source) k))) in (
+    let f = Ch.namedChannel (m .table) r .refresh in
+    let e : eqb (Ch.namedChannel (m .table) r .destination) k ≡ true = eq-eqb _ _ d in
+    let a : Ch.apart k (Ch.namedChannel (m .table) r) ≡ false = rw e (and-false (not (eqb (Ch.namedChannel (m .table) r .source) k))) in (
       rw (b, a, e, x),
       λ t. let l : leb (m .t - y .written) f ≡ true = le-leb (m .t - y .written) f (omega arith) in rw (b, a, e, x, l),
       λ t. let l : leb (m .t - y .written) f ≡ false = lt-leb (m .t - y .written) f (omega arith) in rw (b, a, e, x, l),
@@ -108,27 +111,27 @@ age-edge m k r b d x =
 
 suspend-self-zero : (c : Context) (p : Partition) → normalMode p ≡ true → periodic (process (c .caller) p) ≡ false
     → (C.suspendSelf c (Number 0) p .reply .code ≡ 0) × (C.suspendSelf c (Number 0) p .partition ≡ p)
-unfolding C.suspendSelf C.checked
+unfolding C.suspendSelf Ck.checked
 suspend-self-zero c p n a = (rw (n, a), rw (n, a))
 
 timed-wait-zero : (c : Context) (p : Partition) → normalMode p ≡ true
     → (C.timedWait c (Number 0) p .reply .code ≡ 0) × (C.timedWait c (Number 0) p .partition ≡ arrivedLast (c .caller) p)
-unfolding C.timedWait C.checked
+unfolding C.timedWait Ck.checked
 timed-wait-zero c p n = (rw n, rw n)
 
 wait-semaphore-zero : (c : Context) (k : ℕ) (p : Partition) → normalMode p ≡ true → C.unknown k (p .semaphoreCount) ≡ false → semaphore k p .value ≡ 0
-    → (C.waitSemaphore c k (Number 0) p .reply .code ≡ 2) × (C.waitSemaphore c k (Number 0) p .partition ≡ p)
-unfolding C.waitSemaphore C.queued C.checked
+    → (Ob.waitSemaphore c k (Number 0) p .reply .code ≡ 2) × (Ob.waitSemaphore c k (Number 0) p .partition ≡ p)
+unfolding Ob.waitSemaphore Ob.queued Ck.checked
 wait-semaphore-zero c k p n u v = (rw (u, n, v), rw (u, n, v))
 
 wait-event-zero : (c : Context) (k : ℕ) (p : Partition) → normalMode p ≡ true → C.unknown k (p .eventCount) ≡ false → event k p .up ≡ false
-    → (C.waitEvent c k (Number 0) p .reply .code ≡ 2) × (C.waitEvent c k (Number 0) p .partition ≡ p)
-unfolding C.waitEvent C.queued C.checked
+    → (Ob.waitEvent c k (Number 0) p .reply .code ≡ 2) × (Ob.waitEvent c k (Number 0) p .partition ≡ p)
+unfolding Ob.waitEvent Ob.queued Ck.checked
 wait-event-zero c k p n u v = (rw (u, n, v), rw (u, n, v))
 
 signal-at-max : (k : ℕ) (p : Partition) → C.unknown k (p .semaphoreCount) ≡ false → semaphore k p .value ≡ semaphore k p .max
-    → (C.signal k p .reply .code ≡ 1) × (C.signal k p .partition ≡ p)
-unfolding C.signal C.checked
+    → (Ob.signal k p .reply .code ≡ 1) × (Ob.signal k p .partition ≡ p)
+unfolding Ob.signal Ck.checked
 signal-at-max k p u v = let e : eqb (semaphore k p .value) (semaphore k p .max) ≡ true = eq-eqb _ _ v in (rw (u, e), rw (u, e))
 
 periodic-wait-late : (c : Context) (r n : ℕ) (p : Partition) → normalMode p ≡ true → c .time ≤ timeLimit
@@ -138,7 +141,7 @@ periodic-wait-late : (c : Context) (r n : ℕ) (p : Partition) → normalMode p 
     × (nextRelease (process (c .caller) p) .wait ≡ Period)
     × (nextRelease (process (c .caller) p) .times .release ≡ At (r + n))
     × (nextRelease (process (c .caller) p) .times .wake ≡ At (r + n))
-unfolding C.periodicWait C.blocked C.checked
+unfolding C.periodicWait C.blocked Ck.checked
 periodic-wait-late c r n p m t e f h =
     let s : leb (r + n) greatestTime ≡ true = le-leb (r + n) greatestTime (omega arith) in
     let q : isNever (process (c .caller) p .given .period) ≡ false = rw f in
@@ -153,7 +156,7 @@ corners = record {
   eventName = event-name-edge;
   period = period-edge;
   delay = delay-edge;
-  age = age-edge;
+  freshness = age-edge;
   suspendSelf = suspend-self-zero;
   timedWait = timed-wait-zero;
   waitSemaphore = wait-semaphore-zero;

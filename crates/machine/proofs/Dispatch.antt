@@ -10,8 +10,10 @@ use Rattle.machine.specs.declared.Context.{Context}
 use Rattle.machine.specs.declared.Field.the-variants.{Number}
 use Rattle.machine.specs.declared.Request.{Request}
 use Rattle.machine.specs.declared.Called.{Called}
-use Rattle.machine.specs.Field.{numberOf}
-use Rattle.machine.specs.Calls.{refused, setMode, createProcess, start, stop, stopSelf, suspend, suspendSelf, timedWait, periodicWait, resume, setPriority, getStatus, createSemaphore, waitSemaphore, signal, createEvent, setEvent, resetEvent, waitEvent, partitionCall}
+use Rattle.machine.specs.Fields.{numberOf}
+use Rattle.machine.specs.Calls.{refused, setMode, createProcess, start, stop, stopSelf, suspend, suspendSelf, timedWait, periodicWait, resume, setPriority, getStatus}
+use Rattle.machine.specs.Objects.{createSemaphore, waitSemaphore, signal, createEvent, setEvent, resetEvent, waitEvent}
+use Rattle.machine.specs.Services.{partitionCall}
 use Rattle.machine.proofs.Tests.{by-test}
 
 past : (n i : ℕ) → i ≤ n → eqb n i ≡ false → i < n

@@ -6,7 +6,7 @@ use lib.Dec.{leb, eqb}
 use borrow.Author.Tests.{leb-true}
 use Rattle.machine.specs.declared.Field.{Field}
 use Rattle.machine.specs.declared.Field.the-variants.{Number, MinusOne, Other}
-use Rattle.machine.specs.Field.{isNumber, between, numberOf}
+use Rattle.machine.specs.Fields.{isNumber, between, numberOf}
 use Rattle.machine.proofs.Tests.{and-left, and-right}
 
 pub in-limits : (low high : ℕ) (f : Field) → between low high f ≡ true → (low ≤ numberOf f) × (numberOf f ≤ high)

@@ -15,7 +15,9 @@ use Rattle.machine.specs.declared.Module.{Module}
 use Rattle.machine.specs.Limits.{greatestTime}
 use Rattle.machine.specs.Ids.{members}
 use Rattle.machine.specs.Partition.{process, stored, preferred, chosen, ended, endedAll, eachFrom, sooner, soonestFrom}
-use Rattle.machine.specs.Module.{channel, withMessage, noMessage, tickAt, tickTo, erasedTo}
+use Rattle.machine.specs.Module.{channel, withMessage, noMessage}
+use Rattle.machine.specs.Ticks.{tickAt, tickTo}
+use Rattle.machine.specs.Channels.{erasedTo}
 use Rattle.machine.proofs.Lists.{next-member, no-member}
 
 -- a list of ids, from place i on

@@ -14,7 +14,7 @@ use Rattle.machine.specs.declared.Partition.{Partition}
 use Rattle.machine.specs.Limits.{processLimit}
 use Rattle.machine.specs.Ids.{members, other, removed, follow}
 use Rattle.machine.specs.Process.{blankProcess, ready, onObject, waitEnded}
-use Rattle.machine.specs.Partition.{within, named, process, withProcesses, stored, arrivedLast, ended, endedAll, eachFrom, each}
+use Rattle.machine.specs.Partition.{within, byId, process, withProcesses, stored, arrivedLast, ended, endedAll, eachFrom, each}
 use Rattle.machine.specs.Valid.{Between, contains, Distinct, Tracks, Numbered, ListedIn, ObjectsIn, SoundProcess, settingOf, Valid}
 use Rattle.machine.proofs.Tests.{by-test, not-both}
 use Rattle.machine.proofs.Bounds.{not-so, same-or-not, and-true-parts, within-in, within-out, named-in, named-same, named-other, stored-in, stored-out, either}
@@ -30,7 +30,7 @@ module _ {A : Type 0} {limit : ℕ} {d : A} {l : List A} {n : ℕ} (h : Numbered
   }
 
   -- a property of all of them
-  pub all-set : (P : A → Type 0) → P a → ((y : ℕ) → Between 1 m y → (y ≡ id → ⊥) → P (named limit d y l)) → (y : ℕ) → Between 1 m y → P (named limit d y (set l (id - 1) a))
+  pub all-set : (P : A → Type 0) → P a → ((y : ℕ) → Between 1 m y → (y ≡ id → ⊥) → P (byId limit d y l)) → (y : ℕ) → Between 1 m y → P (byId limit d y (set l (id - 1) a))
   all-set P new old y r = ⊎-elim
       (λ (e : y ≡ id). rw (e, named-same limit d id a l (b .0) (omega arith) (omega (arith, h .size))) new)
       (λ (ne : y ≡ id → ⊥). rw (named-other limit d id a l (b .0) y ne) (old y r ne))
@@ -39,8 +39,8 @@ module _ {A : Type 0} {limit : ℕ} {d : A} {l : List A} {n : ℕ} (h : Numbered
 -- ---------------------------------------------------------------- what the created processes are
 -- a property that the blank process lacks is one of ids, and of those created
 module _ (f : Process → Bool) (blank : f blankProcess ≡ false) where
-  pub process-ranged : (l : List Process) → Ranged (λ id. f (named processLimit blankProcess id l))
-  unfolding named
+  pub process-ranged : (l : List Process) → Ranged (λ id. f (byId processLimit blankProcess id l))
+  unfolding byId
   process-ranged l x h = go (within processLimit x) refl h
     where
       go : (b : Bool) → within processLimit x ≡ b → f (cond b (getD l (x - 1) blankProcess) blankProcess) ≡ true → (1 ≤ x) × (x ≤ processLimit)
@@ -80,9 +80,9 @@ module _ (p : Partition) (id : ℕ) (x : Process) where
     pub process-stored : process id (stored id x p) ≡ x
     process-stored = rw (stored-in id x p inside-limit) (named-same processLimit blankProcess id x (p .processes) (b .0) high (omega (arith, high, v .numbered .size)))
 
-    tracked : (f : Process → Bool) → f blankProcess ≡ false → (q : Ids) → Tracks (λ y. f (process y p)) q → Tracks (λ y. f (named processLimit blankProcess y (set (p .processes) (id - 1) x))) (follow (f (process id p)) (f x) id q)
+    tracked : (f : Process → Bool) → f blankProcess ≡ false → (q : Ids) → Tracks (λ y. f (process y p)) q → Tracks (λ y. f (byId processLimit blankProcess y (set (p .processes) (id - 1) x))) (follow (f (process id p)) (f x) id q)
     tracked f blank q tr =
-        tracks-follow (λ y. f (process y p)) q tr (λ y. f (named processLimit blankProcess y (set (p .processes) (id - 1) x))) id
+        tracks-follow (λ y. f (process y p)) q tr (λ y. f (byId processLimit blankProcess y (set (p .processes) (id - 1) x))) id
         (λ y ne. ap f (named-other processLimit blankProcess id x (p .processes) (b .0) y ne))
         (process-ranged f blank (p .processes)) (b .0) high (f (process id p)) (f x) refl
         (ap f (named-same processLimit blankProcess id x (p .processes) (b .0) high (omega (arith, high, v .numbered .size))))

@@ -22,10 +22,12 @@ use Rattle.machine.specs.declared.Time.{Time}
 use Rattle.machine.specs.declared.Time.the-variants.{Never, At}
 use Rattle.machine.specs.Limits.{processLimit, semaphoreLimit, eventLimit, nameLimit, priorityLimit, valueLimit, durationLimit, timeLimit, greatestValue}
 use Rattle.machine.specs.Ids.{members}
-use Rattle.machine.specs.Field.{isNumber, between, isDuration, isMinusOne, isTimeout, isName, numberOf, timeOf}
+use Rattle.machine.specs.Fields.{isNumber, between, isDuration, isMinusOne, isTimeout, isName, numberOf, timeOf}
 use Rattle.machine.specs.Process.{createdProcess, blankProcess, later, object, onObject, periodic, ready, waitEnded, withCurrent, waitingFor, entered, ticked}
-use Rattle.machine.specs.Partition.{normalMode, idleMode, named, nothingCreated, noSemaphore, noEvent, process, semaphore, event, withMode, stored, waitsOn, waiters, ended, endedAll, each, running, tickPartition, enteredNormal, freshPartition}
-use Rattle.machine.specs.Calls.{refused, blocked, startMode, dormant, setMode, isMultiple, above, isPriority, admissible, withNewProcess, createProcess, reaches, start, stop, stopSelf, suspend, suspendSelf, timedWait, periodicWait, resume, setPriority, getStatus, createSemaphore, createEvent, withValue, withUp, queued, waitSemaphore, waitEvent, oneMore, signalled, signal, setEvent, resetEvent, partitionCall}
+use Rattle.machine.specs.Partition.{normalMode, idleMode, byId, nothingCreated, noSemaphore, noEvent, process, semaphore, event, withMode, stored, waitsOn, waiters, ended, endedAll, each, running, tickPartition, enteredNormal, freshPartition}
+use Rattle.machine.specs.Calls.{refused, blocked, startMode, dormant, setMode, isMultiple, above, isPriority, admissible, withNewProcess, createProcess, reaches, start, stop, stopSelf, suspend, suspendSelf, timedWait, periodicWait, resume, setPriority, getStatus}
+use Rattle.machine.specs.Objects.{createSemaphore, createEvent, withValue, withUp, queued, waitSemaphore, waitEvent, oneMore, signalled, signal, setEvent, resetEvent}
+use Rattle.machine.specs.Services.{partitionCall}
 use Rattle.machine.specs.Valid.{Between, contains, Distinct, Tracks, Timeout, Ahead, SoundPeriod, SoundCapacity, NotAbove, Below, SoundGiven, SoundProcess, SoundSemaphore, SoundEvent, Numbered, ListedIn, settingOf, Valid, SoundContext}
 use Rattle.machine.proofs.Tests.{by-test, Passed, by-checks, not-both}
 use Rattle.machine.proofs.Bounds.{not-so, or-false-parts, and-true-parts, known-id, within-in, named-in, named-same, named-other, replaced-in, named-replicate, value-in, up-in, either}
@@ -386,8 +388,8 @@ module _ (c : Context) (p : Partition) (v : Valid (c .frame) (c .time) p) where
       let n = p .processCount + 1 in
       let x = createdProcess g in
       let o = v .lists in
-      let tracked : (f : Process → Bool) → f blankProcess ≡ f x → (q : Ids) → Tracks (λ y. f (process y p)) q → Tracks (λ y. f (named processLimit blankProcess y (set (p .processes) (n - 1) x))) q = λ f e q tr.
-      tracks-same (λ y. f (process y p)) q tr (λ y. f (named processLimit blankProcess y (set (p .processes) (n - 1) x))) n
+      let tracked : (f : Process → Bool) → f blankProcess ≡ f x → (q : Ids) → Tracks (λ y. f (process y p)) q → Tracks (λ y. f (byId processLimit blankProcess y (set (p .processes) (n - 1) x))) q = λ f e q tr.
+      tracks-same (λ y. f (process y p)) q tr (λ y. f (byId processLimit blankProcess y (set (p .processes) (n - 1) x))) n
       (λ y ne. ap f (named-other processLimit blankProcess n x (p .processes) (omega arith) y ne))
       (ap f (named-same processLimit blankProcess n x (p .processes) (omega arith) (omega arith) (omega (arith, o .numbered .size))) ∙ sym e ∙ ap f (sym (o .numbered .past n (omega arith)))) in
       rw (replaced-in processLimit n x (p .processes) (within-in processLimit n (omega arith) (omega arith))) (record {

@@ -18,12 +18,12 @@ use Rattle.machine.specs.declared.Field.the-variants.{Number, MinusOne, 
 use Rattle.machine.specs.declared.Time.{Time}
 use Rattle.machine.specs.declared.Time.the-variants.{Never, At}
 use Rattle.machine.specs.Limits.{processLimit, semaphoreLimit, eventLimit, durationLimit, timeLimit, greatestTime, greatestValue}
-use Rattle.machine.specs.Field.{field, isNumber, between, isMinusOne, isTimeout, timeOf}
+use Rattle.machine.specs.Fields.{field, isNumber, between, isMinusOne, isTimeout, timeOf}
 use Rattle.machine.specs.Ids.{members, idsOf, kept, other, removed, follow}
 use Rattle.machine.specs.Process.{blankProcess, later, isNever, periodic, ready, onObject}
 use Rattle.machine.specs.Partition.{noSemaphore, noEvent, process, semaphore, event, within, replaced, withProcesses, withSemaphores, withEvents, stored, arrivedLast}
-use Rattle.machine.specs.Calls.{withValue, withUp, oneMore}
-use Rattle.machine.specs.Module.{windows, owner, lookup}
+use Rattle.machine.specs.Objects.{withValue, withUp, oneMore}
+use Rattle.machine.specs.Windows.{windows, owner, lookup}
 use Rattle.machine.specs.Valid.{Between, Tracks, NotAfter, latestWake, Setting, LastingIn, SoundProcess, Numbered, ListedIn, Valid, SoundContext, SoundTable, plainLater}
 use Rattle.machine.proofs.Tests.{by-test}
 use Rattle.machine.proofs.Fields.{in-limits}

@@ -17,7 +17,8 @@ use Rattle.machine.specs.Limits.{processLimit}
 use Rattle.machine.specs.Ids.{follow}
 use Rattle.machine.specs.Process.{blankProcess, ready, onObject, due, woken, expired, ticked}
 use Rattle.machine.specs.Partition.{within, replaced, process, normalMode, withProcesses, stored, eachFrom, tickPartition, sooner, soonestFrom, soonestOf, withSoonest, noted}
-use Rattle.machine.specs.Module.{noPartition, part, withPart, tickAt, tickTo}
+use Rattle.machine.specs.Module.{noPartition, part, withPart}
+use Rattle.machine.specs.Ticks.{tickAt, tickTo}
 use Rattle.machine.specs.Valid.{plainTickTo, Noted}
 use Rattle.machine.proofs.Tests.{by-test}
 use Rattle.machine.proofs.Bounds.{replaced-same}

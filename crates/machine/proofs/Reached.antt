@@ -19,10 +19,16 @@ use Rattle.machine.specs.declared.Request.{Request}
 use Rattle.machine.specs.declared.Done.{Done}
 use Rattle.machine.specs.declared.Event.{Event as EventT}
 use Rattle.machine.specs.Limits.{durationLimit, timeLimit, partitionLimit, channelLimit, greatestTime}
-use Rattle.machine.specs.Field.{requestOf, numberOf}
+use Rattle.machine.specs.Fields.{requestOf, numberOf}
 use Rattle.machine.specs.Partition.{process, tickPartition, sooner, soonestFrom, soonestOf, withSoonest, noted, freshPartition}
-use Rattle.machine.specs.Calls.{checked, partitionCall}
-use Rattle.machine.specs.Module.{noPartition, noMessage, emptyTable, emptyModule, freshModule, windows, channel, flaggedFor, covers, owner, lookup, firstFlagged, releasePoint, part, current, withPart, withMessage, withTime, tickTo, partitionCount, tickModule, refuse, channelChecks, write, read, erasedTo, restarts, restarted, accepts, contextOf, callDone, noCaller, done, step}
+use Rattle.machine.specs.Checks.{checked}
+use Rattle.machine.specs.Services.{partitionCall}
+use Rattle.machine.specs.Module.{noPartition, noMessage, emptyTable, emptyModule, freshModule, channel, part, current, withPart, withMessage, withTime, refuse}
+use Rattle.machine.specs.Windows.{windows, flaggedFor, covers, owner, lookup, firstFlagged, releasePoint}
+use Rattle.machine.specs.Ticks.{tickTo, partitionCount, tickModule}
+use Rattle.machine.specs.Channels.{channelChecks, write, read, erasedTo}
+use Rattle.machine.specs.Step.{restarts, restarted, accepts, contextOf, callDone, done, step}
+use Rattle.machine.specs.Places.{noCaller}
 use Rattle.machine.specs.Table.{readTable}
 use Rattle.machine.specs.Valid.Reached.{stepped}
 use Rattle.machine.specs.Valid.{Valid, SoundContext, SoundWindows, SoundTable, SoundMessage, Noted, SoundModule, ValidModule, Reached, plainTickTo, plainTick}

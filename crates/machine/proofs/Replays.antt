@@ -16,8 +16,10 @@ use Rattle.machine.specs.declared.Line.the-variants.{Six, Bad}
 use Rattle.machine.specs.declared.Time.{Time}
 use Rattle.machine.specs.declared.Time.the-variants.{Never, At}
 use Rattle.machine.specs.Limits.{numberLimit, lineLength, partitionLimit, processLimit, timeLimit}
-use Rattle.machine.specs.Text.{inRange, allInRange, lineText}
-use Rattle.machine.specs.Module.{step, current, lookup, emptyTable, emptyModule}
+use Rattle.machine.specs.Line.{inRange, allInRange, lineText}
+use Rattle.machine.specs.Step.{step}
+use Rattle.machine.specs.Module.{current, emptyTable, emptyModule}
+use Rattle.machine.specs.Windows.{lookup}
 use Rattle.machine.specs.TwoRuns.{replies, final}
 use Rattle.machine.specs.Replay.{eventOf, timeNumber, answerNumbers, lineAnswer, lineNext, texts}
 use Rattle.machine.specs.Valid.{NotAfter, AnswerInRange, ValidModule}

@@ -10,9 +10,12 @@ use Rattle.machine.specs.declared.Module.{Module}
 use Rattle.machine.specs.declared.Event.{Event}
 use Rattle.machine.specs.declared.EventRecord.{EventRecord}
 use Rattle.machine.specs.Limits.{timeLimit}
-use Rattle.machine.specs.Field.{requestOf, numberOf}
-use Rattle.machine.specs.Calls.{checked}
+use Rattle.machine.specs.Fields.{requestOf, numberOf}
+use Rattle.machine.specs.Checks.{checked}
 use Rattle.machine.specs.Module as M
+use Rattle.machine.specs.Ticks as Ti
+use Rattle.machine.specs.Places as Pl
+use Rattle.machine.specs.Step as St
 use Rattle.machine.specs.Table.{readTable}
 use Rattle.machine.specs.LeftRight.{after, answers, LeftRight}
 use Rattle.machine.specs.Valid.{SoundTable}
@@ -20,28 +23,28 @@ use Rattle.machine.proofs.Tests.{by-test}
 use Rattle.machine.proofs.Isolation.{left-right}
 use Rattle.machine.proofs.Tables.{table-read}
 
-tick-time : (n : ℕ) (m : Module) → M.tickTo n m .t ≡ m .t
-unfolding M.tickTo M.tickAt
+tick-time : (n : ℕ) (m : Module) → Ti.tickTo n m .t ≡ m .t
+unfolding Ti.tickTo Ti.tickAt
 tick-time zero m = refl
-tick-time (suc n) m = by-test (λ (x : Module). x .t ≡ m .t) (leb (M.part (M.tickTo n m) n .soonest) (M.tickTo n m .t)) (λ _. tick-time n m) (λ _. tick-time n m)
+tick-time (suc n) m = by-test (λ (x : Module). x .t ≡ m .t) (leb (M.part (Ti.tickTo n m) n .soonest) (Ti.tickTo n m .t)) (λ _. tick-time n m) (λ _. tick-time n m)
 
 -- time rises by one with every tick below 99,999,999
-pub time-rises : (m : Module) (e : Event) → M.malformed (m .table) (requestOf e) ≡ false → eqb (numberOf (requestOf e .partition)) 0 ≡ true → m .t < timeLimit
-    → (M.step m e .answer .code ≡ 0) × (M.step m e .state .t ≡ m .t + 1) × (M.step m e .answer .t ≡ m .t + 1)
-unfolding M.step checked
+pub time-rises : (m : Module) (e : Event) → Pl.malformed (m .table) (requestOf e) ≡ false → eqb (numberOf (requestOf e .partition)) 0 ≡ true → m .t < timeLimit
+    → (St.step m e .answer .code ≡ 0) × (St.step m e .state .t ≡ m .t + 1) × (St.step m e .answer .t ≡ m .t + 1)
+unfolding St.step checked
 time-rises m e f z l =
     let b : leb timeLimit (m .t) ≡ false = lt-leb timeLimit (m .t) l in
-    let t : M.tickTo (M.partitionCount (m .table)) (M.withTime (m .t + 1) m) .t ≡ m .t + 1 = tick-time (M.partitionCount (m .table)) (M.withTime (m .t + 1) m) in
+    let t : Ti.tickTo (Ti.partitionCount (m .table)) (M.withTime (m .t + 1) m) .t ≡ m .t + 1 = tick-time (Ti.partitionCount (m .table)) (M.withTime (m .t + 1) m) in
     (rw (f, z, b), rw (f, z, b) t, rw (f, z, b) t)
 
 -- the run over a list acts on what the event before left
 pub after-more : (m : Module) (left right : List Event) → after m (left ++ right) ≡ after (after m left) right
 after-more m [] right = refl
-after-more m (e ∷ left) right = after-more (M.step m e .state) left right
+after-more m (e ∷ left) right = after-more (St.step m e .state) left right
 
 pub answers-more : (m : Module) (left right : List Event) → answers m (left ++ right) ≡ answers m left ++ answers (after m left) right
 answers-more m [] right = refl
-answers-more m (e ∷ left) right = ap (λ (l : List EventRecord). record { event = e; answer = M.step m e .answer } ∷ l) (answers-more (M.step m e .state) left right)
+answers-more m (e ∷ left) right = ap (λ (l : List EventRecord). record { event = e; answer = St.step m e .answer } ∷ l) (answers-more (St.step m e .state) left right)
 
 -- Demand 3 for every accepted table, over its bytes: both runs start from the record that reading it gives: t 0, every partition in
 -- mode 1 with nothing created, no message

@@ -22,10 +22,14 @@ use Rattle.machine.specs.declared.Wait.{Wait}
 use Rattle.machine.specs.declared.Time.{Time}
 use Rattle.machine.specs.declared.Time.the-variants.{Never, At}
 use Rattle.machine.specs.Limits.{timeLimit, channelLimit}
-use Rattle.machine.specs.Field.{requestOf, isNumber, numberOf}
+use Rattle.machine.specs.Fields.{requestOf, isNumber, numberOf}
 use Rattle.machine.specs.Process.{due, later, periodic, ready, onObject, waitEnded, withSuspended, woken, expired, deadlineMissed, ticked, waitsForNothing, waitsForNormal, startRule, entered}
-use Rattle.machine.specs.Calls.{partitionCall}
+use Rattle.machine.specs.Services.{partitionCall}
 use Rattle.machine.specs.Module as M
+use Rattle.machine.specs.Ticks as Ti
+use Rattle.machine.specs.Channels as Ch
+use Rattle.machine.specs.Places as Pl
+use Rattle.machine.specs.Step as St
 use Rattle.machine.specs.Starred.{Mistakes, Starred}
 use Rattle.machine.specs.Partition.{tickPartition, noted}
 use Rattle.machine.specs.Valid.{ValidModule, plainTick}
@@ -36,15 +40,15 @@ use Rattle.machine.proofs.Reached.{plain-part, tick-module-plain}
 use Rattle.machine.proofs.Worked.{worked}
 use Rattle.machine.proofs.Corners.{corners}
 
-neighbour : (m : Module) (e : EventT) → M.sees (requestOf e) (M.step m e .answer .current) ≡ false → M.step m e .answer .running ≡ 0
-unfolding M.step
+neighbour : (m : Module) (e : EventT) → St.sees (requestOf e) (St.step m e .answer .current) ≡ false → St.step m e .answer .running ≡ 0
+unfolding St.step
 neighbour m e h = rw h
 
 -- an 8 is given to a partition that is neither 0 nor current, and leaves the record as it is
-eight-unseen : (m : Module) (e : EventT) → M.step m e .answer .code ≡ 8 → M.sees (requestOf e) (M.current m) ≡ false
+eight-unseen : (m : Module) (e : EventT) → St.step m e .answer .code ≡ 8 → St.sees (requestOf e) (M.current m) ≡ false
 eight-unseen m e h =
     let q = sym (places m e .eight) ∙ eq-eqb _ _ h in
-    let r = and-right (not (M.malformed (m .table) (requestOf e))) _ q in
+    let r = and-right (not (Pl.malformed (m .table) (requestOf e))) _ q in
     go (requestOf e .partition) (and-left (not (eqb (numberOf (requestOf e .partition)) 0)) _ r) (and-right (not (eqb (numberOf (requestOf e .partition)) 0)) _ r)
   where
     go : (f : Field) → not (eqb (numberOf f) 0) ≡ true → not (eqb (M.current m) (numberOf f)) ≡ true → (isNumber 0 f || isNumber (M.current m) f) ≡ false
@@ -52,18 +56,18 @@ eight-unseen m e h =
     go MinusOne z c = refl
     go Other z c = refl
 
-answer-current : (m : Module) (e : EventT) → M.step m e .answer .current ≡ M.current (M.step m e .state)
-unfolding M.step
+answer-current : (m : Module) (e : EventT) → St.step m e .answer .current ≡ M.current (St.step m e .state)
+unfolding St.step
 answer-current m e = refl
 
-eight-refuses : M.refusal 8 ≡ true
-unfolding M.refusal
+eight-refuses : St.refusal 8 ≡ true
+unfolding St.refusal
 eight-refuses = refl
 
-neighbour-in-eight : (m : Module) (e : EventT) → M.step m e .answer .code ≡ 8 → M.step m e .answer .running ≡ 0
+neighbour-in-eight : (m : Module) (e : EventT) → St.step m e .answer .code ≡ 8 → St.step m e .answer .running ≡ 0
 neighbour-in-eight m e h =
-    let same : M.step m e .state ≡ m = refused-same m e (rw h eight-refuses) in
-    neighbour m e (ap (M.sees (requestOf e)) (answer-current m e ∙ ap M.current same) ∙ eight-unseen m e h)
+    let same : St.step m e .state ≡ m = refused-same m e (rw h eight-refuses) in
+    neighbour m e (ap (St.sees (requestOf e)) (answer-current m e ∙ ap M.current same) ∙ eight-unseen m e h)
 
 deadline-from-release : (c : Context) (x : Process) → waitsForNormal (x .wait) ≡ true → periodic x ≡ true
     → (entered c x .times .release ≡ later (At (c .release)) (At (x .times .delay)))
@@ -84,38 +88,38 @@ ticked-suspended t x h w =
     kept = by-test (λ (y : Process). y .suspended ≡ true) (due t (x .times .wake)) (λ _. rw w h) (λ _. h)
 
 -- erasing messages into partition k leaves those of channels into another
-erased-other : (k n : ℕ) (m : Module) (i : ℕ) → eqb (M.channel (m .table) i .destination) k ≡ false → M.message (M.erasedTo k n m) i ≡ M.message m i
-unfolding M.erasedTo
+erased-other : (k n : ℕ) (m : Module) (i : ℕ) → eqb (M.channel (m .table) i .destination) k ≡ false → M.message (Ch.erasedTo k n m) i ≡ M.message m i
+unfolding Ch.erasedTo
 erased-other k zero m i h = refl
 erased-other k (suc n) m i h =
     by-test (λ (x : Module). M.message x i ≡ M.message m i) (eqb (M.channel (m .table) n .destination) k)
-    (λ q. getD-set-other (M.erasedTo k n m .messages) n i M.noMessage M.noMessage (λ e. not-both (eqb (M.channel (m .table) n .destination) k) q (rw e at h)) ∙ erased-other k n m i h)
+    (λ q. getD-set-other (Ch.erasedTo k n m .messages) n i M.noMessage M.noMessage (λ e. not-both (eqb (M.channel (m .table) n .destination) k) q (rw e at h)) ∙ erased-other k n m i h)
     (λ q. erased-other k n m i h)
 
-tick-messages : (n : ℕ) (m : Module) → M.tickTo n m .messages ≡ m .messages
-unfolding M.tickTo M.tickAt
+tick-messages : (n : ℕ) (m : Module) → Ti.tickTo n m .messages ≡ m .messages
+unfolding Ti.tickTo Ti.tickAt
 tick-messages zero m = refl
-tick-messages (suc n) m = by-test (λ (x : Module). x .messages ≡ m .messages) (leb (M.part (M.tickTo n m) n .soonest) (M.tickTo n m .t)) (λ _. tick-messages n m) (λ _. tick-messages n m)
+tick-messages (suc n) m = by-test (λ (x : Module). x .messages ≡ m .messages) (leb (M.part (Ti.tickTo n m) n .soonest) (Ti.tickTo n m .t)) (λ _. tick-messages n m) (λ _. tick-messages n m)
 
 restart-keeps : (m : Module) (e : EventT) (i : ℕ) → eqb (numberOf (requestOf e .call)) 21 ≡ false → eqb (M.channel (m .table) i .destination) (numberOf (requestOf e .partition)) ≡ false
-    → M.message (M.step m e .state) i ≡ M.message m i
-unfolding M.step
+    → M.message (St.step m e .state) i ≡ M.message m i
+unfolding St.step
 restart-keeps m e i w d =
     let r = requestOf e in
     let k = numberOf (r .partition) in
     by-checks P (M.refuse m) _ _ (λ n. refl) λ _.
-    by-test P (eqb k 0) (λ _. by-checks P (M.refuse m) _ _ (λ n. refl) λ _. ap (λ (l : _). getD l i M.noMessage) (tick-messages (M.partitionCount (m .table)) (M.withTime (m .t + 1) m))) λ _.
+    by-test P (eqb k 0) (λ _. by-checks P (M.refuse m) _ _ (λ n. refl) λ _. ap (λ (l : _). getD l i M.noMessage) (tick-messages (Ti.partitionCount (m .table)) (M.withTime (m .t + 1) m))) λ _.
     by-checks P (M.refuse m) _ _ (λ n. refl) λ _.
     by-test P (eqb (numberOf (r .call)) 21) (λ q. not-both (eqb (numberOf (r .call)) 21) q w) λ _.
     by-test P (eqb (numberOf (r .call)) 22) (λ _. ap (λ (x : Module). M.message x i) (read-same m k r)) λ _.
-    by-test (λ (x : Module). M.message x i ≡ M.message m i) (M.accepts (partitionCall (M.contextOf m k) (numberOf (r .call)) r (M.part m (k - 1)) .reply))
-    (λ _. by-test (λ (x : Module). M.message x i ≡ M.message m i) (M.restarts (numberOf (r .call)) r) (λ _. erased-other k channelLimit m i d) (λ _. refl))
+    by-test (λ (x : Module). M.message x i ≡ M.message m i) (St.accepts (partitionCall (St.contextOf m k) (numberOf (r .call)) r (M.part m (k - 1)) .reply))
+    (λ _. by-test (λ (x : Module). M.message x i ≡ M.message m i) (St.restarts (numberOf (r .call)) r) (λ _. erased-other k channelLimit m i d) (λ _. refl))
     (λ _. refl)
   where
     P : Done → Type 0
     P x = M.message (x .state) i ≡ M.message m i
 
-every-partition-ticks : (m : Module) → ValidModule m → (i : ℕ) → i < m .table .size → M.part (M.tickModule m) i ≡ noted (tickPartition (m .t + 1) (M.part m i))
+every-partition-ticks : (m : Module) → ValidModule m → (i : ℕ) → i < m .table .size → M.part (Ti.tickModule m) i ≡ noted (tickPartition (m .t + 1) (M.part m i))
 unfolding plainTick M.emptyModule M.emptyTable
 every-partition-ticks m (inl h) i l = absurd (let z : m .table .size ≡ 0 = ap (λ (x : Module). x .table .size) h in omega arith)
 every-partition-ticks m (inr s) i l =

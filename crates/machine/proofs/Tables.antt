@@ -21,8 +21,9 @@ use Rattle.machine.specs.declared.Line.the-variants.{Six, Bad}
 use Rattle.machine.specs.declared.Module.{Module}
 use Rattle.machine.specs.declared.Field.{Field}
 use Rattle.machine.specs.Limits.{frameLimit, partitionLimit, windowLimit, channelLimit, durationLimit}
-use Rattle.machine.specs.Field.{rowOf, between, isNumber, numberOf}
-use Rattle.machine.specs.Module.{windows, channel, noWindow, noChannel, emptyModule, freshModule}
+use Rattle.machine.specs.Fields.{rowOf, between, isNumber, numberOf}
+use Rattle.machine.specs.Windows.{windows, noWindow}
+use Rattle.machine.specs.Module.{channel, noChannel, emptyModule, freshModule}
 use Rattle.machine.specs.Table as T
 use Rattle.machine.specs.Valid.{Between, SoundWindow, SoundWindows, SoundChannel, SoundTable}
 use Rattle.machine.proofs.Tests.{by-test, and-left, and-right, not-both}

@@ -9,7 +9,7 @@ use native.Mathlib.Nat.{min-eq-left, min-eq-right}
 use lib.ListN.{length, getD, take, drop, length-take, length-map, drop-of-length-le}
 use lib.Seq.{drop-cons, getD-take}
 use Rattle.machine.specs.declared.Field.{Field}
-use Rattle.machine.specs.Field.{isNumber}
+use Rattle.machine.specs.Fields.{isNumber}
 use Rattle.machine.specs.Calls.{nameTaken}
 
 -- the length of an array of structs: `search (needs, length-mapped)` finds it

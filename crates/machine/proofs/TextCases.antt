@@ -5,7 +5,7 @@ use mathlib.Core.List.{List, [], _∷_, _++_, map}
 use mathlib.Core.Option.{none, some}
 use lib.ListN.{length, replicate}
 use lib.IntN.{pos, negsuc}
-use Rattle.machine.specs.Text.{lineFeed, space, minus, fieldWidth, inRange, column, markAfter, columns, numberText, fieldText, sameBytes, spelled, candidate, readField, lines}
+use Rattle.machine.specs.Line.{lineFeed, space, minus, fieldWidth, inRange, column, markAfter, columns, numberText, fieldText, sameBytes, spelled, candidate, readField, lines}
 
 -- these bytes at the right of a field
 abbrev right : List ℕ → List ℕ

@@ -13,7 +13,7 @@ use lib.Dec.{eqb}
 use lib.IntN.{ℤ, pos, negsuc}
 use borrow.Author.Tests.{leb-true, eqb-true, eq-eqb}
 use Rattle.machine.specs.Limits.{numberLimit}
-use Rattle.machine.specs.Text.{space, minus, zeroDigit, base, fieldWidth, inRange, column, markAfter, columns, numberText, fieldText, sameBytes, spelled, candidate, readField}
+use Rattle.machine.specs.Line.{space, minus, zeroDigit, base, fieldWidth, inRange, column, markAfter, columns, numberText, fieldText, sameBytes, spelled, candidate, readField}
 use Rattle.machine.proofs.Bounds.{either}
 
 -- ---------------------------------------------------------------- bytes that are the same

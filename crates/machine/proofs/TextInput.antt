@@ -14,7 +14,7 @@ use Rattle.machine.specs.declared.Numbers.{Numbers}
 use Rattle.machine.specs.declared.Line.{Line}
 use Rattle.machine.specs.declared.Line.the-variants.{Six, Bad}
 use Rattle.machine.specs.Limits.{lineLength}
-use Rattle.machine.specs.Text.{lineFeed, space, minus, base, fieldWidth, column, markAfter, columns, lastDigit, numberText, fieldText, lineText, numberList, readLine, inFirst, lines, firstLength, lineEnd, readAt}
+use Rattle.machine.specs.Line.{lineFeed, space, minus, base, fieldWidth, column, markAfter, columns, lastDigit, numberText, fieldText, lineText, numberList, readLine, inFirst, lines, firstLength, lineEnd, readAt}
 use Rattle.machine.proofs.TextLine.{line-length, six-length, read-six, read-other}
 use Rattle.machine.proofs.Bounds.{either}
 

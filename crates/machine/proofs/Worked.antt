@@ -5,10 +5,18 @@ use mathlib.Core.Bool.{Bool, true, false}
 use mathlib.Core.List.{List, [], _∷_, _++_}
 use Rattle.machine.specs.Examples as E
 use Rattle.machine.specs.Starred.{Worked}
-use Rattle.machine.specs.Text as X
+use Rattle.machine.specs.Line as X
 use Rattle.machine.specs.Table as T
+use Rattle.machine.specs.Windows as Wi
 use Rattle.machine.specs.Module as M
+use Rattle.machine.specs.Ticks as Ti
+use Rattle.machine.specs.Channels as Ch
+use Rattle.machine.specs.Places as Pl
+use Rattle.machine.specs.Step as St
+use Rattle.machine.specs.Checks as Ck
 use Rattle.machine.specs.Calls as C
+use Rattle.machine.specs.Objects as Ob
+use Rattle.machine.specs.Services as Sv
 use Rattle.machine.specs.Partition as P
 use Rattle.machine.specs.Process as Q
 use Rattle.machine.specs.Ids as I
@@ -16,5 +24,5 @@ use Rattle.machine.specs.Replay as R
 
 -- every definition that the example computes with
 pub worked : Worked
-unfolding E.bytes E.text E.table E.events E.printed E.toFour E.tickLine E.printedAfter R.replayed R.replayedRecord X.inRange X.column X.markAfter X.columns X.numberText X.fieldText X.lineText X.sameBytes X.spelled X.candidate X.readField X.readNumbers X.readLine X.lines T.hasFlagged T.flaggedFrom T.tableFrom T.tableOf M.emptyTable M.emptyModule M.freshModule M.owner M.lookup M.firstFlagged M.releasePoint M.tickAt M.tickTo M.channelChecks M.write M.read M.erasedTo M.usedFields M.strayField M.step C.checked C.blocked C.setMode C.nameTaken C.createProcess C.start C.stop C.stopSelf C.suspend C.suspendSelf C.timedWait C.periodicWait C.resume C.setPriority C.getStatus C.createSemaphore C.createEvent C.withValue C.withUp C.queued C.waitSemaphore C.waitEvent C.signalled C.signal C.setEvent C.resetEvent C.partitionCall P.named P.replaced P.stored P.arrivedLast P.chosen P.running P.waiters P.ended P.endedAll P.eachFrom P.tickPartition P.enteredNormal P.soonestFrom P.freshPartition P.emptyPartition Q.woken Q.expired Q.startRule Q.entered I.kept I.appended I.removed R.texts
+unfolding E.bytes E.text E.table E.events E.printed E.toFour E.tickLine E.printedAfter R.replayed R.replayedRecord X.inRange X.column X.markAfter X.columns X.numberText X.fieldText X.lineText X.sameBytes X.spelled X.candidate X.readField X.readNumbers X.readLine X.lines T.hasFlagged T.flaggedFrom T.tableFrom T.tableOf M.emptyTable M.emptyModule M.freshModule Wi.owner Wi.lookup Wi.firstFlagged Wi.releasePoint Ti.tickAt Ti.tickTo Ch.channelChecks Ch.write Ch.read Ch.erasedTo Pl.usedFields Pl.strayField St.step Ck.checked C.blocked C.setMode C.nameTaken C.createProcess C.start C.stop C.stopSelf C.suspend C.suspendSelf C.timedWait C.periodicWait C.resume C.setPriority C.getStatus Ob.createSemaphore Ob.createEvent Ob.withValue Ob.withUp Ob.queued Ob.waitSemaphore Ob.waitEvent Ob.signalled Ob.signal Ob.setEvent Ob.resetEvent Sv.partitionCall P.byId P.replaced P.stored P.arrivedLast P.chosen P.running P.waiters P.ended P.endedAll P.eachFrom P.tickPartition P.enteredNormal P.soonestFrom P.freshPartition P.emptyPartition Q.woken Q.expired Q.startRule Q.entered I.kept I.appended I.removed R.texts
 worked = record { example = refl; continued = refl; four = refl; five = refl }

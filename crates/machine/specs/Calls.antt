@@ -1,41 +1,24 @@
--- Calls 1 to 20: functions of what the call sees (Context), of the request's fields and of the partition's own record. The checks
+-- Calls 1 to 13: functions of what the call sees (Context), of the request's fields and of the partition's own record. The checks
 -- stand in the order of document 01, then what an accepted call does. Defined for every record.
-use Prim.Native.Nat.{ℕ, _+_, _-_, _%_}
+use Prim.Native.Nat.{ℕ, _+_, _%_}
 use mathlib.Core.Bool.{Bool, true, false, cond, not, _&&_, _||_}
 use mathlib.Core.List.{List, [], _∷_}
 use lib.ListN.{take}
 use lib.Dec.{leb, ltb, eqb}
-use Rattle.machine.specs.declared.Given.{Given}
 use Rattle.machine.specs.declared.Process.{Process}
 use Rattle.machine.specs.declared.Partition.{Partition}
 use Rattle.machine.specs.declared.Context.{Context}
-use Rattle.machine.specs.declared.Reply.{Reply}
 use Rattle.machine.specs.declared.Called.{Called}
 use Rattle.machine.specs.declared.Request.{Request}
-use Rattle.machine.specs.declared.Semaphore.{Semaphore as SemaphoreT}
-use Rattle.machine.specs.declared.EventState.{EventState}
-use Rattle.machine.specs.declared.Wait.{Wait}
-use Rattle.machine.specs.declared.Wait.the-variants.{Timed, Semaphore, Event}
+use Rattle.machine.specs.declared.Wait.the-variants.{Timed}
 use Rattle.machine.specs.declared.Time.{Time}
 use Rattle.machine.specs.declared.Time.the-variants.{Never, At}
 use Rattle.machine.specs.declared.Field.{Field}
-use Rattle.machine.specs.declared.Field.the-variants.{Number, MinusOne, Other}
-use Rattle.machine.specs.Limits.{processLimit, semaphoreLimit, eventLimit, priorityLimit, valueLimit, durationLimit, greatestValue}
-use Rattle.machine.specs.Field.{isNumber, between, isDuration, isMinusOne, isTimeout, isName, numberOf, timeOf}
-use Rattle.machine.specs.Process.{createdProcess, later, object, periodic, ready, withSuspended, withCurrent, waitingFor, suspendedUntil, startRule, startedEarly, stopped, resumed, nextRelease}
-use Rattle.machine.specs.Partition.{normalMode, replaced, nothingCreated, process, semaphore, event, withProcesses, withSemaphores, withEvents, stored, arrivedLast, waiters, ended, endedAll, enteredNormal}
-
--- Code, value and extra are 0 unless named.
-abbrev pub coded : ℕ → Reply
-coded code = record { code = code; value = 0; extra = At 0 }
-
-abbrev pub valued : ℕ → Time → Reply
-valued value extra = record { code = 0; value = value; extra = extra }
-
--- Checks run in the order written; "n:" means answer code n if.
-unfoldable pub checked : {A : Type 0} → (ℕ → A) → List (Bool × ℕ) → A → A
-checked refuse [] accepted = accepted
-checked refuse ((test, code) ∷ l) accepted = cond test (refuse code) (checked refuse l accepted)
+use Rattle.machine.specs.Limits.{processLimit, priorityLimit, durationLimit}
+use Rattle.machine.specs.Fields.{isNumber, between, isDuration, isMinusOne, isTimeout, isName, numberOf, timeOf}
+use Rattle.machine.specs.Process.{createdProcess, later, periodic, ready, withSuspended, withCurrent, waitingFor, suspendedUntil, startRule, startedEarly, stopped, resumed, nextRelease}
+use Rattle.machine.specs.Partition.{normalMode, replaced, nothingCreated, process, withProcesses, stored, arrivedLast, enteredNormal}
+use Rattle.machine.specs.Checks.{coded, valued, checked}
 
 abbrev pub answered : ℕ → Partition → Called
 answered code p = record { partition = p; reply = coded code }
@@ -82,12 +65,6 @@ nameTaken nameOf name (x ∷ l) = isNumber (nameOf x) name || nameTaken nameOf n
 
 abbrev pub processNamed : Field → List Process → Bool
 processNamed name l = nameTaken (λ (x : Process). x .given .name) name l
-
-abbrev pub semaphoreNamed : Field → List SemaphoreT → Bool
-semaphoreNamed name l = nameTaken (λ (x : SemaphoreT). x .name) name l
-
-abbrev pub eventNamed : Field → List EventState → Bool
-eventNamed name l = nameTaken (λ (x : EventState). x .name) name l
 
 -- a multiple of M in 1..9,999,999
 abbrev pub isMultiple : ℕ → Field → Bool
@@ -232,124 +209,3 @@ getStatus c id p =
     checked (refused p)
     ((unknown id (p .processCount), 3) ∷ [])
     (answeredWith (status c id (process id p)) (process id p .times .deadline) p)
-
--- 14 CREATE_SEMAPHORE name, start, max. 4: 8 exist. 1: name exists among its kind. 3: name not 1..255, max not 1..32,767, start not
--- 0..max. 5: NORMAL. Value: id.
-unfoldable pub createSemaphore : Request → Partition → Called
-createSemaphore r p =
-    checked (refused p)
-    ((leb semaphoreLimit (p .semaphoreCount), 4)
-    ∷ (semaphoreNamed (r .a) (take (p .semaphoreCount) (p .semaphores)), 1)
-    ∷ (not (isName (r .a) && (between 1 valueLimit (r .c) && between 0 (numberOf (r .c)) (r .b))), 3)
-    ∷ (normalMode p, 5)
-    ∷ [])
-    (answeredWith (p .semaphoreCount + 1) (At 0)
-    (withSemaphores (replaced semaphoreLimit (p .semaphoreCount + 1) (record { name = numberOf (r .a); value = numberOf (r .b); max = numberOf (r .c) }) (p .semaphores)) (p .semaphoreCount + 1) p))
-
--- 17 CREATE_EVENT name (DOWN): as 14.
-unfoldable pub createEvent : Field → Partition → Called
-createEvent name p =
-    checked (refused p)
-    ((leb eventLimit (p .eventCount), 4)
-    ∷ (eventNamed name (take (p .eventCount) (p .events)), 1)
-    ∷ (not (isName name), 3)
-    ∷ (normalMode p, 5)
-    ∷ [])
-    (answeredWith (p .eventCount + 1) (At 0)
-    (withEvents (replaced eventLimit (p .eventCount + 1) (record { name = numberOf name; up = false }) (p .events)) (p .eventCount + 1) p))
-
-unfoldable pub withValue : ℕ → ℕ → Partition → Partition
-withValue k n p =
-    let s = semaphore k p in
-    withSemaphores (replaced semaphoreLimit k (record { name = s .name; value = n; max = s .max }) (p .semaphores)) (p .semaphoreCount) p
-
-unfoldable pub withUp : ℕ → Bool → Partition → Partition
-withUp k up p = withEvents (replaced eventLimit k (record { name = event k p .name; up = up }) (p .events)) (p .eventCount) p
-
--- 2: a = 0. Else queued last at the object that the wait names, w = t + a or −1, code 7
-unfoldable pub queued : Context → Field → Wait → Partition → Called
-queued c a w p =
-    checked (refused p)
-    ((isNumber 0 a, 2) ∷ [])
-    (blocked (c .caller) (waitingFor w (later (At (c .time)) (timeOf a)) (process (c .caller) p)) p)
-
--- 15 WAIT_SEMAPHORE id, a. 5: start mode. 3: a not in T. Value > 0: one less, code 0.
-unfoldable pub waitSemaphore : Context → ℕ → Field → Partition → Called
-waitSemaphore c k a p =
-    checked (refused p)
-    ((unknown k (p .semaphoreCount), 3)
-    ∷ (startMode p, 5)
-    ∷ (not (isTimeout a), 3)
-    ∷ [])
-    (cond (ltb 0 (semaphore k p .value))
-    (answered 0 (withValue k (semaphore k p .value - 1) p))
-    (queued c a (Semaphore k) p))
-
--- 20 WAIT_EVENT id, a: as 15; event UP: code 0.
-unfoldable pub waitEvent : Context → ℕ → Field → Partition → Called
-waitEvent c k a p =
-    checked (refused p)
-    ((unknown k (p .eventCount), 3)
-    ∷ (startMode p, 5)
-    ∷ (not (isTimeout a), 3)
-    ∷ [])
-    (cond (event k p .up)
-    (answered 0 p)
-    (queued c a (Event k) p))
-
--- bound: a value past the greatest one is the greatest
-abbrev pub oneMore : ℕ → ℕ
-oneMore n = cond (ltb n greatestValue) (n + 1) n
-
--- First waiter's wait ends (w −1, wake code 0); none: value + 1.
-unfoldable pub signalled : List ℕ → ℕ → Partition → Partition
-signalled [] k p = withValue k (oneMore (semaphore k p .value)) p
-signalled (id ∷ l) k p = ended id p
-
--- 16 SIGNAL id. 1: value = max.
-unfoldable pub signal : ℕ → Partition → Called
-signal k p =
-    checked (refused p)
-    ((unknown k (p .semaphoreCount), 3)
-    ∷ (eqb (semaphore k p .value) (semaphore k p .max), 1)
-    ∷ [])
-    (answered 0 (signalled (waiters (object (Semaphore k)) p) k p))
-
--- 18 SET_EVENT id: UP, all waiters' waits end in queue order the same way.
-unfoldable pub setEvent : ℕ → Partition → Called
-setEvent k p =
-    checked (refused p)
-    ((unknown k (p .eventCount), 3) ∷ [])
-    (answered 0 (endedAll (waiters (object (Event k)) p) (withUp k true p)))
-
--- 19 RESET_EVENT id: DOWN.
-unfoldable pub resetEvent : ℕ → Partition → Called
-resetEvent k p =
-    checked (refused p)
-    ((unknown k (p .eventCount), 3) ∷ [])
-    (answered 0 (withUp k false p))
-
--- Calls 1 to 20 by number, with their fields; another number, which 13 refuses before, leaves the record as it is.
-unfoldable pub partitionCall : Context → ℕ → Request → Partition → Called
-partitionCall c n r p =
-    cond (eqb n 1) (setMode c (r .a) p)
-    (cond (eqb n 2) (createProcess c r p)
-    (cond (eqb n 3) (start c (numberOf (r .a)) (Number 0) p)
-    (cond (eqb n 4) (start c (numberOf (r .a)) (r .b) p)
-    (cond (eqb n 5) (stop c (numberOf (r .a)) p)
-    (cond (eqb n 6) (stopSelf c p)
-    (cond (eqb n 7) (suspend c (numberOf (r .a)) p)
-    (cond (eqb n 8) (suspendSelf c (r .a) p)
-    (cond (eqb n 9) (timedWait c (r .a) p)
-    (cond (eqb n 10) (periodicWait c p)
-    (cond (eqb n 11) (resume c (numberOf (r .a)) p)
-    (cond (eqb n 12) (setPriority (numberOf (r .a)) (r .b) p)
-    (cond (eqb n 13) (getStatus c (numberOf (r .a)) p)
-    (cond (eqb n 14) (createSemaphore r p)
-    (cond (eqb n 15) (waitSemaphore c (numberOf (r .a)) (r .b) p)
-    (cond (eqb n 16) (signal (numberOf (r .a)) p)
-    (cond (eqb n 17) (createEvent (r .a) p)
-    (cond (eqb n 18) (setEvent (numberOf (r .a)) p)
-    (cond (eqb n 19) (resetEvent (numberOf (r .a)) p)
-    (cond (eqb n 20) (waitEvent c (numberOf (r .a)) (r .b) p)
-    (refused p 13))))))))))))))))))))

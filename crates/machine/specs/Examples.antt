@@ -3,7 +3,7 @@ use Prim.Native.Nat.{ℕ}
 use Prim.Native.String.{String}
 use Prim.Native.Char.{code}
 use mathlib.Core.List.{List, [], _∷_, _++_}
-use Rattle.machine.specs.Text.{lineFeed}
+use Rattle.machine.specs.Line.{lineFeed}
 
 -- the bytes of a text, and of lines, each with its LF
 unfoldable pub bytes : String → List ℕ

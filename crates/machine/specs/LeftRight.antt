@@ -10,7 +10,8 @@ use Rattle.machine.specs.declared.Module.{Module}
 use Rattle.machine.specs.declared.Event.{Event}
 use Rattle.machine.specs.declared.Answer.{Answer}
 use Rattle.machine.specs.declared.EventRecord.{EventRecord}
-use Rattle.machine.specs.Module.{step, current, runningIn, part, message, channel}
+use Rattle.machine.specs.Step.{step}
+use Rattle.machine.specs.Module.{current, runningIn, part, message, channel}
 use Rattle.machine.specs.TwoRuns.{keep, final, replies}
 
 abbrev pub next : Module → Event → Module

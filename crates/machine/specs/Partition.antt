@@ -50,20 +50,20 @@ abbrev pub within : ℕ → ℕ → Bool
 within limit id = ltb 0 id && leb id limit
 
 -- bound: what an id outside names is the default, and replacing it changes nothing
-unfoldable pub named : {A : Type 0} → ℕ → A → ℕ → List A → A
-named limit d id l = cond (within limit id) (getD l (id - 1) d) d
+unfoldable pub byId : {A : Type 0} → ℕ → A → ℕ → List A → A
+byId limit d id l = cond (within limit id) (getD l (id - 1) d) d
 
 unfoldable pub replaced : {A : Type 0} → ℕ → ℕ → A → List A → List A
 replaced limit id a l = cond (within limit id) (set l (id - 1) a) l
 
 abbrev pub process : ℕ → Partition → Process
-process id p = named processLimit blankProcess id (p .processes)
+process id p = byId processLimit blankProcess id (p .processes)
 
 abbrev pub semaphore : ℕ → Partition → SemaphoreT
-semaphore k p = named semaphoreLimit noSemaphore k (p .semaphores)
+semaphore k p = byId semaphoreLimit noSemaphore k (p .semaphores)
 
 abbrev pub event : ℕ → Partition → EventState
-event k p = named eventLimit noEvent k (p .events)
+event k p = byId eventLimit noEvent k (p .events)
 
 abbrev pub withMode : ℕ → Partition → Partition
 withMode mode p = record {

@@ -14,8 +14,9 @@ use Rattle.machine.specs.declared.Line.{Line}
 use Rattle.machine.specs.declared.Line.the-variants.{Six, Bad}
 use Rattle.machine.specs.declared.Time.{Time}
 use Rattle.machine.specs.declared.Time.the-variants.{Never, At}
-use Rattle.machine.specs.Text.{readLine, lines, lineText, lineRefusal}
-use Rattle.machine.specs.Module.{step, current}
+use Rattle.machine.specs.Line.{readLine, lines, lineText, lineRefusal}
+use Rattle.machine.specs.Step.{step}
+use Rattle.machine.specs.Module.{current}
 use Rattle.machine.specs.Table.{readTable}
 use Rattle.machine.specs.TwoRuns.{final, replies}
 

@@ -22,11 +22,15 @@ use Rattle.machine.specs.declared.Time.the-variants.{Never, At}
 use Rattle.machine.specs.declared.Field.{Field}
 use Rattle.machine.specs.declared.Field.the-variants.{Number}
 use Rattle.machine.specs.Limits.{processLimit, semaphoreLimit, eventLimit, nameLimit, priorityLimit, valueLimit, durationLimit, timeLimit}
-use Rattle.machine.specs.Field.{isNumber, between, isName, isMinusOne, numberOf, requestOf, isTimeout}
+use Rattle.machine.specs.Fields.{isNumber, between, isName, isMinusOne, numberOf, requestOf, isTimeout}
 use Rattle.machine.specs.Process.{later, periodic, ready, waitEnded, ticked, waitsForNothing, waitsForNormal, entered, nextRelease}
 use Rattle.machine.specs.Partition.{normalMode, process, semaphore, event, stored, arrivedLast, tickPartition, noted}
-use Rattle.machine.specs.Calls.{processNamed, semaphoreNamed, eventNamed, above, admissible, isPriority, isMultiple, unknown, createProcess, createSemaphore, createEvent, start, setPriority, suspendSelf, timedWait, periodicWait, waitSemaphore, waitEvent, signal, dormant}
-use Rattle.machine.specs.Module.{step, part, message, channel, sees, namedChannel, read, tickModule}
+use Rattle.machine.specs.Calls.{processNamed, above, admissible, isPriority, isMultiple, unknown, createProcess, start, setPriority, suspendSelf, timedWait, periodicWait, dormant}
+use Rattle.machine.specs.Objects.{semaphoreNamed, eventNamed, createSemaphore, createEvent, waitSemaphore, waitEvent, signal}
+use Rattle.machine.specs.Step.{step, sees}
+use Rattle.machine.specs.Module.{part, message, channel}
+use Rattle.machine.specs.Channels.{namedChannel, read}
+use Rattle.machine.specs.Ticks.{tickModule}
 use Rattle.machine.specs.Valid.{ValidModule}
 use Rattle.machine.specs.Replay.{replayed, replayedRecord}
 use Rattle.machine.specs.Examples.{text, table, events, printed, toFour, tickLine, printedAfter}
@@ -96,7 +100,7 @@ pub record Corners : Type 0 where
   pub delay : (c : Context) (id n : ℕ) (p : Partition) → unknown id (p .processCount) ≡ false → process id p .started ≡ false → process id p .given .period ≡ At n → 1 ≤ n → n ≤ durationLimit
       → Edge (start c id (Number (n - 1)) p .reply .code) (start c id (Number n) p .reply .code)
   -- age refresh/refresh + 1
-  pub age : (m : Module) (k : ℕ) (r : Request) → between 1 (m .table .channelCount) (r .a) ≡ true → namedChannel (m .table) r .destination ≡ k → message m (numberOf (r .a) - 1) .present ≡ true
+  pub freshness : (m : Module) (k : ℕ) (r : Request) → between 1 (m .table .channelCount) (r .a) ≡ true → namedChannel (m .table) r .destination ≡ k → message m (numberOf (r .a) - 1) .present ≡ true
       → let written = message m (numberOf (r .a) - 1) .written in
       let refresh = namedChannel (m .table) r .refresh in
       (read m k r .reply .code ≡ 0) × (m .t ≡ written + refresh → read m k r .reply .extra ≡ At 1) × (m .t ≡ written + refresh + 1 → read m k r .reply .extra ≡ At 0)

@@ -13,9 +13,10 @@ use Rattle.machine.specs.declared.Row.{Row}
 use Rattle.machine.specs.declared.Line.{Line}
 use Rattle.machine.specs.declared.Line.the-variants.{Six, Bad}
 use Rattle.machine.specs.Limits.{frameLimit, partitionLimit, windowLimit, channelLimit, durationLimit}
-use Rattle.machine.specs.Field.{rowOf, isNumber, between, numberOf}
-use Rattle.machine.specs.Module.{noWindow, noChannel, windows, flaggedFor, freshModule, emptyModule}
-use Rattle.machine.specs.Text.{readLine, lines, lineRefusal}
+use Rattle.machine.specs.Fields.{rowOf, isNumber, between, numberOf}
+use Rattle.machine.specs.Windows.{noWindow, windows, flaggedFor}
+use Rattle.machine.specs.Module.{noChannel, freshModule, emptyModule}
+use Rattle.machine.specs.Line.{readLine, lines, lineRefusal}
 
 -- a 0 at the end of a line
 abbrev pub lastTwoZero : Row → Bool

@@ -30,9 +30,12 @@ use Rattle.machine.specs.declared.Answer.{Answer}
 use Rattle.machine.specs.Limits.{processLimit, semaphoreLimit, eventLimit, nameLimit, priorityLimit, valueLimit, durationLimit, timeLimit, frameLimit, partitionLimit, windowLimit, channelLimit, numberLimit}
 use Rattle.machine.specs.Ids.{members, idsOf}
 use Rattle.machine.specs.Process.{blankProcess, isNever, periodic, ready, onObject}
-use Rattle.machine.specs.Partition.{normalMode, named, noSemaphore, noEvent, process, running, tickPartition, soonestOf}
+use Rattle.machine.specs.Partition.{normalMode, byId, noSemaphore, noEvent, process, running, tickPartition, soonestOf}
 use Rattle.machine.specs.Table.{hasFlagged, readTable}
-use Rattle.machine.specs.Module.{windows, channel, part, message, withPart, withTime, noCaller, emptyModule, step}
+use Rattle.machine.specs.Windows.{windows}
+use Rattle.machine.specs.Module.{channel, part, message, withPart, withTime, emptyModule}
+use Rattle.machine.specs.Places.{noCaller}
+use Rattle.machine.specs.Step.{step}
 
 -- low..high
 abbrev pub Between : ℕ → ℕ → ℕ → Type 0
@@ -231,13 +234,13 @@ pub record SoundEvent (e : EventState) : Type 0 where
 pub record Numbered {A : Type 0} (limit : ℕ) (d : A) (l : List A) (n : ℕ) : Type 0 where
   pub size : length l ≡ limit
   pub few : n ≤ limit
-  pub past : (id : ℕ) → n < id → named limit d id l ≡ d
+  pub past : (id : ℕ) → n < id → byId limit d id l ≡ d
 
 -- the arrival list holds just the READY processes, each once, and the waiting list those that wait on an object
 pub record Listed (l : List Process) (n : ℕ) (arrival waiting : Ids) : Type 0 where
   pub numbered : Numbered processLimit blankProcess l n
-  pub arrivals : Tracks (λ id. ready (named processLimit blankProcess id l)) arrival
-  pub waitings : Tracks (λ id. onObject (named processLimit blankProcess id l)) waiting
+  pub arrivals : Tracks (λ id. ready (byId processLimit blankProcess id l)) arrival
+  pub waitings : Tracks (λ id. onObject (byId processLimit blankProcess id l)) waiting
 
 abbrev pub ListedIn : Partition → Type 0
 ListedIn p = Listed (p .processes) (p .processCount) (p .arrival) (p .waiting)
@@ -245,8 +248,8 @@ ListedIn p = Listed (p .processes) (p .processCount) (p .arrival) (p .waiting)
 pub record Objects (l : List SemaphoreT) (n : ℕ) (l′ : List EventState) (n′ : ℕ) : Type 0 where
   pub semaphores : Numbered semaphoreLimit noSemaphore l n
   pub events : Numbered eventLimit noEvent l′ n′
-  pub eachSemaphore : (k : ℕ) → Between 1 n k → SoundSemaphore (named semaphoreLimit noSemaphore k l)
-  pub eachEvent : (k : ℕ) → Between 1 n′ k → SoundEvent (named eventLimit noEvent k l′)
+  pub eachSemaphore : (k : ℕ) → Between 1 n k → SoundSemaphore (byId semaphoreLimit noSemaphore k l)
+  pub eachEvent : (k : ℕ) → Between 1 n′ k → SoundEvent (byId eventLimit noEvent k l′)
 
 abbrev pub ObjectsIn : Partition → Type 0
 ObjectsIn p = Objects (p .semaphores) (p .semaphoreCount) (p .events) (p .eventCount)

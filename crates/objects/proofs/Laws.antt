@@ -10,10 +10,10 @@ use Rattle.machine.specs.declared.Partition.{Partition}
 use Rattle.machine.specs.declared.Field.{Field}
 use Rattle.machine.specs.declared.Request.{Request}
 use Rattle.machine.specs.Limits.{processLimit, nameLimit, valueLimit}
-use Rattle.machine.specs.Field.{isName, between, numberOf}
+use Rattle.machine.specs.Fields.{isName, between, numberOf}
 use Rattle.machine.specs.Ids.{members}
 use Rattle.machine.specs.Partition.{semaphore, ended}
-use Rattle.machine.specs.Calls.{oneMore, withValue, signalled}
+use Rattle.machine.specs.Objects.{oneMore, withValue, signalled}
 use Rattle.machine.proofs.Tests.{and-left, and-right}
 use Rattle.machine.proofs.Fields.{in-limits}
 use Rattle.machine.proofs.Lists.{length-members, next-member, no-member}

@@ -4,10 +4,10 @@ ghost use Prim.Native.Nat.{_≤_};
 ghost use mathlib.Core.Bool.{_&&_};
 ghost use lib.ListN.{length, take};
 ghost use Rattle.machine.specs.Limits.{semaphoreLimit, eventLimit, valueLimit};
-ghost use Rattle.machine.specs.Field.{isName, between, numberOf};
+ghost use Rattle.machine.specs.Fields.{isName, between, numberOf};
 ghost use Rattle.machine.specs.Ids.{members};
 ghost use Rattle.machine.specs.Partition.{semaphore, event, noSemaphore, noEvent};
-ghost use Rattle.machine.specs.Calls.{semaphoreNamed, eventNamed, createSemaphore, createEvent, withValue, withUp, queued, waitSemaphore, waitEvent, oneMore, signalled, signal, setEvent, resetEvent};
+ghost use Rattle.machine.specs.Objects.{semaphoreNamed, eventNamed, createSemaphore, createEvent, withValue, withUp, queued, waitSemaphore, waitEvent, oneMore, signalled, signal, setEvent, resetEvent};
 use machine::Called;
 use machine::Context;
 use machine::EventState;
@@ -289,7 +289,7 @@ fn one_more(n: u16) -> u16
 }
 
 // The first of these waiters' wait ends; none: the value rises by one.
-fn pass_on(p: Partition, k: u32, q: Ids) -> Partition
+fn signal_change(p: Partition, k: u32, q: Ids) -> Partition
     ensures { λ r. ⌜ r ≡ signalled (members q) k p ⌝ }
 {
     if q.len == 0 {
@@ -311,7 +311,7 @@ pub fn signal_semaphore(p: Partition, k: u32) -> Called
         return calls::answered(p, 1);
     }
     let q = partition::queue_of(p, process::object_of(Wait::Semaphore(k as u8)));
-    calls::answered(pass_on(p, k, q), 0)
+    calls::answered(signal_change(p, k, q), 0)
 }
 
 // 18 SET_EVENT

@@ -72,7 +72,7 @@ pub fn does_reach(period: Time, delay: u32) -> bool
     }
 }
 
-pub fn is_idle(w: Wait) -> bool
+pub fn waits_for_nothing(w: Wait) -> bool
     ensures { λ r. ⌜ r ≡ waitsForNothing w ⌝ }
 {
     match w {
@@ -135,7 +135,7 @@ pub fn is_ready(x: Process) -> bool
 {
     let w = x.wait;
     if x.started {
-        if x.suspended { false } else { is_idle(w) }
+        if x.suspended { false } else { waits_for_nothing(w) }
     } else {
         false
     }
@@ -211,7 +211,7 @@ pub fn wake(x: Process, t: u32) -> Process
     let wake = times.wake;
     let wait = x.wait;
     if is_due(wake, t) {
-        if is_idle(wait) {
+        if waits_for_nothing(wait) {
             return with_suspended(wait_ended(x, 6), false);
         }
         return wait_ended(x, timeout_code(x));
@@ -365,7 +365,7 @@ pub fn resume(x: Process) -> Process
     ensures { λ r. ⌜ r ≡ resumed x ⌝ }
 {
     let held = x.wait;
-    if is_idle(held) {
+    if waits_for_nothing(held) {
         return with_suspended(wait_ended(x, 0), false);
     }
     with_suspended(x, false)

@@ -1,4 +1,4 @@
 // The replay program: a table, then event lines, from standard input; one answer line per event to standard output.
 fn main() {
-    console::replay(true);
+    standard_io::replay(true);
 }

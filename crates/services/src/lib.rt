@@ -1,6 +1,6 @@
 // Calls 1 to 20 by number.
 ghost use mathlib.Core.Path.{_≡_};
-ghost use Rattle.machine.specs.Calls.{partitionCall};
+ghost use Rattle.machine.specs.Services.{partitionCall};
 use machine::Called;
 use machine::Context;
 use machine::Field;

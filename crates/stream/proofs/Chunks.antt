@@ -12,11 +12,11 @@ use lib.Dec.{leb, ltb}
 use borrow.Author.Tests.{le-leb, leb-true, leb-false, ltb-false}
 use Rattle.machine.specs.declared.Numbers.{Numbers}
 use Rattle.machine.specs.Limits.{lineLength}
-use Rattle.machine.specs.Text.{numberList, allInRange}
+use Rattle.machine.specs.Line.{numberList, allInRange}
 use Rattle.machine.proofs.Bounds.{either}
 use Rattle.machine.proofs.Tests.{by-test}
 use Rattle.machine.proofs.TextLine.{six-length}
-use Rattle.stream.specs.declared.Spoken.{Spoken}
+use Rattle.stream.specs.declared.Printout.{Printout}
 use Rattle.stream.specs.declared.Stream.{Stream}
 use Rattle.stream.specs.Stream.{heldLimit, at, turn, textOf, said, oneMore, put, due, Fed, feed, Run, run, over, advanceOf, closed, finished}
 use Rattle.stream.proofs.Turns.{Prints}
@@ -62,7 +62,7 @@ module _ (s : Stream) (b : ℕ) where
     pub feed-held : due (p .place .stage) (p .place .count) b ≡ false → feed s b ≡ record { stream = p; text = [] }
     feed-held d = fed-held (rw e at d) ∙ ap (λ (q : Stream). record { stream = q; text = [] }) (sym e)
 
-    pub feed-due : (n : ℕ) (y : Spoken) → due (p .place .stage) (p .place .count) b ≡ true → length (p .held) ≡ heldLimit → n ≡ min (p .place .count) heldLimit → y ≡ turn false (p .place) (take n (p .held)) → feed s b ≡ said p y
+    pub feed-due : (n : ℕ) (y : Printout) → due (p .place .stage) (p .place .count) b ≡ true → length (p .held) ≡ heldLimit → n ≡ min (p .place .count) heldLimit → y ≡ turn false (p .place) (take n (p .held)) → feed s b ≡ said p y
     feed-due n y d h m t =
         fed-due (rw e at d)
         ∙ ap (λ (q : Stream). said q (turn false (q .place) (take (q .place .count) (q .held)))) (sym e)
@@ -75,7 +75,7 @@ pub feed-short : (s : Stream) (b : ℕ) → length (feed s b .text) ≤ lineLeng
 unfolding feed
 feed-short s b =
     by-test (λ (f : Fed). length (f .text) ≤ lineLength) (due (put s b .place .stage) (put s b .place .count) b)
-    (λ t. let y = turn false (put s b .place) (take (put s b .place .count) (put s b .held)) in text-short (y .speaks) (y .numbers))
+    (λ t. let y = turn false (put s b .place) (take (put s b .place .count) (put s b .held)) in text-short (y .prints) (y .numbers))
     (λ t. omega arith)
 
 feed-length : (s : Stream) (b : ℕ) → length (s .held) ≡ heldLimit → length (feed s b .stream .held) ≡ heldLimit
@@ -190,8 +190,8 @@ module _ (s₀ : Stream) (chunk out₀ : List ℕ) (s : Stream) (i to : ℕ) (ou
     goes-on p t e to′ c out′ o = rw (c, o, add-one) (rw e at next)
 
 -- ---------------------------------------------------------------- the last line
-pub finish-done : (s : Stream) (out after : List ℕ) (r k : ℕ) (y : Spoken) → length (s .held) ≡ heldLimit → r ≡ min (s .place .count) heldLimit → y ≡ turn true (s .place) (take r (s .held)) → lineLength ≤ length out
-    → Prints out 0 (y .speaks) (y .numbers) k after
+pub finish-done : (s : Stream) (out after : List ℕ) (r k : ℕ) (y : Printout) → length (s .held) ≡ heldLimit → r ≡ min (s .place .count) heldLimit → y ≡ turn true (s .place) (take r (s .held)) → lineLength ≤ length out
+    → Prints out 0 (y .prints) (y .numbers) k after
     → (record { stream = record { place = y .place; held = s .held }; taken = 0; printed = k } ≡ advanceOf (finished s (length out))) × (after ≡ over (finished s (length out) .text) out)
 unfolding finished closed
 finish-done s out after r k y h m c room q =
@@ -208,7 +208,7 @@ unfolding finished closed
 finished-room s room =
     let y = turn true (s .place) (take (s .place .count) (s .held)) in
     either (leb lineLength room)
-    (λ t. let h : lineLength ≤ room = leb-true lineLength room t in rw t (omega (arith, text-short (y .speaks) (y .numbers))))
+    (λ t. let h : lineLength ≤ room = leb-true lineLength room t in rw t (omega (arith, text-short (y .prints) (y .numbers))))
     (λ t. rw t (omega arith))
 
 pub finished-closed : (s : Stream) (room : ℕ) → lineLength ≤ room → finished s room .stream ≡ closed s .stream

@@ -10,7 +10,7 @@ use lib.Seq.{take-all, take-append-le, take-suc-set, length-take-le, set-out}
 use lib.Dec.{eqb, ltb, leb}
 use borrow.Author.Tests.{not-true, ltb-true, ltb-false, leb-true, leb-false}
 use Rattle.machine.specs.Limits.{lineLength}
-use Rattle.machine.specs.Text.{lineFeed, readLine, inFirst, lines}
+use Rattle.machine.specs.Line.{lineFeed, readLine, inFirst, lines}
 use Rattle.machine.proofs.Bounds.{either}
 use Rattle.machine.proofs.TextLine.{read-other}
 use Rattle.machine.proofs.TextInput.{noFeed, unfed-append}

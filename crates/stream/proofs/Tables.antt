@@ -12,9 +12,9 @@ use Rattle.machine.specs.declared.Numbers.{Numbers}
 use Rattle.machine.specs.declared.Line.{Line}
 use Rattle.machine.specs.declared.Line.the-variants.{Six, Bad}
 use Rattle.machine.specs.Limits.{windowLimit, channelLimit}
-use Rattle.machine.specs.Field.{rowOf}
-use Rattle.machine.specs.Text.{lineRefusal, lineCode}
-use Rattle.machine.specs.Module.{windows}
+use Rattle.machine.specs.Fields.{rowOf}
+use Rattle.machine.specs.Line.{lineRefusal, lineCode}
+use Rattle.machine.specs.Windows.{windows}
 use Rattle.machine.specs.Table.{headGood, headDraft, rowGood, withRow, flaggedFrom, refusedTable, checkedTable, tableFrom, tableOf}
 use Rattle.machine.proofs.Bounds.{either}
 use Rattle.machine.proofs.Tests.{by-test}

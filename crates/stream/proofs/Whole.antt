@@ -15,7 +15,7 @@ use Rattle.machine.specs.declared.Reading.{Reading}
 use Rattle.machine.specs.declared.Line.{Line}
 use Rattle.machine.specs.declared.Line.the-variants.{Six, Bad}
 use Rattle.machine.specs.Limits.{lineLength, windowLimit, channelLimit}
-use Rattle.machine.specs.Text.{lineEnd, lineFeed, lineText, readLine, lines, lineRefusal, numbersOf}
+use Rattle.machine.specs.Line.{lineEnd, lineFeed, lineText, readLine, lines, lineRefusal, numbersOf}
 use Rattle.machine.specs.Module.{emptyModule}
 use Rattle.machine.specs.Table.{refusedTable, tableOf, readTable}
 use Rattle.machine.specs.TwoRuns.{final, replies}
@@ -27,8 +27,8 @@ use Rattle.machine.proofs.Replays.{line-valid, line-in-range}
 use Rattle.machine.proofs.Tables.{table-read}
 use Rattle.machine.proofs.TextLine.{read-six, six-length}
 use Rattle.machine.proofs.TextInput.{noFeed, unfed-bad, line-at}
-use Rattle.answers.specs.Answers.{heard}
-use Rattle.answers.proofs.Laws.{heard-next, refusal-in-range}
+use Rattle.event_lines.specs.EventLines.{lineStepped}
+use Rattle.event_lines.proofs.Laws.{heard-next, refusal-in-range}
 use Rattle.stream.specs.declared.Stage.the-variants.{Table, Events, Ended}
 use Rattle.stream.specs.declared.Stream.{Stream}
 use Rattle.stream.specs.Stream.{heldLimit, begun, at, missing, eventTurn, turn, textOf, Fed, said, put, due, feed, fedAll, closed, streamed, streamEnd}
@@ -66,7 +66,7 @@ ended-gives (b ∷ bs) s m h e =
     (λ t. gives-more s b bs [] m (endedAs (put s b)) (rw t) (ended-gives bs (put s b) m h e))
 
 -- ---------------------------------------------------------------- events
-heard-text : (m : Module) (l : Line) → ValidModule m → textOf true (numbersOf (answerNumbers (heard m l .answer))) ≡ lineText (lineAnswer m l)
+heard-text : (m : Module) (l : Line) → ValidModule m → textOf true (numbersOf (answerNumbers (lineStepped m l .answer))) ≡ lineText (lineAnswer m l)
 heard-text m (Six n) v = rw (line-in-range m (Six n) v)
 heard-text m Bad v = rw (line-in-range m Bad v)
 

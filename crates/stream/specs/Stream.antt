@@ -9,16 +9,16 @@ use Rattle.machine.specs.declared.Numbers.{Numbers}
 use Rattle.machine.specs.declared.Line.{Line}
 use Rattle.machine.specs.declared.Line.the-variants.{Six, Bad}
 use Rattle.machine.specs.Limits.{windowLimit, channelLimit, lineLength}
-use Rattle.machine.specs.Text.{lineFeed, lineText, numberList, numbersOf, readLine, allInRange, lineRefusal}
+use Rattle.machine.specs.Line.{lineFeed, lineText, numberList, numbersOf, readLine, allInRange, lineRefusal}
 use Rattle.machine.specs.Module.{emptyModule}
 use Rattle.machine.specs.Table.{readTable}
 use Rattle.machine.specs.Replay.{answerNumbers}
 use Rattle.executive.specs.declared.Executive.{Executive}
-use Rattle.answers.specs.Answers.{heard, refusalNumbers}
+use Rattle.event_lines.specs.EventLines.{lineStepped, refusalNumbers}
 use Rattle.stream.specs.declared.Stage.{Stage}
 use Rattle.stream.specs.declared.Stage.the-variants.{Table, Events, Ended}
 use Rattle.stream.specs.declared.Place.{Place}
-use Rattle.stream.specs.declared.Spoken.{Spoken}
+use Rattle.stream.specs.declared.Printout.{Printout}
 use Rattle.stream.specs.declared.Stream.{Stream}
 use Rattle.stream.specs.declared.Advance.{Advance}
 
@@ -38,32 +38,32 @@ abbrev pub at : Stage → Executive → ℕ → Place
 at s e n = record { stage = s; executive = e; count = n }
 
 -- nothing is printed
-abbrev pub silent : Place → Spoken
-silent x = record { place = x; speaks = false; numbers = numbersOf [] }
+abbrev pub nothingPrinted : Place → Printout
+nothingPrinted x = record { place = x; prints = false; numbers = numbersOf [] }
 
 -- A bad table prints one line: code, line number, four 0, and ends there.
-abbrev pub refusal : Place → ℕ → ℕ → Spoken
-refusal x code value = record { place = at Ended (x .executive) 0; speaks = true; numbers = numbersOf (refusalNumbers code value) }
+abbrev pub refusal : Place → ℕ → ℕ → Printout
+refusal x code value = record { place = at Ended (x .executive) 0; prints = true; numbers = numbersOf (refusalNumbers code value) }
 
 -- so many bytes are good lines, and the table's next line is missing
 abbrev pub missing : ℕ → ℕ → ℕ → Bool
 missing code value n = eqb code lineRefusal && eqb (value * lineLength) (n + lineLength)
 
-abbrev pub accepted : Executive → Spoken
-accepted e = silent (at Events e 0)
+abbrev pub accepted : Executive → Printout
+accepted e = nothingPrinted (at Events e 0)
 
 -- the table so far is accepted, or goes on, or is refused; at the input's end it does not go on
-abbrev pub tableTurn : Bool → Place → List ℕ → Spoken
+abbrev pub tableTurn : Bool → Place → List ℕ → Printout
 tableTurn ended x text =
     let r = readTable text in
     cond (eqb (r .code) 0) (accepted (record { inner = r .state }))
-    (cond (not ended && missing (r .code) (r .value) (length text)) (silent x) (refusal x (r .code) (r .value)))
+    (cond (not ended && missing (r .code) (r .value) (length text)) (nothingPrinted x) (refusal x (r .code) (r .value)))
 
 -- one answer line per event, 11 too
-abbrev pub eventTurn : Place → List ℕ → Spoken
+abbrev pub eventTurn : Place → List ℕ → Printout
 eventTurn x text =
-    let h = heard (x .executive .inner) (readLine text) in
-    record { place = at Events (h .executive) 0; speaks = true; numbers = numbersOf (answerNumbers (h .answer)) }
+    let h = lineStepped (x .executive .inner) (readLine text) in
+    record { place = at Events (h .executive) 0; prints = true; numbers = numbersOf (answerNumbers (h .answer)) }
 
 -- what a line reads as where it belongs to the events; no event elsewhere
 abbrev pub eventLine : Stage → List ℕ → Line
@@ -72,16 +72,16 @@ eventLine Events text = readLine text
 eventLine Ended text = Bad
 
 -- bytes after the last LF are a line; nothing after it is none
-abbrev pub eventsTurn : Bool → Place → List ℕ → Spoken
-eventsTurn ended x text = cond (ended && eqb (length text) 0) (silent x) (eventTurn x text)
+abbrev pub eventsTurn : Bool → Place → List ℕ → Printout
+eventsTurn ended x text = cond (ended && eqb (length text) 0) (nothingPrinted x) (eventTurn x text)
 
 -- a line is complete, or the input has ended
-abbrev pub turnIn : Bool → Stage → Place → List ℕ → Spoken
+abbrev pub turnIn : Bool → Stage → Place → List ℕ → Printout
 turnIn ended Table x text = tableTurn ended x text
 turnIn ended Events x text = eventsTurn ended x text
-turnIn ended Ended x text = silent (at Ended (x .executive) 0)
+turnIn ended Ended x text = nothingPrinted (at Ended (x .executive) 0)
 
-abbrev pub turn : Bool → Place → List ℕ → Spoken
+abbrev pub turn : Bool → Place → List ℕ → Printout
 turn ended x text = turnIn ended (x .stage) x text
 
 -- ---------------------------------------------------------------- one byte
@@ -92,10 +92,10 @@ pub record Fed : Type 0 where
 
 -- what is printed; of every record that a run reaches the numbers are in range
 abbrev pub textOf : Bool → Numbers → List ℕ
-textOf speaks n = cond (speaks && allInRange (numberList n)) (lineText (numberList n)) []
+textOf prints n = cond (prints && allInRange (numberList n)) (lineText (numberList n)) []
 
-abbrev pub said : Stream → Spoken → Fed
-said s y = record { stream = record { place = y .place; held = s .held }; text = textOf (y .speaks) (y .numbers) }
+abbrev pub said : Stream → Printout → Fed
+said s y = record { stream = record { place = y .place; held = s .held }; text = textOf (y .prints) (y .numbers) }
 
 -- the byte is held; past the limit none is
 abbrev pub oneMore : ℕ → ℕ

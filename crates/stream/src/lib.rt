@@ -7,8 +7,8 @@ ghost use lib.ListN.{length, take, drop, set};
 ghost use lib.Dec.{ltb};
 ghost use Rattle.machine.specs.declared.Numbers.{Numbers};
 ghost use Rattle.machine.specs.Limits.{lineLength};
-ghost use Rattle.machine.specs.Text.{numbersOf, numberList};
-ghost use Rattle.stream.specs.Stream.{heldLimit, begun, silent, refusal, missing, accepted, tableTurn, eventTurn, eventsTurn, turn, textOf, oneMore, eventLine, due, isEnded, run, over, advanceOf, finished};
+ghost use Rattle.machine.specs.Line.{numbersOf, numberList};
+ghost use Rattle.stream.specs.Stream.{heldLimit, begun, nothingPrinted, refusal, missing, accepted, tableTurn, eventTurn, eventsTurn, turn, textOf, oneMore, eventLine, due, isEnded, run, over, advanceOf, finished};
 use executive::Executive;
 use executive::Opening;
 use machine::Line;
@@ -48,9 +48,9 @@ pub struct Advance {
 }
 
 // Where a line leads, and the numbers that it prints, if it does.
-struct Spoken {
+struct Printout {
     place: Place,
-    speaks: bool,
+    prints: bool,
     numbers: Numbers,
 }
 
@@ -67,21 +67,21 @@ fn no_numbers() -> Numbers
     }
 }
 
-fn silence(place: Place) -> Spoken
-    ensures { λ y. ⌜ y ≡ silent place ⌝ }
+fn print_nothing(place: Place) -> Printout
+    ensures { λ y. ⌜ y ≡ nothingPrinted place ⌝ }
 {
-    Spoken {
+    Printout {
         place,
-        speaks: false,
+        prints: false,
         numbers: no_numbers(),
     }
 }
 
 // ---------------------------------------------------------------- the table
-fn accept(executive: Executive) -> Spoken
+fn accept(executive: Executive) -> Printout
     ensures { λ y. ⌜ y ≡ accepted executive ⌝ }
 {
-    silence(Place {
+    print_nothing(Place {
         stage: Stage::Events,
         executive,
         count: 0,
@@ -89,18 +89,18 @@ fn accept(executive: Executive) -> Spoken
 }
 
 // A bad table prints one line and ends there.
-fn refuse(x: Place, code: u8, value: u32) -> Spoken
+fn refuse(x: Place, code: u8, value: u32) -> Printout
     ensures { λ y. ⌜ y ≡ refusal x code value ⌝ }
 {
     let executive = x.executive;
-    Spoken {
+    Printout {
         place: Place {
             stage: Stage::Ended,
             executive,
             count: 0,
         },
-        speaks: true,
-        numbers: answers::refusal(code, value),
+        prints: true,
+        numbers: event_lines::refusal(code, value),
     }
 }
 
@@ -124,7 +124,7 @@ fn is_awaited(ended: bool, code: u8, value: u32, n: usize) -> bool
 }
 
 // The table so far.
-fn table_turn(ended: bool, x: Place, text: &[u8]) -> Spoken
+fn table_turn(ended: bool, x: Place, text: &[u8]) -> Printout
     requires { ⌜ length (now text) ≤ heldLimit ⌝ }
     ensures { λ y. ⌜ y ≡ tableTurn ended x (now (text .entry)) ⌝ }
 {
@@ -134,43 +134,43 @@ fn table_turn(ended: bool, x: Place, text: &[u8]) -> Spoken
         return accept(executive);
     }
     if is_awaited(ended, r.code, r.value, text.len()) {
-        return silence(x);
+        return print_nothing(x);
     }
     refuse(x, r.code, r.value)
 }
 
 // ---------------------------------------------------------------- events
-fn event_turn(x: Place, text: &[u8]) -> Spoken
+fn event_turn(x: Place, text: &[u8]) -> Printout
     ensures { λ y. ⌜ y ≡ eventTurn x (now (text .entry)) ⌝ }
 {
     let e = x.executive;
-    let h = answers::hear(e, line::read(text));
+    let h = event_lines::step_line(e, line::read(text));
     let executive = h.executive;
     let answer = h.answer;
-    Spoken {
+    Printout {
         place: Place {
             stage: Stage::Events,
             executive,
             count: 0,
         },
-        speaks: true,
-        numbers: answers::numbers_of(answer),
+        prints: true,
+        numbers: event_lines::numbers_of(answer),
     }
 }
 
 // Bytes after the last LF are a line; nothing after it is none.
-fn events_turn(ended: bool, x: Place, text: &[u8]) -> Spoken
+fn events_turn(ended: bool, x: Place, text: &[u8]) -> Printout
     ensures { λ y. ⌜ y ≡ eventsTurn ended x (now (text .entry)) ⌝ }
 {
     if ended && text.len() == 0 {
-        return silence(x);
+        return print_nothing(x);
     }
     event_turn(x, text)
 }
 
 // ---------------------------------------------------------------- by stage
 // A line is complete, or the input has ended.
-fn turn_of(ended: bool, x: Place, text: &[u8]) -> Spoken
+fn turn_of(ended: bool, x: Place, text: &[u8]) -> Printout
     requires { ⌜ length (now text) ≤ heldLimit ⌝ }
     ensures { λ y. ⌜ y ≡ turn ended x (now (text .entry)) ⌝ }
 {
@@ -178,7 +178,7 @@ fn turn_of(ended: bool, x: Place, text: &[u8]) -> Spoken
     match stage {
         Stage::Table => table_turn(ended, x, text),
         Stage::Events => events_turn(ended, x, text),
-        Stage::Ended => silence(Place { count: 0, ..x }),
+        Stage::Ended => print_nothing(Place { count: 0, ..x }),
     }
 }
 
@@ -227,11 +227,11 @@ fn event_line(stage: Stage, text: &[u8]) -> Line
 
 // ---------------------------------------------------------------- output
 // Prints a line at a position of the output: how many bytes it has.
-fn print(out: &mut [u8], to: usize, speaks: bool, numbers: Numbers) -> usize
+fn print(out: &mut [u8], to: usize, prints: bool, numbers: Numbers) -> usize
     requires { ⌜ to + lineLength ≤ length (now out) ⌝ }
-    ensures { λ n. ⌜ (n ≡ length (textOf speaks numbers)) × (now (out .exit) ≡ take to (now (out .entry)) ++ over (textOf speaks numbers) (drop to (now (out .entry)))) ⌝ }
+    ensures { λ n. ⌜ (n ≡ length (textOf prints numbers)) × (now (out .exit) ≡ take to (now (out .entry)) ++ over (textOf prints numbers) (drop to (now (out .entry)))) ⌝ }
 {
-    if !speaks {
+    if !prints {
         return 0;
     }
     if line::write_at(out, to, numbers) == 0 {
@@ -279,14 +279,14 @@ impl Stream {
                 let l = event_line(stage, &held[..n]);
                 // An event is stepped here and not by turn_of: each function that it passed through would copy the executive.
                 if let Line::Six(q) = l {
-                    let h = x.executive.step(answers::event_of(q));
-                    to += print(out, to, true, answers::numbers_of(h.answer));
+                    let h = x.executive.step(event_lines::event_of(q));
+                    to += print(out, to, true, event_lines::numbers_of(h.answer));
                     let next = h.executive;
                     x.executive = next;
                     x.count = 0;
                 } else {
                     let y = turn_of(false, x, &held[..n]);
-                    to += print(out, to, y.speaks, y.numbers);
+                    to += print(out, to, y.prints, y.numbers);
                     let next = y.place;
                     x = next;
                 }
@@ -315,7 +315,7 @@ impl Stream {
         let n = held_count(x.count);
         let y = turn_of(true, x, &held[..n]);
         let numbers = y.numbers;
-        let printed = print(out, 0, y.speaks, numbers);
+        let printed = print(out, 0, y.prints, numbers);
         let place = y.place;
         Advance {
             stream: Stream { place, held },

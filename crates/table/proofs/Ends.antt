@@ -12,9 +12,9 @@ use Rattle.machine.specs.declared.Numbers.{Numbers}
 use Rattle.machine.specs.declared.Line.{Line}
 use Rattle.machine.specs.declared.Line.the-variants.{Six, Bad}
 use Rattle.machine.specs.Limits.{lineLength}
-use Rattle.machine.specs.Field.{rowOf}
-use Rattle.machine.specs.Text.{readAt}
-use Rattle.machine.specs.Module.{windows}
+use Rattle.machine.specs.Fields.{rowOf}
+use Rattle.machine.specs.Line.{readAt}
+use Rattle.machine.specs.Windows.{windows}
 use Rattle.machine.specs.Table.{headGood, headDraft, rowGood, withRow, flaggedFrom, tableFrom, tableOf, readTable}
 use Rattle.machine.specs.Replay.{eventLines}
 use Rattle.machine.proofs.Bounds.{either}

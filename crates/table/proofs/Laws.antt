@@ -16,9 +16,9 @@ use Rattle.machine.specs.declared.Line.{Line}
 use Rattle.machine.specs.declared.Line.the-variants.{Six, Bad}
 use Rattle.machine.specs.declared.Table.{Table}
 use Rattle.machine.specs.Limits.{lineLength}
-use Rattle.machine.specs.Module.{noWindow, windows, flaggedFor}
-use Rattle.machine.specs.Field.{rowOf}
-use Rattle.machine.specs.Text.{readLine, lines, lineRefusal, lineEnd, readAt}
+use Rattle.machine.specs.Windows.{noWindow, windows, flaggedFor}
+use Rattle.machine.specs.Fields.{rowOf}
+use Rattle.machine.specs.Line.{readLine, lines, lineRefusal, lineEnd, readAt}
 use Rattle.machine.specs.Table.{headGood, headDraft, rowGood, withRow, hasFlagged, flaggedFrom, refusedTable, checkedTable, tableFrom, tableHead, tableOf, readTable}
 use Rattle.machine.proofs.Bounds.{either}
 use Rattle.machine.proofs.Taken.{taken-more, taken-done}

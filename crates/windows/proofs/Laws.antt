@@ -8,9 +8,9 @@ use native.Mathlib.Omega.{arith}
 use lib.IntN.{ℤ}
 use lib.ListN.{length, getD, drop}
 use borrow.Author.Tests.{not-true, not-false}
-use Rattle.machine.specs.Field.{field, between, numberOf}
+use Rattle.machine.specs.Fields.{field, between, numberOf}
 use Rattle.machine.specs.Limits.{timeLimit}
-use Rattle.machine.specs.Module.{noWindow, windows, covers, owner, flaggedFor, firstFlagged}
+use Rattle.machine.specs.Windows.{noWindow, windows, covers, owner, flaggedFor, firstFlagged}
 use Rattle.machine.specs.declared.Field.{Field}
 use Rattle.machine.specs.declared.Table.{Table}
 use Rattle.machine.proofs.Taken.{taken-more, taken-done}

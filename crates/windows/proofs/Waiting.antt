@@ -9,12 +9,12 @@ use native.Mathlib.Omega.{arith}
 use lib.Dec.{ltb, leb, eqb}
 use lib.IntN.{ℤ}
 use borrow.Author.Tests.{lt-ltb, le-ltb, ltb-true, ltb-false, leb-true, leb-false, eqb-true, eq-eqb, not-false}
-use Rattle.machine.specs.Field.{field, between, numberOf}
+use Rattle.machine.specs.Fields.{field, between, numberOf}
 use Rattle.machine.specs.Limits.{timeLimit}
-use Rattle.machine.specs.Module.{windows}
+use Rattle.machine.specs.Windows.{windows}
 use Rattle.machine.specs.Table.{hasFlagged}
 use Rattle.machine.specs.Valid.{SoundWindows, SoundTable}
-use Rattle.machine.specs.Waiting.{startsAt, waitingRefused, WaitingTime}
+use Rattle.machine.specs.Windows.{startsAt, waitingRefused, WaitingTime}
 use Rattle.machine.specs.declared.Table.{Table}
 use Rattle.machine.specs.declared.Window.{Window}
 use Rattle.machine.proofs.Bounds.{either}

@@ -4,9 +4,9 @@ use mathlib.Core.Bool.{cond}
 use mathlib.Core.List.{List, [], _∷_}
 use lib.Dec.{ltb, eqb}
 use lib.IntN.{ℤ}
-use Rattle.machine.specs.Field.{field, numberOf}
-use Rattle.machine.specs.Module.{windows}
-use Rattle.machine.specs.Waiting.{waitingRefused}
+use Rattle.machine.specs.Fields.{field, numberOf}
+use Rattle.machine.specs.Windows.{windows}
+use Rattle.machine.specs.Windows.{waitingRefused}
 use Rattle.machine.specs.declared.Table.{Table}
 use Rattle.machine.specs.declared.Waiting.{Waiting}
 use Rattle.machine.specs.declared.Window.{Window}

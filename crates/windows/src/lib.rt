@@ -3,7 +3,7 @@ ghost use mathlib.Core.Path.{_≡_};
 ghost use Prim.Native.Nat.{_≤_, _<_};
 ghost use lib.ListN.{length};
 ghost use Rattle.machine.specs.Limits.{windowLimit};
-ghost use Rattle.machine.specs.Module.{windows, covers, owner, lookup, flaggedFor, firstFlagged, releasePoint};
+ghost use Rattle.machine.specs.Windows.{windows, covers, owner, lookup, flaggedFor, firstFlagged, releasePoint};
 ghost use Rattle.windows.specs.Nearest.{ahead, nearer, nearestStart, waitingOf};
 use machine::Lookup;
 use machine::Module;

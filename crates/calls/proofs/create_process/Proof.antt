@@ -2,7 +2,8 @@ use Rattle.machine.proofs.Bounds.{replaced-next}
 use native.Mathlib.Omega.{arith}
 use borrow.Author.Tests.{eq-eqb, ne-eqb, le-leb, lt-leb}
 use Rattle.machine.specs.Limits.{processLimit}
-use Rattle.machine.specs.Calls.{checked, createProcess}
+use Rattle.machine.specs.Checks.{checked}
+use Rattle.machine.specs.Calls.{createProcess}
 use Rattle.calls.proofs.Laws.{admitted-name, admitted-priority}
 use borrow.Author.Needs.{needs}
 use Rattle.calls.proofs.create_process.Statement.{statement}

@@ -1,4 +1,5 @@
-use Rattle.machine.specs.Calls.{checked, getStatus}
+use Rattle.machine.specs.Checks.{checked}
+use Rattle.machine.specs.Calls.{getStatus}
 use Rattle.calls.proofs.get_status.Statement.{statement}
 use Rattle.calls.proofs.get_status.Tie as tie
 

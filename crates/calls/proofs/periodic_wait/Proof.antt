@@ -1,6 +1,7 @@
 use borrow.Author.Tests.{eq-eqb, ne-eqb, not-true, not-false}
 use borrow.Author.Needs.{needs}
-use Rattle.machine.specs.Calls.{checked, periodicWait}
+use Rattle.machine.specs.Checks.{checked}
+use Rattle.machine.specs.Calls.{periodicWait}
 use Rattle.calls.proofs.periodic_wait.Statement.{statement}
 use Rattle.calls.proofs.periodic_wait.Tie as tie
 

@@ -1,5 +1,6 @@
 use borrow.Author.Tests.{eq-eqb, ne-eqb}
-use Rattle.machine.specs.Calls.{checked, resume}
+use Rattle.machine.specs.Checks.{checked}
+use Rattle.machine.specs.Calls.{resume}
 use Rattle.calls.proofs.resume_process.Statement.{statement}
 use Rattle.calls.proofs.resume_process.Tie as tie
 

@@ -2,7 +2,8 @@ use mathlib.Core.Path.{sym, _∙_}
 use native.Mathlib.Omega.{arith}
 use Rattle.calls.proofs.Laws.{passed, not-two}
 use borrow.Author.Tests.{eq-eqb, ne-eqb}
-use Rattle.machine.specs.Calls.{checked, setMode}
+use Rattle.machine.specs.Checks.{checked}
+use Rattle.machine.specs.Calls.{setMode}
 use Rattle.calls.proofs.set_mode.Statement.{statement}
 use Rattle.calls.proofs.set_mode.Tie as tie
 

@@ -3,7 +3,8 @@ use native.Mathlib.Omega.{arith}
 use Rattle.machine.specs.Limits.{priorityLimit}
 use Rattle.machine.proofs.Bounds.{known-id}
 use Rattle.calls.proofs.Laws.{passed}
-use Rattle.machine.specs.Calls.{checked, setPriority}
+use Rattle.machine.specs.Checks.{checked}
+use Rattle.machine.specs.Calls.{setPriority}
 use Rattle.calls.proofs.set_priority.Statement.{statement}
 use Rattle.calls.proofs.set_priority.Tie as tie
 

@@ -1,5 +1,6 @@
 use borrow.Author.Tests.{eq-eqb, ne-eqb}
-use Rattle.machine.specs.Calls.{checked, start}
+use Rattle.machine.specs.Checks.{checked}
+use Rattle.machine.specs.Calls.{start}
 use Rattle.calls.proofs.start_process.Statement.{statement}
 use Rattle.calls.proofs.start_process.Tie as tie
 

@@ -1,5 +1,6 @@
 use borrow.Author.Tests.{eq-eqb, ne-eqb}
-use Rattle.machine.specs.Calls.{checked, stop}
+use Rattle.machine.specs.Checks.{checked}
+use Rattle.machine.specs.Calls.{stop}
 use Rattle.calls.proofs.stop_process.Statement.{statement}
 use Rattle.calls.proofs.stop_process.Tie as tie
 

@@ -1,5 +1,6 @@
 use borrow.Author.Tests.{eq-eqb, ne-eqb}
-use Rattle.machine.specs.Calls.{checked, stopSelf}
+use Rattle.machine.specs.Checks.{checked}
+use Rattle.machine.specs.Calls.{stopSelf}
 use Rattle.calls.proofs.stop_self.Statement.{statement}
 use Rattle.calls.proofs.stop_self.Tie as tie
 

@@ -1,5 +1,6 @@
 use borrow.Author.Tests.{eq-eqb, ne-eqb}
-use Rattle.machine.specs.Calls.{checked, suspend}
+use Rattle.machine.specs.Checks.{checked}
+use Rattle.machine.specs.Calls.{suspend}
 use Rattle.calls.proofs.suspend_process.Statement.{statement}
 use Rattle.calls.proofs.suspend_process.Tie as tie
 

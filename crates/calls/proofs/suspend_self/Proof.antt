@@ -1,5 +1,6 @@
 use borrow.Author.Tests.{eq-eqb, ne-eqb}
-use Rattle.machine.specs.Calls.{checked, suspendSelf}
+use Rattle.machine.specs.Checks.{checked}
+use Rattle.machine.specs.Calls.{suspendSelf}
 use Rattle.calls.proofs.suspend_self.Statement.{statement}
 use Rattle.calls.proofs.suspend_self.Tie as tie
 

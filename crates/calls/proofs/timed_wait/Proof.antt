@@ -1,5 +1,6 @@
 use borrow.Author.Tests.{eq-eqb, ne-eqb}
-use Rattle.machine.specs.Calls.{checked, timedWait}
+use Rattle.machine.specs.Checks.{checked}
+use Rattle.machine.specs.Calls.{timedWait}
 use Rattle.calls.proofs.timed_wait.Statement.{statement}
 use Rattle.calls.proofs.timed_wait.Tie as tie
 

@@ -1,7 +1,7 @@
 use borrow.Author.Needs.{needs}
 use borrow.Author.Tests.{eq-eqb, ne-eqb}
-use Rattle.machine.specs.Calls.{checked}
-use Rattle.machine.specs.Module.{channelChecks}
+use Rattle.machine.specs.Checks.{checked}
+use Rattle.machine.specs.Channels.{channelChecks}
 use Rattle.channels.proofs.end_code.Statement.{statement}
 use Rattle.channels.proofs.end_code.Tie as tie
 

@@ -1,5 +1,5 @@
 -- `all_in_range` meets its contract. The loop: the numbers from i on are in range as all are.
-use Rattle.machine.specs.Text.{inRange, fieldCount, numberList, allInRange}
+use Rattle.machine.specs.Line.{inRange, fieldCount, numberList, allInRange}
 use mathlib.Core.Path.{ap, _∙_, _≡_, refl}
 use mir.Syntax.{w64}
 use mir.ValLaws.{toZ-ofZ}

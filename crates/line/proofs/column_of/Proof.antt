@@ -1,5 +1,5 @@
 -- `column_of` meets its contract.
-use Rattle.machine.specs.Text.{column}
+use Rattle.machine.specs.Line.{column}
 use borrow.Author.Tests.{eq-eqb, ne-eqb}
 use borrow.Author.Needs.{needs}
 use Rattle.line.proofs.column_of.Statement.{statement}

@@ -3,7 +3,7 @@ use native.Mathlib.Omega.{arith}
 use lib.ListN.{take, drop}
 use Prim.Native.Nat.{ℕ, _+_, _-_}
 use mathlib.Core.Path.{_≡_, ap, _∙_}
-use Rattle.machine.specs.Text.{fieldWidth, readField}
+use Rattle.machine.specs.Line.{fieldWidth, readField}
 use Rattle.line.specs.Found.{foundOf}
 use borrow.Author.Needs.{needs}
 use Rattle.line.proofs.field_at.Statement.{statement}

@@ -1,5 +1,5 @@
 -- `mark_after` meets its contract.
-use Rattle.machine.specs.Text.{markAfter}
+use Rattle.machine.specs.Line.{markAfter}
 use borrow.Author.Tests.{eq-eqb, ne-eqb}
 use Rattle.line.proofs.mark_after.Statement.{statement}
 use Rattle.line.proofs.mark_after.Tie as tie

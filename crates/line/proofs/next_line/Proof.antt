@@ -3,7 +3,7 @@ use Prim.Native.Nat.{_-_}
 use mathlib.Core.Path.{_≡_, refl}
 use native.Mathlib.Omega.{arith}
 use lib.ListN.{length}
-use Rattle.machine.specs.Text.{lineEnd}
+use Rattle.machine.specs.Line.{lineEnd}
 use Rattle.line.proofs.Reading.{end-more, end-found, end-past}
 use Rattle.line.proofs.next_line.Statement.{statement}
 use Rattle.line.proofs.next_line.Tie as tie

@@ -1,6 +1,6 @@
 -- `number` meets its contract.
 use Prim.Native.Nat.{_≤_}
-use Rattle.machine.specs.Text.{fieldCount, numberList}
+use Rattle.machine.specs.Line.{fieldCount, numberList}
 use mir.Syntax.{w64}
 use mir.ValLaws.{toZ-ofZ}
 use mathlib.Core.Path.{sym}

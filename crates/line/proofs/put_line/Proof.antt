@@ -9,7 +9,7 @@ use lib.IntN.{ℤ}
 use lib.Seq.{sets}
 use mir.Syntax.{w64}
 use mir.ValLaws.{toZ-ofZ}
-use Rattle.machine.specs.Text.{fieldWidth, fieldCount, inRange, allInRange, numberList, fieldText, lineText}
+use Rattle.machine.specs.Line.{fieldWidth, fieldCount, inRange, allInRange, numberList, fieldText, lineText}
 use Rattle.line.proofs.Writing.{range-both, field-stored, feed-stored}
 use Rattle.line.proofs.put_line.Statement.{statement}
 use Rattle.line.proofs.put_line.Tie as tie

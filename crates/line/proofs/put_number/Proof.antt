@@ -5,7 +5,7 @@ use native.Mathlib.Omega.{arith}
 use borrow.Author.Needs.{needs}
 use lib.ListN.{length, length-set}
 use lib.Seq.{sets}
-use Rattle.machine.specs.Text.{fieldWidth, columns}
+use Rattle.machine.specs.Line.{fieldWidth, columns}
 use Rattle.line.proofs.Writing.{number-stored, column-stored, columns-stored}
 use Rattle.line.proofs.put_number.Statement.{statement}
 use Rattle.line.proofs.put_number.Tie as tie

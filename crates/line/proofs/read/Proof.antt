@@ -5,7 +5,7 @@ use Prim.Native.Nat.{_≤_, _*_, _-_}
 use mathlib.Core.Path.{_≡_, refl}
 use native.Mathlib.Omega.{arith}
 use borrow.Author.Needs.{needs}
-use Rattle.machine.specs.Text.{fieldWidth, fieldCount, readNumbers}
+use Rattle.machine.specs.Line.{fieldWidth, fieldCount, readNumbers}
 use Rattle.machine.proofs.TextLine.{read-other}
 use Rattle.line.proofs.read.Statement.{statement}
 use Rattle.line.proofs.read.Tie as tie

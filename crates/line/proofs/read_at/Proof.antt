@@ -2,7 +2,7 @@
 use mathlib.Core.Path.{_∙_, ap}
 use native.Mathlib.Omega.{arith}
 use Rattle.machine.specs.Limits.{lineLength}
-use Rattle.machine.specs.Text.{readLine}
+use Rattle.machine.specs.Line.{readLine}
 use Rattle.line.proofs.Parts.{part-is}
 use Rattle.machine.proofs.TextInput.{few-left}
 use borrow.Author.Needs.{needs}

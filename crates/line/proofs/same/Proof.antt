@@ -4,7 +4,7 @@ use mathlib.Core.Path.{_≡_}
 use native.Mathlib.Omega.{arith}
 use borrow.Author.Needs.{needs}
 use lib.ListN.{take}
-use Rattle.machine.specs.Text.{fieldWidth, columns, numberText, sameBytes}
+use Rattle.machine.specs.Line.{fieldWidth, columns, numberText, sameBytes}
 use Rattle.line.proofs.Reading.{number-differs, number-agrees, column-differs, column-agrees, columns-agree}
 use Rattle.line.proofs.same.Statement.{statement}
 use Rattle.line.proofs.same.Tie as tie

@@ -4,7 +4,7 @@ use mathlib.Core.Path.{_≡_}
 use native.Mathlib.Omega.{arith}
 use borrow.Author.Needs.{needs}
 use lib.ListN.{drop}
-use Rattle.machine.specs.Text.{base, fieldWidth, spelled}
+use Rattle.machine.specs.Line.{base, fieldWidth, spelled}
 use Rattle.line.proofs.Reading.{spelled-more, spelled-end, spelled-bound, spelled-fits}
 use Rattle.line.proofs.value.Statement.{statement}
 use Rattle.line.proofs.value.Tie as tie

@@ -4,8 +4,9 @@ use mathlib.Core.Bool.{true}
 use native.Mathlib.Omega.{arith}
 use borrow.Author.Tests.{eq-eqb, ne-eqb, le-leb, lt-leb, not-false}
 use Rattle.machine.specs.Limits.{eventLimit}
-use Rattle.machine.specs.Field.{isName}
-use Rattle.machine.specs.Calls.{checked, createEvent}
+use Rattle.machine.specs.Fields.{isName}
+use Rattle.machine.specs.Checks.{checked}
+use Rattle.machine.specs.Objects.{createEvent}
 use Rattle.objects.proofs.Laws.{named-low}
 use borrow.Author.Needs.{needs}
 use Rattle.objects.proofs.create_event.Statement.{statement}

@@ -3,7 +3,8 @@ use mathlib.Core.Path.{sym, _∙_}
 use native.Mathlib.Omega.{arith}
 use borrow.Author.Tests.{eq-eqb, ne-eqb, le-leb, lt-leb, not-false}
 use Rattle.machine.specs.Limits.{semaphoreLimit}
-use Rattle.machine.specs.Calls.{checked, createSemaphore}
+use Rattle.machine.specs.Checks.{checked}
+use Rattle.machine.specs.Objects.{createSemaphore}
 use Rattle.objects.proofs.Laws.{admitted}
 use borrow.Author.Needs.{needs}
 use Rattle.objects.proofs.create_semaphore.Statement.{statement}

@@ -4,7 +4,7 @@ use native.Mathlib.Omega.{arith}
 use lib.ListN.{take, drop}
 use Rattle.machine.specs.declared.EventState.{EventState}
 use Rattle.machine.specs.Partition.{noEvent}
-use Rattle.machine.specs.Calls.{eventNamed}
+use Rattle.machine.specs.Objects.{eventNamed}
 use Rattle.machine.proofs.Taken.{name-found, name-more, name-done}
 use Rattle.objects.proofs.is_event_named.Statement.{statement}
 use Rattle.objects.proofs.is_event_named.Tie as tie

@@ -4,7 +4,7 @@ use native.Mathlib.Omega.{arith}
 use lib.ListN.{take, drop}
 use Rattle.machine.specs.declared.Semaphore.{Semaphore}
 use Rattle.machine.specs.Partition.{noSemaphore}
-use Rattle.machine.specs.Calls.{semaphoreNamed}
+use Rattle.machine.specs.Objects.{semaphoreNamed}
 use Rattle.machine.proofs.Taken.{name-found, name-more, name-done}
 use Rattle.objects.proofs.is_semaphore_named.Statement.{statement}
 use Rattle.objects.proofs.is_semaphore_named.Tie as tie

@@ -1,4 +1,5 @@
-use Rattle.machine.specs.Calls.{checked, resetEvent}
+use Rattle.machine.specs.Checks.{checked}
+use Rattle.machine.specs.Objects.{resetEvent}
 use Rattle.objects.proofs.reset_event.Statement.{statement}
 use Rattle.objects.proofs.reset_event.Tie as tie
 

@@ -1,7 +1,8 @@
 use Rattle.machine.specs.Partition.{waiters}
 use mathlib.Core.Path.{sym, _∙_}
 use native.Mathlib.Omega.{arith}
-use Rattle.machine.specs.Calls.{checked, setEvent}
+use Rattle.machine.specs.Checks.{checked}
+use Rattle.machine.specs.Objects.{setEvent}
 use Rattle.machine.proofs.Bounds.{known-id}
 use Rattle.machine.proofs.Lists.{members-of}
 use Rattle.objects.proofs.set_event.Statement.{statement}

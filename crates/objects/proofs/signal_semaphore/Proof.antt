@@ -2,7 +2,8 @@ use Rattle.machine.specs.Partition.{waiters}
 use mathlib.Core.Path.{sym, _∙_}
 use native.Mathlib.Omega.{arith}
 use borrow.Author.Tests.{eq-eqb, ne-eqb}
-use Rattle.machine.specs.Calls.{checked, signal}
+use Rattle.machine.specs.Checks.{checked}
+use Rattle.machine.specs.Objects.{signal}
 use Rattle.machine.proofs.Bounds.{known-id}
 use Rattle.machine.proofs.Lists.{members-of}
 use Rattle.objects.proofs.signal_semaphore.Statement.{statement}
@@ -21,7 +22,7 @@ cast-t8 c = let h = known-id (c .before .before .before .before .before .args .k
 
 returns-3 : tie.Need-returns-3
 unfolding checked signal
-returns-3 c = rw (← c .before .before .before .before .before .before .before .before .is-unknown .ensures, c .before .before .before .before .before .before .before .if1 .left, ← c .before .before .before .before .before .before .semaphore-at .ensures, ne-eqb _ _ (c .before .before .before .before .if2 .left), c .answered3 .ensures, c .before .pass-on .ensures, members-of (c .before .before .queue-of .result) (waiters (c .before .before .before .object-of .result) (c .before .before .before .before .before .before .before .before .before .args .p)) (c .before .before .queue-of .ensures), c .before .before .before .object-of .ensures)
+returns-3 c = rw (← c .before .before .before .before .before .before .before .before .is-unknown .ensures, c .before .before .before .before .before .before .before .if1 .left, ← c .before .before .before .before .before .before .semaphore-at .ensures, ne-eqb _ _ (c .before .before .before .before .if2 .left), c .answered3 .ensures, c .before .signal-change .ensures, members-of (c .before .before .queue-of .result) (waiters (c .before .before .before .object-of .result) (c .before .before .before .before .before .before .before .before .before .args .p)) (c .before .before .queue-of .ensures), c .before .before .before .object-of .ensures)
 
 pub signal-semaphore-spec : {M : Type 1} → statement M
 signal-semaphore-spec =

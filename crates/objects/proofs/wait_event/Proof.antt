@@ -1,7 +1,8 @@
 use mathlib.Core.Path.{sym, _∙_}
 use native.Mathlib.Omega.{arith}
 use borrow.Author.Tests.{eq-eqb, ne-eqb}
-use Rattle.machine.specs.Calls.{checked, waitEvent}
+use Rattle.machine.specs.Checks.{checked}
+use Rattle.machine.specs.Objects.{waitEvent}
 use Rattle.machine.proofs.Bounds.{known-id}
 use Rattle.objects.proofs.wait_event.Statement.{statement}
 use Rattle.objects.proofs.wait_event.Tie as tie

@@ -1,4 +1,5 @@
-use Rattle.machine.specs.Calls.{checked, queued}
+use Rattle.machine.specs.Checks.{checked}
+use Rattle.machine.specs.Objects.{queued}
 use Rattle.objects.proofs.wait_queued.Statement.{statement}
 use Rattle.objects.proofs.wait_queued.Tie as tie
 

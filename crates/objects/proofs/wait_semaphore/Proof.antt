@@ -1,7 +1,8 @@
 use mathlib.Core.Path.{sym, _∙_}
 use native.Mathlib.Omega.{arith}
 use borrow.Author.Tests.{eq-eqb, ne-eqb, lt-ltb, le-ltb}
-use Rattle.machine.specs.Calls.{checked, waitSemaphore}
+use Rattle.machine.specs.Checks.{checked}
+use Rattle.machine.specs.Objects.{waitSemaphore}
 use Rattle.machine.proofs.Bounds.{known-id}
 use borrow.Author.Needs.{needs}
 use Rattle.objects.proofs.wait_semaphore.Statement.{statement}

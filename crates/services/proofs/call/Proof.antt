@@ -1,5 +1,5 @@
 use borrow.Author.Tests.{ne-eqb}
-use Rattle.machine.specs.Calls.{partitionCall}
+use Rattle.machine.specs.Services.{partitionCall}
 use Rattle.services.proofs.call.Statement.{statement}
 use Rattle.services.proofs.call.Tie as tie
 

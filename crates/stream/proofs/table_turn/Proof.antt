@@ -8,7 +8,7 @@ returns : tie.Need-returns
 returns c = c .accept .ensures ∙ turn-accepted (c .before .before .before .before .before .before .args .ended) (c .before .before .before .before .before .before .args .x) (c .before .before .before .before .before .before .args .text .now) (c .before .before .before .before .«open» .result) (c .before .before .before .before .«open» .ensures) (c .before .before .if1 .taken)
 
 returns-2 : tie.Need-returns-2
-returns-2 c = c .silence .ensures ∙ turn-missing (c .before .before .before .before .before .before .before .args .ended) (c .before .before .before .before .before .before .before .args .x) (c .before .before .before .before .before .before .before .args .text .now) (c .before .before .before .before .before .«open» .result) (c .before .before .before .before .before .«open» .ensures) (c .before .before .before .if1 .left) _ (c .before .before .is-awaited .ensures) (c .before .if2 .taken)
+returns-2 c = c .print-nothing .ensures ∙ turn-missing (c .before .before .before .before .before .before .before .args .ended) (c .before .before .before .before .before .before .before .args .x) (c .before .before .before .before .before .before .before .args .text .now) (c .before .before .before .before .before .«open» .result) (c .before .before .before .before .before .«open» .ensures) (c .before .before .before .if1 .left) _ (c .before .before .is-awaited .ensures) (c .before .if2 .taken)
 
 returns-3 : tie.Need-returns-3
 returns-3 c = c .refuse .ensures ∙ turn-refused (c .before .before .before .before .before .before .before .args .ended) (c .before .before .before .before .before .before .before .args .x) (c .before .before .before .before .before .before .before .args .text .now) (c .before .before .before .before .before .«open» .result) (c .before .before .before .before .before .«open» .ensures) (c .before .before .before .if1 .left) _ (c .before .before .is-awaited .ensures) (c .before .if2 .left)

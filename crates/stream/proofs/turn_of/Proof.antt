@@ -12,7 +12,7 @@ returns-2 : tie.Need-returns-2
 returns-2 c = by-stage (λ (k : Stage). turnIn (c .before .before .before .before .args .ended) k (c .before .before .before .before .args .x) (c .before .before .before .before .args .text .now)) _ _ (c .before .enum-told2 .given .1) _ (c .events-turn .ensures)
 
 returns-3 : tie.Need-returns-3
-returns-3 c = by-stage (λ (k : Stage). turnIn (c .before .before .before .before .before .args .ended) k (c .before .before .before .before .before .args .x) (c .before .before .before .before .before .args .text .now)) _ _ (c .before .before .enum-told3 .given .1) _ (rw (c .before .before .enum-told3 .given .1) at (c .silence .ensures))
+returns-3 c = by-stage (λ (k : Stage). turnIn (c .before .before .before .before .before .args .ended) k (c .before .before .before .before .before .args .x) (c .before .before .before .before .before .args .text .now)) _ _ (c .before .before .enum-told3 .given .1) _ (rw (c .before .before .enum-told3 .given .1) at (c .print-nothing .ensures))
 
 pub turn-of-spec : {M : Type 1} → statement M
 turn-of-spec =

@@ -5,7 +5,7 @@ use mathlib.Core.Bool.{true}
 use native.Mathlib.Omega.{arith}
 use lib.ListN.{drop}
 use borrow.Author.Needs.{needs}
-use Rattle.machine.specs.Module.{windows}
+use Rattle.machine.specs.Windows.{windows}
 use Rattle.machine.specs.Table.{hasFlagged, flaggedFrom}
 use Rattle.table.proofs.Laws.{window-found, window-passed, window-missing, partitions-start, partition-flagged, partition-unflagged, partitions-end, last-flagged}
 use Rattle.table.proofs.all_flagged.Statement.{statement}

@@ -3,7 +3,7 @@ use mathlib.Core.Path.{_≡_, refl, sym, _∙_}
 use native.Mathlib.Omega.{arith}
 use lib.ListN.{drop}
 use borrow.Author.Needs.{needs}
-use Rattle.machine.specs.Module.{windows, firstFlagged}
+use Rattle.machine.specs.Windows.{windows, firstFlagged}
 use Rattle.windows.proofs.Laws.{flagged-here, flagged-more, flagged-done}
 use Rattle.windows.proofs.first_flagged.Statement.{statement}
 use Rattle.windows.proofs.first_flagged.Tie as tie

@@ -1,6 +1,6 @@
 use borrow.Author.Needs.{needs}
 use borrow.Author.Tests.{eq-eqb, ne-eqb}
-use Rattle.machine.specs.Module.{lookup}
+use Rattle.machine.specs.Windows.{lookup}
 use Rattle.windows.proofs.lookup_at.Statement.{statement}
 use Rattle.windows.proofs.lookup_at.Tie as tie
 

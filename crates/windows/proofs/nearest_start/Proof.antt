@@ -5,7 +5,7 @@ use native.Mathlib.Omega.{arith}
 use lib.ListN.{drop}
 use borrow.Author.Needs.{needs}
 use borrow.Author.Tests.{eq-eqb, ne-eqb}
-use Rattle.machine.specs.Module.{windows}
+use Rattle.machine.specs.Windows.{windows}
 use Rattle.windows.specs.Nearest.{nearest}
 use Rattle.windows.proofs.Laws.{nearest-down, nearest-done}
 use Rattle.windows.proofs.nearest_start.Statement.{statement}

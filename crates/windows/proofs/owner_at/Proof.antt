@@ -3,7 +3,7 @@ use mathlib.Core.Path.{_≡_, refl, sym, _∙_}
 use native.Mathlib.Omega.{arith}
 use lib.ListN.{drop}
 use borrow.Author.Needs.{needs}
-use Rattle.machine.specs.Module.{windows, owner}
+use Rattle.machine.specs.Windows.{windows, owner}
 use Rattle.windows.proofs.Laws.{owner-here, owner-more, owner-done}
 use Rattle.windows.proofs.owner_at.Statement.{statement}
 use Rattle.windows.proofs.owner_at.Tie as tie

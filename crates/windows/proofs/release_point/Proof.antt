@@ -1,7 +1,7 @@
 use native.Mathlib.Omega.{arith}
 use borrow.Author.Needs.{needs}
 use borrow.Author.Tests.{eq-eqb, ne-eqb}
-use Rattle.machine.specs.Module.{releasePoint}
+use Rattle.machine.specs.Windows.{releasePoint}
 use Rattle.windows.proofs.Laws.{frames, next-frame}
 use Rattle.windows.proofs.release_point.Statement.{statement}
 use Rattle.windows.proofs.release_point.Tie as tie

@@ -13,8 +13,8 @@ use Rattle.stream.proofs.Stream.advance.Statement.{statement}
 use Rattle.stream.proofs.Stream.advance.Tie as tie
 use Rattle.stream.proofs.Stream.advance.Reads as reads
 use Rattle.stream.proofs.Stream.advance.Lts as lts
-use Rattle.answers.proofs.event_of.Reads as event-of-reads
-use Rattle.answers.proofs.numbers_of.Reads as numbers-of-reads
+use Rattle.event_lines.proofs.event_of.Reads as event-of-reads
+use Rattle.event_lines.proofs.numbers_of.Reads as numbers-of-reads
 use Rattle.executive.proofs.Executive.step.Reads as step-reads
 use Rattle.stream.proofs.event_line.Reads as event-line-reads
 use Rattle.stream.proofs.held_count.Reads as held-count-reads
@@ -130,7 +130,7 @@ print-requires-2 : tie.Need-print-requires-2 Inv-loop μ-loop
 print-requires-2 c κs = omega (arith, (c .before .before .before .before .before .before .before .before .before .before .before .before .before .before .before .loop) .inv .room, (c .before .before .before .before .before .before .before .before .before .before .before .before .before .if1) .left)
 
 add-to-2 : tie.Need-add-to-2 Inv-loop μ-loop
-add-to-2 c = let h = printed-fits ((c .before .before .before .before .before .before .before .before .before .before .before .before .before .before .before .before .before .before .loop) .out) ((c .before .before .before .before .before .before .before .before .before .before .before .before .before .before .before .before .before .before .loop) .to) _ ((c .before .before .before .before .turn-of) .result .speaks) ((c .before .before .before .before .turn-of) .result .numbers) ((c .before .before .print2) .ensures .0) (omega (arith, (c .before .before .before .before .before .before .before .before .before .before .before .before .before .before .before .before .before .before .loop) .inv .room, (c .before .before .before .before .before .before .before .before .before .before .before .before .before .before .before .before .if1) .left)) ((c .before .before .before .before .before .before .before .before .before .before .before .before .before .before .before .before .before .before .loop) .inv .room) in let g : length ((c .before .before .before .before .before .before .before .before .before .before .before .before .before .before .before .before .before .before .before .before .before .before .before) .args .out .now) < 18446744073709551616 = omega (arith, (c .before .before .before .before .before .before .before .before .before .before .before .before .before .before .before .before .before .before .before .before .before .before .before) .good) in record { fits = omega (arith, h, g, (c .before .before .before .before .before .before .before .before .before .before .before .before .before .before .before .before .before .before .loop) .inv .size) }
+add-to-2 c = let h = printed-fits ((c .before .before .before .before .before .before .before .before .before .before .before .before .before .before .before .before .before .before .loop) .out) ((c .before .before .before .before .before .before .before .before .before .before .before .before .before .before .before .before .before .before .loop) .to) _ ((c .before .before .before .before .turn-of) .result .prints) ((c .before .before .before .before .turn-of) .result .numbers) ((c .before .before .print2) .ensures .0) (omega (arith, (c .before .before .before .before .before .before .before .before .before .before .before .before .before .before .before .before .before .before .loop) .inv .room, (c .before .before .before .before .before .before .before .before .before .before .before .before .before .before .before .before .if1) .left)) ((c .before .before .before .before .before .before .before .before .before .before .before .before .before .before .before .before .before .before .loop) .inv .room) in let g : length ((c .before .before .before .before .before .before .before .before .before .before .before .before .before .before .before .before .before .before .before .before .before .before .before) .args .out .now) < 18446744073709551616 = omega (arith, (c .before .before .before .before .before .before .before .before .before .before .before .before .before .before .before .before .before .before .before .before .before .before .before) .good) in record { fits = omega (arith, h, g, (c .before .before .before .before .before .before .before .before .before .before .before .before .before .before .before .before .before .before .loop) .inv .size) }
 
 loop-less-2 : tie.Need-loop-less-2 Inv-loop μ-loop
 loop-less-2 c = omega (arith, (c .before .before .before .before .before .before .before .before .before .before .before .before .before .before .before .before .before .before .loop-test) .taken)

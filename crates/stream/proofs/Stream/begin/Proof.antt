@@ -1,5 +1,5 @@
 use borrow.Author.Needs.{needs}
-use Rattle.machine.specs.Text.{lines}
+use Rattle.machine.specs.Line.{lines}
 use Rattle.machine.specs.Table.{tableOf}
 use Rattle.stream.proofs.Stream.begin.Statement.{statement}
 use Rattle.stream.proofs.Stream.begin.Tie as tie

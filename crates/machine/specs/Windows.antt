@@ -1,0 +1,62 @@
+-- The windows of a table: the current partition, the release point and the waiting time.
+use Prim.Native.Nat.{ℕ, _+_, _%_, _*_, _/_, _≤_}
+use mathlib.Core.Bool.{Bool, true, false, cond, not, _&&_, _||_}
+use mathlib.Core.List.{List, [], _∷_}
+use lib.ListN.{take}
+use lib.Dec.{leb, ltb, eqb}
+use Rattle.machine.specs.declared.Field.{Field}
+use Rattle.machine.specs.Limits.{timeLimit}
+use Rattle.machine.specs.Fields.{between, numberOf, field}
+use Rattle.machine.specs.Process.{capped}
+use Rattle.machine.specs.declared.Window.{Window}
+use Rattle.machine.specs.declared.Table.{Table}
+use Rattle.machine.specs.declared.Lookup.{Lookup}
+use mathlib.Core.Path.{_≡_}
+use lib.IntN.{ℤ}
+use Rattle.machine.specs.declared.Waiting.{Waiting}
+use Rattle.machine.specs.Calls.{refused}
+
+abbrev pub noWindow : Window
+noWindow = record { start = 0; duration = 0; partition = 0; flag = false }
+
+abbrev pub windows : Table → List Window
+windows T = take (T .windowCount) (T .windows)
+
+-- start ≤ x < start + duration
+abbrev pub covers : Window → ℕ → Bool
+covers w x = leb (w .start) x && ltb x (w .start + w .duration)
+
+unfoldable pub owner : List Window → ℕ → ℕ
+owner [] x = 0
+owner (w ∷ ws) x = cond (covers w x) (w .partition) (owner ws x)
+
+-- The current partition owns the window with start ≤ t mod M < start + duration; 0 if none. Bound: 0 where M is 0.
+unfoldable pub lookup : Table → ℕ → Lookup
+lookup T t = record { partition = cond (eqb (T .frame) 0) 0 (owner (windows T) (t % T .frame)) }
+
+-- the partition's first window with flag 1
+abbrev pub flaggedFor : ℕ → Window → Bool
+flaggedFor k w = w .flag && eqb (w .partition) k
+
+unfoldable pub firstFlagged : ℕ → List Window → ℕ
+firstFlagged k [] = 0
+firstFlagged k (w ∷ ws) = cond (flaggedFor k w) (w .start) (firstFlagged k ws)
+
+-- (t div M + 1) × M + start of the partition's first window with flag 1. Bound: 0 where M is 0.
+unfoldable pub releasePoint : Table → ℕ → ℕ → ℕ
+releasePoint T t k = cond (eqb (T .frame) 0) 0 (capped ((t / T .frame + 1) * T .frame + firstFlagged k (windows T)))
+
+-- a window of partition k starts at x
+unfoldable pub startsAt : ℕ → ℕ → List Window → Bool
+startsAt k x [] = false
+startsAt k x (w ∷ ws) = (eqb (w .partition) k && eqb (w .start) x) || startsAt k x ws
+
+-- 13, with n 0, for t or partition out of range (in the empty record there is no partition)
+abbrev pub waitingRefused : Table → Field → Field → Bool
+waitingRefused T t k = not (between 0 timeLimit t) || not (between 1 (T .size) k)
+
+-- given t and a partition, a number n in 1..M such that a window of it starts at (t + n) mod M
+pub record WaitingTime (T : Table) (t k : ℤ) (w : Waiting) : Type 0 where
+  pub refused : waitingRefused T (field t) (field k) ≡ true → w ≡ record { code = 13; n = 0 }
+  pub given : waitingRefused T (field t) (field k) ≡ false
+      → (w .code ≡ 0) × (1 ≤ w .n) × (w .n ≤ T .frame) × (startsAt (numberOf (field k)) ((numberOf (field t) + w .n) % T .frame) (windows T) ≡ true)

@@ -1,0 +1,81 @@
+use Prim.Native.Nat.{_-_}
+use native.Mathlib.Omega.{arith}
+use lib.ListN.{length}
+use borrow.Author.Needs.{needs}
+use Rattle.stream.proofs.Chunks.{held-length}
+use Rattle.line.proofs.Parts.{tail-is}
+use Rattle.stream.proofs.Stream.advance.Reads as advance-reads
+use Rattle.standard_io.proofs.Laws.{Taking, begins, ends, Turned, turned}
+use Rattle.standard_io.proofs.print_chunk.Statement.{statement}
+use Rattle.standard_io.proofs.print_chunk.Tie as tie
+use Rattle.standard_io.proofs.print_chunk.Reads as reads
+use Rattle.standard_io.proofs.print_chunk.Lts as lts
+use Rattle.standard_io.proofs.print.Reads as print-reads
+
+abbrev Inv-loop : tie.InvT-loop
+Inv-loop chunk out₀ prints stream₀ more₀ at₀ out stream more at = Taking stream₀ chunk out₀ stream at out
+
+abbrev μ-loop : tie.MeasureT-loop
+μ-loop chunk out₀ prints stream₀ more₀ at₀ out stream more at = length chunk - at
+
+loop-holds : tie.Need-loop-holds Inv-loop μ-loop
+loop-holds c = begins _ _ _
+
+sub-advance : tie.Need-sub-advance Inv-loop μ-loop
+sub-advance c = omega (arith, c .loop-test .taken)
+
+part-advance-start : tie.Need-part-advance-start Inv-loop μ-loop
+part-advance-start c = omega (arith, c .loop-test .taken)
+
+-- after a call of advance
+abbrev Advanced : Type 0
+Advanced = lts.After-advance (advance-reads.Asked, advance-reads.Learnt, print-reads.Asked, print-reads.Learnt) reads.Pre reads.Post Inv-loop μ-loop
+
+abbrev start : Advanced → tie.Start Inv-loop μ-loop
+start c = c .before .before .before .before .before .before .before
+
+turn : (c : Advanced) → Turned (start c .args .s) (start c .args .chunk .now) (start c .args .out .now) (c .before .before .before .before .loop .at) (c .advance .result) (c .advance .last .1 .1 .0)
+turn c =
+    turned _ _ _ _ _ _ (c .before .before .before .before .loop .inv) (c .before .before .before .loop-test .taken) (start c .pre)
+    _ (tail-is (c .before .before .before .before .loop .at) (start c .args .chunk .now)) _ (c .advance .ensures .0) _ (c .advance .ensures .1)
+
+slice-reshare-prefix-print : tie.Need-slice-reshare-prefix-print Inv-loop μ-loop
+slice-reshare-prefix-print c = turn (c .before .before) .printed
+
+slice-aggregate-print : tie.Need-slice-aggregate-print Inv-loop μ-loop
+slice-aggregate-print c = held-length _ _ (turn (c .before .before .before) .printed)
+
+add-at : tie.Need-add-at Inv-loop μ-loop
+add-at c = omega (arith, turn (c .before .before .before .before .before .before .before) .inside, c .before .before .before .before .before .before .before .before .before .before .before .before .before .before .good)
+
+loop-less : tie.Need-loop-less Inv-loop μ-loop
+loop-less c = omega (arith, turn (c .before .before .before .before .before .before .before) .some, turn (c .before .before .before .before .before .before .before) .inside)
+
+loop-again : tie.Need-loop-again Inv-loop μ-loop
+loop-again c = turn (c .before .before .before .before .before .before .before) .next
+
+same-length : tie.Need-same-length Inv-loop μ-loop
+same-length c = c .before .loop .inv .size
+
+returns : tie.Need-returns Inv-loop μ-loop
+returns c = ends _ _ _ _ _ _ (c .before .loop .inv) (c .loop-test .left)
+
+pub print-chunk-spec : {M : Type 1} → statement M
+print-chunk-spec =
+    tie.close
+    (tie.spec
+    Inv-loop
+    μ-loop
+    loop-holds
+    sub-advance
+    part-advance-start
+    (λ c. search needs)
+    (λ c κs. search needs)
+    slice-reshare-prefix-print
+    slice-aggregate-print
+    (λ c κs. search needs)
+    add-at
+    loop-less
+    loop-again
+    same-length
+    returns)

@@ -1,0 +1,192 @@
+-- What the loops over the lines of an input keep, and what a replay gives back. Assumes nothing.
+use Prim.Native.Nat.{ℕ, _+_, _*_, _/_, _≤_, _<_}
+use mathlib.Core.Path.{_≡_, refl, sym, ap, _∙_}
+use mathlib.Core.Bool.{true}
+use mathlib.Core.List.{List, [], _∷_, _++_, append-assoc, append-nil}
+use native.Mathlib.Omega.{arith}
+use lib.ListN.{length, take, drop, length-append, length-drop, length-map, take-append-drop}
+use lib.Seq.{drop-drop, take-at, drop-at, length-take-le}
+use lib.Dec.{leb}
+use lib.IntN.{ℤ}
+use borrow.Author.Tests.{eq-eqb, ne-eqb, le-leb, lt-leb}
+use Rattle.machine.specs.declared.Module.{Module}
+use Rattle.machine.specs.declared.Line.{Line}
+use Rattle.machine.specs.Limits.{lineLength}
+use Rattle.machine.specs.Line.{lineText, readLine, lines, lineEnd, readAt, allInRange, canWrite, writeCode, written, writtenAt}
+use Rattle.machine.specs.Table.{readTable}
+use Rattle.machine.specs.TwoRuns.{replies}
+use Rattle.machine.specs.Replay.{lineAnswer, lineNext, texts, badTableLine, replayed, replayedInto}
+use Rattle.machine.specs.Valid.{ValidModule, Reached}
+use Rattle.machine.proofs.Bounds.{either}
+use Rattle.machine.proofs.Reached.{reached-valid}
+use Rattle.machine.proofs.Replays.{answer-length, texts-length, line-valid, line-in-range}
+use Rattle.machine.proofs.TextInput.{line-at, lines-end}
+use Rattle.machine.proofs.TextLine.{line-length}
+use Rattle.executive.specs.Executive.{opened}
+use Rattle.executive.specs.declared.Opening.{Opening}
+use Rattle.event_lines.proofs.Laws.{refusal-in-range}
+use Rattle.table.proofs.Laws.{linesFrom, none-left, one-left}
+use Rattle.table.proofs.Ends.{table-end}
+use Rattle.whole_input.specs.declared.Printed.{Printed}
+use Rattle.event_lines.specs.EventLines.{refusalNumbers}
+use Rattle.whole_input.specs.WholeInput.{done, noRoom, refusalPrinted, printed}
+
+-- ---------------------------------------------------------------- the lines from a position on
+-- how many they are
+abbrev pub countFrom : List ℕ → ℕ → ℕ
+countFrom input at = length (lines (drop at input))
+
+-- so many lines from a position on are counted
+pub record Counting (input : List ℕ) (from n at : ℕ) : Type 0 where
+  pub few : n ≤ at
+  pub count : n + countFrom input at ≡ countFrom input from
+
+module _ (input : List ℕ) (from n at : ℕ) (k : Counting input from n at) where
+  pub counted : length input ≤ at → n ≡ countFrom input from
+  counted h = omega (arith, k .count, ap length (lines-end input at h))
+
+  pub counts-on : at < length input → Counting input from (n + 1) (lineEnd input at)
+  counts-on h = let l = line-at input at h in record { few = omega (arith, l .after, k .few); count = omega (arith, k .count, ap length (l .first)) }
+
+-- ---------------------------------------------------------------- what is printed
+-- the answer lines from a position of the input on
+abbrev answersFrom : List ℕ → Module → ℕ → List ℕ
+answersFrom input m at = texts (replies lineNext lineAnswer m (linesFrom input at))
+
+answers-length : (input : List ℕ) (m : Module) (at : ℕ) → length (answersFrom input m at) ≡ lineLength * countFrom input at
+answers-length input m at = texts-length m (linesFrom input at) ∙ ap (_*_ lineLength) (length-map (lines (drop at input)) readLine)
+
+module _ (input : List ℕ) (m : Module) (at : ℕ) where
+  no-answer : length input ≤ at → answersFrom input m at ≡ []
+  unfolding texts
+  no-answer h = rw (none-left input at h)
+
+  one-answer : at < length input → answersFrom input m at ≡ lineText (lineAnswer m (readAt input at)) ++ answersFrom input (lineNext m (readAt input at)) (lineEnd input at)
+  unfolding texts
+  one-answer h = rw (one-left input at h)
+
+-- a line in range that has room, written into the middle of an output
+line-written : (out : List ℕ) (to : ℕ) (ns : List ℤ) → allInRange ns ≡ true → to + length (lineText ns) ≤ length out
+    → writtenAt to out ns ≡ (take to out ++ lineText ns) ++ drop (to + length (lineText ns)) out
+unfolding written
+line-written out to ns range fits =
+    rw (le-leb (length (lineText ns)) (length (drop to out)) (omega (arith, length-drop to out)), range, drop-drop)
+    (sym (append-assoc (take to out) (lineText ns) (drop (to + length (lineText ns)) out)))
+
+-- the lines before a position are answered, and so many bytes are printed
+pub record Replaying (input out₀ : List ℕ) (m : Module) (at to : ℕ) (out : List ℕ) : Type 0 where
+  pub valid : ValidModule m
+  pub room : length (replayed input) ≤ length out₀
+  pub size : length out ≡ length out₀
+  pub inside : to ≤ length out
+  pub front : take to out ++ answersFrom input m at ≡ replayed input
+  pub back : drop to out ≡ drop to out₀
+
+-- ---------------------------------------------------------------- what is given back
+abbrev pub Gives : List ℕ → List ℕ → Printed → List ℕ → Type 0
+Gives input out r after = (r ≡ printed input (length out)) × (after ≡ replayedInto input out)
+
+module _ (input out : List ℕ) where
+  gives-all : length (replayed input) ≤ length out → Gives input out (done (length (replayed input))) (replayed input ++ drop (length (replayed input)) out)
+  gives-all h = rw (le-leb (length (replayed input)) (length out) h) (refl, refl)
+
+  gives-none : length out < length (replayed input) → Gives input out noRoom out
+  gives-none h = rw (lt-leb (length (replayed input)) (length out) h) (refl, refl)
+
+-- the code of the line writer
+module _ (room code value w : ℕ) (e : w ≡ writeCode room (refusalNumbers code value)) where
+  pub refusal-done : w ≡ 0 → done lineLength ≡ refusalPrinted room code value
+  refusal-done z = either (canWrite room (refusalNumbers code value)) (λ t. rw t) (λ t. absurd (let q = rw t at (sym e ∙ z) in omega arith))
+
+  pub refusal-no-room : (w ≡ 0 → ⊥) → noRoom ≡ refusalPrinted room code value
+  refusal-no-room n = either (canWrite room (refusalNumbers code value)) (λ t. absurd (n (e ∙ rw t))) (λ t. rw t)
+
+-- by what table reading gives
+module _ (input out : List ℕ) (o : Opening) (e : o ≡ opened (readTable input)) where
+  same-code : readTable input .code ≡ o .code
+  same-code = sym (ap (λ (x : Opening). x .code) e)
+
+  module _ (bad : o .code ≡ 0 → ⊥) where
+    refused-text : replayed input ≡ badTableLine (readTable input)
+    unfolding replayed
+    refused-text = rw (ne-eqb (readTable input .code) 0 (λ z. bad (sym same-code ∙ z)))
+
+    pub refusal-gives : (r : Printed) (after : List ℕ) → r ≡ refusalPrinted (length out) (o .code) (o .value) → after ≡ written out (refusalNumbers (o .code) (o .value)) → Gives input out r after
+    unfolding written
+    refusal-gives r after p q =
+        rw (p, q, e, refusal-in-range input, refused-text, line-length (refusalNumbers (readTable input .code) (readTable input .value)))
+        (either (leb lineLength (length out)) (λ t. rw t (refl, refl)) (λ t. rw t (refl, refl)))
+
+  module _ (good : o .code ≡ 0) where
+    accepted-text : replayed input ≡ answersFrom input (o .executive .inner) (o .lines * lineLength)
+    unfolding replayed
+    accepted-text = rw (eq-eqb (readTable input .code) 0 (same-code ∙ good), table-end input (same-code ∙ good) .events, e)
+
+    accepted-length : length (replayed input) ≡ lineLength * countFrom input (o .lines * lineLength)
+    accepted-length = ap length accepted-text ∙ answers-length input (o .executive .inner) (o .lines * lineLength)
+
+    module _ (n : ℕ) (counted : n ≡ countFrom input (o .lines * lineLength)) where
+      pub too-many : length out / lineLength < n → Gives input out noRoom out
+      too-many h = gives-none input out (omega (arith, accepted-length))
+
+      pub begins : n ≤ length out / lineLength → Replaying input out (o .executive .inner) (o .lines * lineLength) 0 out
+      begins h = record {
+        valid = rw e (reached-valid (readTable input .state) (Reached.read input));
+        room = omega (arith, accepted-length);
+        size = refl;
+        inside = omega arith;
+        front = sym accepted-text;
+        back = refl;
+      }
+
+module _ (input out₀ : List ℕ) (m : Module) (at to : ℕ) (out : List ℕ) (k : Replaying input out₀ m at to out) where
+  printed-length : to + length (answersFrom input m at) ≡ length (replayed input)
+  printed-length = omega (arith, ap length (k .front), length-append (take to out) (answersFrom input m at), length-take-le to out (k .inside))
+
+  pub ends : length input ≤ at → Gives input out₀ (done to) out
+  ends h =
+      let none = no-answer input m at h in
+      let all : take to out ≡ replayed input = sym (append-nil (take to out)) ∙ (rw none at (k .front)) in
+      let long : to ≡ length (replayed input) = omega (arith, printed-length, ap length none) in
+      rw (← take-append-drop to out, all, k .back, long) (gives-all input out₀ (k .room))
+
+  -- one more line
+  module _ (more : at < length input) where
+    abbrev l : Line
+    l = readAt input at
+
+    abbrev text : List ℕ
+    text = lineText (lineAnswer m l)
+
+    abbrev rest : List ℕ
+    rest = answersFrom input (lineNext m l) (lineEnd input at)
+
+    abbrev after : List ℕ
+    after = (take to out ++ text) ++ drop (to + length text) out
+
+    answer-fits : to + length text ≤ length out
+    answer-fits = omega (arith, printed-length, ap length (one-answer input m at more), length-append text rest, k .room, k .size)
+
+    pub line-fits : to + lineLength ≤ length out₀
+    line-fits = omega (arith, answer-fits, answer-length m l, k .size)
+
+    printed-next : length (take to out ++ text) ≡ to + length text
+    printed-next = length-append (take to out) text ∙ omega (arith, length-take-le to out (k .inside))
+
+    after-size : length after ≡ length out
+    after-size = length-append (take to out ++ text) (drop (to + length text) out) ∙ omega (arith, printed-next, length-drop (to + length text) out, answer-fits)
+
+    next : Replaying input out₀ (lineNext m l) (lineEnd input at) (to + length text) after
+    next = record {
+      valid = line-valid m l (k .valid);
+      room = k .room;
+      size = after-size ∙ k .size;
+      inside = omega (arith, after-size, answer-fits);
+      front = rw (take-at (take to out ++ text) (drop (to + length text) out) (to + length text) printed-next) (append-assoc (take to out) text rest ∙ ap (λ (x : List ℕ). take to out ++ x) (sym (one-answer input m at more)) ∙ k .front);
+      back = drop-at (take to out ++ text) (drop (to + length text) out) (to + length text) printed-next ∙ sym (drop-drop (length text) to out) ∙ ap (drop (length text)) (k .back) ∙ drop-drop (length text) to out₀;
+    }
+
+    pub goes-on : (m′ : Module) → m′ ≡ lineNext m l → (out′ : List ℕ) → out′ ≡ writtenAt to out (lineAnswer m l) → (at′ : ℕ) → at′ ≡ lineEnd input at → Replaying input out₀ m′ at′ (to + lineLength) out′
+    goes-on m′ e out′ f at′ g =
+        let n : to + lineLength ≡ to + length text = omega (arith, answer-length m l) in
+        rw (e, g, f, line-written out to (lineAnswer m l) (line-in-range m l (k .valid)) answer-fits, n) next

@@ -1,0 +1,87 @@
+-- `replay` meets its contract. The loop: what is printed and the answers to the lines from `at` on are the whole text; past what is
+-- printed the output is as it was.
+use Prim.Native.Nat.{_-_, _<_}
+use mathlib.Core.Path.{_∙_}
+use native.Mathlib.Omega.{arith}
+use lib.ListN.{length}
+use borrow.Author.Needs.{needs}
+use Rattle.machine.proofs.TextInput.{line-at}
+use Rattle.whole_input.proofs.Laws.{Replaying, refusal-gives, too-many, begins, ends, line-fits, goes-on}
+use Rattle.whole_input.proofs.replay.Statement.{statement}
+use Rattle.whole_input.proofs.replay.Tie as tie
+
+abbrev Inv-loop : tie.InvT-loop
+Inv-loop input out₀ at₀ executive₀ to₀ out at executive to = Replaying input out₀ (executive .inner) at to out
+
+abbrev μ-loop : tie.MeasureT-loop
+μ-loop input out₀ at₀ executive₀ to₀ out at executive to = length input - at
+
+returns : tie.Need-returns Inv-loop μ-loop
+returns c =
+    let opening = c .before .before .before .before .before .before .«open» in
+    let print-refusal = c .before .before .print-refusal in
+    refusal-gives _ _ _ (opening .ensures) (c .before .before .before .before .if1 .taken) _ _ (print-refusal .ensures .0) (print-refusal .ensures .1)
+
+mul-at : tie.Need-mul-at Inv-loop μ-loop
+mul-at c = omega (arith, c .struct-known2 .given)
+
+returns-2 : tie.Need-returns-2 Inv-loop μ-loop
+returns-2 c =
+    let opening = c .before .before .before .before .before .before .«open» in
+    let out = c .before .before .before .before .before .before .before .before .before .args .out .now in
+    let g = too-many _ out _ (opening .ensures) (c .before .before .before .before .if1 .left) _ (c .before .before .count-lines .ensures) (omega (arith, c .before .if2 .taken)) in
+    (c .no-room .ensures ∙ g .0, g .1)
+
+loop-holds : tie.Need-loop-holds Inv-loop μ-loop
+loop-holds c =
+    let opening = c .before .before .before .before .before .before .«open» in
+    begins _ _ _ (opening .ensures) (c .before .before .before .before .if1 .left) _ (c .before .before .count-lines .ensures) (omega (arith, c .before .if2 .left))
+
+add-to : tie.Need-add-to Inv-loop μ-loop
+add-to c =
+    let start = c .before .before .before .before .before .before .before .before .before .before .before .before .before .before .before .before in
+    let loop = c .before .before .before .before .before .before .loop in
+    let short : length (start .args .out .now) < 18446744073709551616 = omega (arith, start .good) in
+    omega (arith, line-fits _ _ _ _ _ _ (loop .inv) (c .before .before .before .before .before .loop-test .taken))
+
+loop-less : tie.Need-loop-less Inv-loop μ-loop
+loop-less c =
+    let start = c .before .before .before .before .before .before .before .before .before .before .before .before .before .before .before .before in
+    let loop = c .before .before .before .before .before .before .loop in
+    omega (arith, c .next-line .ensures, line-at (start .args .input .now) (loop .at) (c .before .before .before .before .before .loop-test .taken) .after)
+
+loop-again : tie.Need-loop-again Inv-loop μ-loop
+loop-again c =
+    let loop = c .before .before .before .before .before .before .loop in
+    let answer-line = c .before .before .before .answer-line in
+    goes-on _ _ _ _ _ _ (loop .inv) (c .before .before .before .before .before .loop-test .taken) _ (answer-line .ensures .0) _ (answer-line .ensures .1) _ (c .next-line .ensures)
+
+returns-3 : tie.Need-returns-3 Inv-loop μ-loop
+returns-3 c =
+    let g = ends _ _ _ _ _ _ (c .before .before .loop .inv) (c .before .loop-test .left) in
+    (c .done .ensures ∙ g .0, g .1)
+
+pub replay-spec : {M : Type 1} → statement M
+replay-spec =
+    tie.close
+    (tie.spec
+    Inv-loop
+    μ-loop
+    (λ _ _. tt)
+    (λ _ _. tt)
+    (λ c. search needs)
+    returns
+    (λ c. search needs)
+    mul-at
+    (λ _ _. tt)
+    (λ _ _. tt)
+    returns-2
+    loop-holds
+    (λ _ _. tt)
+    (λ _ _. tt)
+    add-to
+    loop-less
+    loop-again
+    (λ _ _. tt)
+    (λ c. c .before .before .loop .inv .size)
+    returns-3)

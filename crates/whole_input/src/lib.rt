@@ -1,0 +1,96 @@
+// Replay of a whole input: what the replay program prints, into a lent output.
+ghost use mathlib.Core.Path.{_≡_};
+ghost use lib.ListN.{length, drop};
+ghost use Rattle.machine.specs.Line.{lines, readAt, written, writtenAt};
+ghost use Rattle.machine.specs.Replay.{lineNext, lineAnswer, replayedInto};
+ghost use Rattle.event_lines.specs.EventLines.{refusalNumbers};
+ghost use Rattle.whole_input.specs.WholeInput.{done, noRoom, refusalPrinted, printed};
+use executive::Executive;
+use machine::Module;
+
+// The number of an output that is too short.
+const REFUSED: u8 = 11;
+
+// 0 and how many bytes were printed, or 11 and nothing was; the value is 0.
+pub struct Printed {
+    pub code: u8,
+    pub value: u32,
+    pub length: usize,
+}
+
+fn done(length: usize) -> Printed
+    ensures { λ r. ⌜ r ≡ done length ⌝ }
+{
+    Printed {
+        code: 0,
+        value: 0,
+        length,
+    }
+}
+
+fn no_room() -> Printed
+    ensures { λ r. ⌜ r ≡ noRoom ⌝ }
+{
+    Printed {
+        code: REFUSED,
+        value: 0,
+        length: 0,
+    }
+}
+
+// A bad table prints one line: code, line number, four 0.
+fn print_refusal(out: &mut [u8], code: u8, value: u32) -> Printed
+    ensures { λ r. ⌜ (r ≡ refusalPrinted (length (now (out .entry))) code value) × (now (out .exit) ≡ written (now (out .entry)) (refusalNumbers code value)) ⌝ }
+{
+    if line::write(out, event_lines::refusal(code, value)) == 0 {
+        return done(Module::LINE);
+    }
+    no_room()
+}
+
+// How many lines an input has from a position on.
+fn count_lines(input: &[u8], from: usize) -> usize
+    ensures { λ n. ⌜ n ≡ length (lines (drop from (now (input .entry)))) ⌝ }
+{
+    let mut n: usize = 0;
+    let mut at = from;
+    while at < input.len() {
+        at = line::next_line(input, at);
+        n += 1;
+    }
+    n
+}
+
+// The answer to the line at a position of the input, written at a position of the output; gives the executive after it. The code of
+// the line writer is not looked at: where there is room, every answer of a replay can be written.
+fn answer_line(e: Executive, input: &[u8], at: usize, out: &mut [u8], to: usize) -> Executive
+    ensures { λ r. ⌜ (r .inner ≡ lineNext (e .inner) (readAt (now (input .entry)) at)) × (now (out .exit) ≡ writtenAt to (now (out .entry)) (lineAnswer (e .inner) (readAt (now (input .entry)) at))) ⌝ }
+{
+    let h = event_lines::step_line(e, line::read_at(input, at));
+    let answer = h.answer;
+    line::write_at(out, to, event_lines::numbers_of(answer));
+    h.executive
+}
+
+// Reads a table, then event lines, and prints one answer line for each, 11 too; or the one line of a bad table. Where the output is too
+// short for all of it, nothing is written.
+pub fn replay(input: &[u8], out: &mut [u8]) -> Printed
+    ensures { λ r. ⌜ (r ≡ printed (now (input .entry)) (length (now (out .entry)))) × (now (out .exit) ≡ replayedInto (now (input .entry)) (now (out .entry))) ⌝ }
+{
+    let o = Executive::open(input);
+    if o.code != 0 {
+        return print_refusal(out, o.code, o.value);
+    }
+    let mut at = o.lines as usize * Module::LINE;
+    if out.len() / Module::LINE < count_lines(input, at) {
+        return no_room();
+    }
+    let mut executive = o.executive;
+    let mut to: usize = 0;
+    while at < input.len() {
+        executive = answer_line(executive, input, at, out, to);
+        at = line::next_line(input, at);
+        to += Module::LINE;
+    }
+    done(to)
+}

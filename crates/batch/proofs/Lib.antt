@@ -2,3 +2,4 @@ pub mod TwoFields
 pub mod Runs
 pub mod Laws
 pub mod TwoCalls
+pub mod InPlace

@@ -1,72 +1,26 @@
-// Calls 1 to 13: what each makes of its partition's record, and its answer.
+// Calls 1 to 13: what each decides. Beside each call: how many of the fields a, b, c, e it uses.
 ghost use mathlib.Core.Path.{_≡_};
 ghost use Prim.Native.Nat.{_≤_};
-ghost use mathlib.Core.Bool.{not, _&&_, _||_};
+ghost use mathlib.Core.Bool.{cond, not, _&&_, _||_};
 ghost use lib.Dec.{eqb};
 ghost use lib.ListN.{length, take};
 ghost use Rattle.machine.specs.Limits.{processLimit, durationLimit};
 ghost use Rattle.machine.specs.Fields.{isNumber, isMinusOne, between, isDuration, numberOf};
 ghost use Rattle.machine.specs.Process.{periodic};
-ghost use Rattle.machine.specs.Calls.{answered, answeredWith, blocked, unknown, dormant, setMode, processNamed, isMultiple, above, isPriority, admissible, createProcess, reaches, start, stop, stopSelf, suspend, suspendSelf, timedWait, periodicWait, resume, setPriority, status, getStatus};
-use machine::Called;
+ghost use Rattle.machine.specs.declared.Change.the-variants.{Nothing, Last};
+ghost use Rattle.machine.specs.Decisions.{dormant};
+ghost use Rattle.machine.specs.Calls.{setMode, processNamed, isMultiple, above, isPriority, admissible, createProcess, reaches, start, stop, stopSelf, suspend, suspendSelf, timedWait, periodicWait, resume, setPriority, status, getStatus};
+use machine::Change;
 use machine::Context;
+use machine::Decision;
 use machine::Field;
 use machine::Given;
 use machine::Module;
 use machine::Partition;
 use machine::Process;
-use machine::Reply;
 use machine::Request;
 use machine::Time;
 use machine::Wait;
-
-// The record with a code.
-pub fn answered(p: Partition, code: u8) -> Called
-    ensures { λ r. ⌜ r ≡ answered code p ⌝ }
-{
-    Called {
-        partition: p,
-        reply: Reply {
-            code,
-            value: 0,
-            extra: Time::At(0),
-        },
-    }
-}
-
-// Code 0 with value and extra.
-pub fn answered_with(p: Partition, value: u32, extra: Time) -> Called
-    ensures { λ r. ⌜ r ≡ answeredWith value extra p ⌝ }
-{
-    Called {
-        partition: p,
-        reply: Reply {
-            code: 0,
-            value,
-            extra,
-        },
-    }
-}
-
-// The only place that gives code 7: process id has the record x, in which it waits.
-pub fn block(p: Partition, id: u32, x: Process) -> Called
-    ensures { λ r. ⌜ r ≡ blocked id x p ⌝ }
-{
-    answered(partition::store(p, id, x), 7)
-}
-
-// Whether none of count things has this id.
-pub fn is_unknown(id: u32, count: u8) -> bool
-    ensures { λ r. ⌜ r ≡ unknown id count ⌝ }
-{
-    if id == 0 { true } else { (count as u32) < id }
-}
-
-pub fn caller_of(c: Context) -> u32
-    ensures { λ r. ⌜ r ≡ c .caller ⌝ }
-{
-    c.caller as u32
-}
 
 // WARM_START is not entered from COLD_START.
 fn is_warm_from_cold(mode: u8, a: Field) -> bool
@@ -79,27 +33,29 @@ fn is_warm_from_cold(mode: u8, a: Field) -> bool
     }
 }
 
+pub const SET_MODE_FIELDS: u8 = 1;
+
 // 1 SET_PARTITION_MODE; the messages are erased with the module.
-pub fn set_mode(p: Partition, c: Context, a: Field) -> Called
+pub fn set_mode(p: Partition, c: Context, a: Field) -> Decision
     ensures { λ r. ⌜ r ≡ setMode c a p ⌝ }
 {
     if !fields::is_between(a, 0, 3) {
-        return answered(p, 3);
+        return Decision::Refused(3);
     }
     if fields::is_number(a, 3) {
         if p.mode == 3 {
-            return answered(p, 1);
+            return Decision::Refused(1);
         }
         if p.processCount == 0 {
-            return answered(p, 5);
+            return Decision::Refused(5);
         }
-        return answered(partition::enter_normal(p, c), 0);
+        return decisions::changed(Change::Entered(c));
     }
     if is_warm_from_cold(p.mode, a) {
-        return answered(p, 5);
+        return Decision::Refused(5);
     }
     let mode = fields::number_of(a) as u8;
-    answered(partition::nothing_created(mode), 0)
+    Decision::Restarted(mode)
 }
 
 // How many processes have been created, the array's length at most.
@@ -203,23 +159,22 @@ pub fn is_admissible(r: Request, c: Context) -> bool
     !is_above(capacity, period)
 }
 
+pub const CREATE_PROCESS_FIELDS: u8 = 4;
+
 // 2 CREATE_PROCESS.
-pub fn create_process(p: Partition, c: Context, r: Request) -> Called
+pub fn create_process(p: Partition, c: Context, r: Request) -> Decision
     ensures { λ d. ⌜ d ≡ createProcess c r p ⌝ }
 {
-    let n = p.processCount as usize;
-    if Module::PROCESSES <= n {
-        return answered(p, 4);
-    }
+    let n = p.processCount as u32;
     let name = r.a;
-    if is_process_named(p, name) {
-        return answered(p, 1);
-    }
-    if !is_admissible(r, c) {
-        return answered(p, 3);
-    }
-    if p.mode == 3 {
-        return answered(p, 5);
+    let code = decisions::creation_code(
+        Module::PROCESSES as u32 <= n,
+        is_process_named(p, name),
+        is_admissible(r, c),
+        p.mode == 3,
+    );
+    if code != 0 {
+        return Decision::Refused(code);
     }
     let priority = r.b;
     let period = r.c;
@@ -231,10 +186,8 @@ pub fn create_process(p: Partition, c: Context, r: Request) -> Called
         capacity: fields::time_of(capacity),
     };
     let x = process::created_process(given);
-    let mut q = p;
-    q.processes[n] = x;
-    q.processCount = q.processCount + 1;
-    answered_with(q, (n + 1) as u32, Time::At(0))
+    let id = n + 1;
+    Decision::Changed(Change::Created(id, x), Change::Nothing, id)
 }
 
 // Whether a delay is none of D, or not below the process's period.
@@ -250,54 +203,62 @@ fn is_delay_refused(x: Process, delay: Field) -> bool
     }
 }
 
+pub const START_FIELDS: u8 = 1;
+
+pub const DELAYED_START_FIELDS: u8 = 2;
+
 // 3 START, with delay 0, and 4 DELAYED_START.
-pub fn start_process(p: Partition, c: Context, id: u32, delay: Field) -> Called
+pub fn start_process(p: Partition, c: Context, id: u32, delay: Field) -> Decision
     ensures { λ r. ⌜ r ≡ start c id delay p ⌝ }
 {
-    if is_unknown(id, p.processCount) {
-        return answered(p, 3);
+    if decisions::is_unknown(id, p.processCount) {
+        return Decision::Refused(3);
     }
     let x = partition::process_at(p, id);
     if is_delay_refused(x, delay) {
-        return answered(p, 3);
+        return Decision::Refused(3);
     }
     if x.started {
-        return answered(p, 1);
+        return Decision::Refused(1);
     }
     let n = fields::number_of(delay);
     if p.mode == 3 {
-        return answered(partition::store(p, id, process::start(x, c, n)), 0);
+        return decisions::changed(Change::Stored(id, process::start(x, c, n)));
     }
-    answered(partition::store(p, id, process::start_early(x, n)), 0)
+    decisions::changed(Change::Stored(id, process::start_early(x, n)))
 }
 
+pub const STOP_FIELDS: u8 = 1;
+
 // 5 STOP.
-pub fn stop_process(p: Partition, c: Context, id: u32) -> Called
+pub fn stop_process(p: Partition, c: Context, id: u32) -> Decision
     ensures { λ r. ⌜ r ≡ stop c id p ⌝ }
 {
-    if is_unknown(id, p.processCount) {
-        return answered(p, 3);
+    if decisions::is_unknown(id, p.processCount) {
+        return Decision::Refused(3);
     }
-    if id == caller_of(c) {
-        return answered(p, 3);
+    if id == decisions::caller_of(c) {
+        return Decision::Refused(3);
     }
     let x = partition::process_at(p, id);
     if !x.started {
-        return answered(p, 1);
+        return Decision::Refused(1);
     }
-    answered(partition::store(p, id, process::stop(x)), 0)
+    decisions::changed(Change::Stored(id, process::stop(x)))
 }
 
+pub const STOP_SELF_FIELDS: u8 = 0;
+
 // 6 STOP_SELF.
-pub fn stop_self(p: Partition, c: Context) -> Called
+pub fn stop_self(p: Partition, c: Context) -> Decision
     ensures { λ r. ⌜ r ≡ stopSelf c p ⌝ }
 {
     if p.mode != 3 {
-        return answered(p, 5);
+        return Decision::Refused(5);
     }
-    let id = caller_of(c);
+    let id = decisions::caller_of(c);
     let x = partition::process_at(p, id);
-    answered(partition::store(p, id, process::stop(x)), 0)
+    decisions::changed(Change::Stored(id, process::stop(x)))
 }
 
 // Whether a process is DORMANT or periodic.
@@ -310,129 +271,152 @@ fn is_unsuspendable(x: Process) -> bool
     process::is_periodic(x)
 }
 
+pub const SUSPEND_FIELDS: u8 = 1;
+
 // 7 SUSPEND.
-pub fn suspend_process(p: Partition, c: Context, id: u32) -> Called
+pub fn suspend_process(p: Partition, c: Context, id: u32) -> Decision
     ensures { λ r. ⌜ r ≡ suspend c id p ⌝ }
 {
-    if is_unknown(id, p.processCount) {
-        return answered(p, 3);
+    if decisions::is_unknown(id, p.processCount) {
+        return Decision::Refused(3);
     }
-    if id == caller_of(c) {
-        return answered(p, 3);
+    if id == decisions::caller_of(c) {
+        return Decision::Refused(3);
     }
     let x = partition::process_at(p, id);
     if is_unsuspendable(x) {
-        return answered(p, 5);
+        return Decision::Refused(5);
     }
     if x.suspended {
-        return answered(p, 1);
+        return Decision::Refused(1);
     }
-    answered(partition::store(p, id, process::with_suspended(x, true)), 0)
+    decisions::changed(Change::Stored(id, process::with_suspended(x, true)))
 }
 
+pub const SUSPEND_SELF_FIELDS: u8 = 1;
+
 // 8 SUSPEND_SELF.
-pub fn suspend_self(p: Partition, c: Context, a: Field) -> Called
+pub fn suspend_self(p: Partition, c: Context, a: Field) -> Decision
     ensures { λ r. ⌜ r ≡ suspendSelf c a p ⌝ }
 {
     if p.mode != 3 {
-        return answered(p, 5);
+        return Decision::Refused(5);
     }
-    let id = caller_of(c);
+    let id = decisions::caller_of(c);
     let x = partition::process_at(p, id);
     if process::is_periodic(x) {
-        return answered(p, 5);
+        return Decision::Refused(5);
     }
     if !fields::is_timeout(a) {
-        return answered(p, 3);
+        return Decision::Refused(3);
     }
     if fields::is_number(a, 0) {
-        return answered(p, 0);
+        return Decision::Unchanged(0, Time::At(0));
     }
     let wake = process::later_time(Time::At(c.time), fields::time_of(a));
-    block(p, id, process::suspended_until(x, wake))
+    decisions::block(c.caller, process::suspended_until(x, wake))
 }
 
+pub const TIMED_WAIT_FIELDS: u8 = 1;
+
 // 9 TIMED_WAIT.
-pub fn timed_wait(p: Partition, c: Context, a: Field) -> Called
+pub fn timed_wait(p: Partition, c: Context, a: Field) -> Decision
     ensures { λ r. ⌜ r ≡ timedWait c a p ⌝ }
 {
     if p.mode != 3 {
-        return answered(p, 5);
+        return Decision::Refused(5);
     }
     if !fields::is_duration(a) {
-        return answered(p, 3);
+        return Decision::Refused(3);
     }
     if fields::is_number(a, 0) {
-        return answered(partition::arrive_last(p, c.caller), 0);
+        return decisions::changed(Change::Last(c.caller));
     }
-    let id = caller_of(c);
+    let id = decisions::caller_of(c);
     let x = partition::process_at(p, id);
     let wake = process::later_time(Time::At(c.time), fields::time_of(a));
-    block(p, id, process::waiting_for(x, Wait::Timed, wake))
+    decisions::block(c.caller, process::waiting_for(x, Wait::Timed, wake))
 }
 
+pub const PERIODIC_WAIT_FIELDS: u8 = 0;
+
 // 10 PERIODIC_WAIT.
-pub fn periodic_wait(p: Partition, c: Context) -> Called
+pub fn periodic_wait(p: Partition, c: Context) -> Decision
     ensures { λ r. ⌜ r ≡ periodicWait c p ⌝ }
 {
     if p.mode != 3 {
-        return answered(p, 5);
+        return Decision::Refused(5);
     }
-    let id = caller_of(c);
+    let id = decisions::caller_of(c);
     let x = partition::process_at(p, id);
     if !process::is_periodic(x) {
-        return answered(p, 5);
+        return Decision::Refused(5);
     }
     let given = x.given;
     let period = given.period;
     let times = x.times;
     let last = times.release;
     let release = process::later_time(last, period);
-    block(p, id, process::wait_for_release(x, release))
+    decisions::block(c.caller, process::wait_for_release(x, release))
 }
 
+pub const RESUME_FIELDS: u8 = 1;
+
 // 11 RESUME.
-pub fn resume_process(p: Partition, c: Context, id: u32) -> Called
+pub fn resume_process(p: Partition, c: Context, id: u32) -> Decision
     ensures { λ r. ⌜ r ≡ resume c id p ⌝ }
 {
-    if is_unknown(id, p.processCount) {
-        return answered(p, 3);
+    if decisions::is_unknown(id, p.processCount) {
+        return Decision::Refused(3);
     }
-    if id == caller_of(c) {
-        return answered(p, 3);
+    if id == decisions::caller_of(c) {
+        return Decision::Refused(3);
     }
     let x = partition::process_at(p, id);
     if is_unsuspendable(x) {
-        return answered(p, 5);
+        return Decision::Refused(5);
     }
     if !x.suspended {
-        return answered(p, 1);
+        return Decision::Refused(1);
     }
     let y = process::resume(x);
-    answered(partition::store(p, id, y), 0)
+    decisions::changed(Change::Stored(id, y))
 }
 
+// A READY process goes to the end of the arrival list.
+fn last_if(ready: bool, id: u8) -> Change
+    ensures { λ r. ⌜ r ≡ cond ready (Last id) Nothing ⌝ }
+{
+    if ready {
+        Change::Last(id)
+    } else {
+        Change::Nothing
+    }
+}
+
+pub const SET_PRIORITY_FIELDS: u8 = 2;
+
 // 12 SET_PRIORITY.
-pub fn set_priority(p: Partition, id: u32, a: Field) -> Called
+pub fn set_priority(p: Partition, id: u32, a: Field) -> Decision
     ensures { λ r. ⌜ r ≡ setPriority id a p ⌝ }
 {
-    if is_unknown(id, p.processCount) {
-        return answered(p, 3);
+    if decisions::is_unknown(id, p.processCount) {
+        return Decision::Refused(3);
     }
     if !is_priority(a) {
-        return answered(p, 3);
+        return Decision::Refused(3);
     }
     let x = partition::process_at(p, id);
     if !x.started {
-        return answered(p, 5);
+        return Decision::Refused(5);
     }
     let current = fields::number_of(a) as u8;
-    let q = partition::store(p, id, process::with_current(x, current));
-    if process::is_ready(x) {
-        let moved = partition::arrive_last(q, id as u8);
-        return answered(moved, 0);
-    }
-    answered(q, 0)
+    let y = process::with_current(x, current);
+    Decision::Changed(
+        Change::Stored(id, y),
+        last_if(process::is_ready(x), id as u8),
+        0,
+    )
 }
 
 // 0 DORMANT, 1 READY, 2 running, 3 else.
@@ -442,7 +426,7 @@ pub fn status_of(x: Process, c: Context, id: u32) -> u32
     if !x.started {
         return 0;
     }
-    if id == caller_of(c) {
+    if id == decisions::caller_of(c) {
         return 2;
     }
     if process::is_ready(x) {
@@ -451,15 +435,17 @@ pub fn status_of(x: Process, c: Context, id: u32) -> u32
     3
 }
 
+pub const GET_STATUS_FIELDS: u8 = 1;
+
 // 13 GET_PROCESS_STATUS.
-pub fn get_status(p: Partition, c: Context, id: u32) -> Called
+pub fn get_status(p: Partition, c: Context, id: u32) -> Decision
     ensures { λ r. ⌜ r ≡ getStatus c id p ⌝ }
 {
-    if is_unknown(id, p.processCount) {
-        return answered(p, 3);
+    if decisions::is_unknown(id, p.processCount) {
+        return Decision::Refused(3);
     }
     let x = partition::process_at(p, id);
     let times = x.times;
     let deadline = times.deadline;
-    answered_with(p, status_of(x, c, id), deadline)
+    Decision::Unchanged(status_of(x, c, id), deadline)
 }

@@ -1,17 +1,20 @@
-// Sampling channels: WRITE, READ and what a restart erases, as functions of the table and of what the channels hold.
+// Sampling channels: calls 21 and 22, and what a restart erases.
 ghost use mathlib.Core.Path.{_≡_};
 ghost use Prim.Native.Nat.{_-_};
 ghost use mathlib.Core.Bool.{cond};
 ghost use lib.Dec.{leb};
+ghost use Rattle.machine.specs.Limits.{channelLimit};
 ghost use Rattle.machine.specs.Fields.{numberOf};
-ghost use Rattle.machine.specs.Checks.{coded};
-ghost use Rattle.machine.specs.Channels.{apart, namedChannel, channelChecks};
-ghost use Rattle.channels.specs.Channels.{firstCode, writeCode, writtenBy, readReply, held, holding, sentBy, readBy, erasedIn};
+ghost use Rattle.machine.specs.Decisions.{codeOf};
+ghost use Rattle.machine.specs.Module.{channel};
+ghost use Rattle.machine.specs.Channels.{seenAt, portAt, apart, channelChecks, write, read, keptTo};
 use machine::Channel;
+use machine::Context;
+use machine::Decision;
+use machine::Field;
 use machine::Message;
 use machine::Module;
-use machine::Reply;
-use machine::Request;
+use machine::Port;
 use machine::Table;
 use machine::Time;
 
@@ -20,42 +23,24 @@ pub struct Messages {
     pub items: [Message; Module::CHANNELS],
 }
 
-// What WRITE makes of them, and its reply.
-pub struct Sent {
-    pub messages: Messages,
-    pub reply: Reply,
-}
-
-// A reply of this code alone.
-pub fn reply_of(code: u8) -> Reply
-    ensures { λ r. ⌜ r ≡ coded code ⌝ }
+// ---------------------------------------------------------------- what a call sees of a channel
+// The place of the channel that a field names: its number less one.
+pub fn place_of(a: Field) -> u32
+    ensures { λ i. ⌜ i ≡ numberOf a - 1 ⌝ }
 {
-    Reply {
-        code,
-        value: 0,
-        extra: Time::At(0),
-    }
-}
-
-// The place of the channel that a request names: its number less one.
-fn place_of(r: Request) -> usize
-    ensures { λ i. ⌜ i ≡ numberOf (r .a) - 1 ⌝ }
-{
-    let a = r.a;
     let n = fields::number_of(a);
     if n == 0 {
         return 0;
     }
-    (n - 1) as usize
+    n - 1
 }
 
-// The channel that a request names.
-fn channel_of(table: Table, r: Request) -> Channel
-    ensures { λ c. ⌜ c ≡ namedChannel table r ⌝ }
+fn channel_at(table: Table, i: u32) -> Channel
+    ensures { λ c. ⌜ c ≡ channel table i ⌝ }
 {
-    let i = place_of(r);
-    if i < Module::CHANNELS {
-        return table.channels[i];
+    let at = i as usize;
+    if at < Module::CHANNELS {
+        return table.channels[at];
     }
     Channel {
         source: 0,
@@ -64,6 +49,32 @@ fn channel_of(table: Table, r: Request) -> Channel
     }
 }
 
+// The message is seen at the destination alone.
+fn seen_at(k: u32, c: Channel, x: Message) -> Message
+    ensures { λ y. ⌜ y ≡ seenAt k c x ⌝ }
+{
+    if c.destination as u32 == k {
+        return x;
+    }
+    decisions::no_message()
+}
+
+// What partition k sees of the channel that a names, on which x lies.
+pub fn port_at(table: Table, k: u32, a: Field, x: Message) -> Port
+    ensures { λ y. ⌜ y ≡ portAt table k a x ⌝ }
+{
+    let place = place_of(a);
+    let channel = channel_at(table, place);
+    Port {
+        own: k,
+        place,
+        exists: fields::is_between(a, 1, table.channelCount as u32),
+        channel,
+        message: seen_at(k, channel, x),
+    }
+}
+
+// ---------------------------------------------------------------- the calls
 // Whether partition k is at neither end.
 fn is_apart(c: Channel, k: u32) -> bool
     ensures { λ b. ⌜ b ≡ apart k c ⌝ }
@@ -74,55 +85,48 @@ fn is_apart(c: Channel, k: u32) -> bool
     c.destination as u32 != k
 }
 
-// 3 or 5 of WRITE and READ, by the end that partition k must be; 0 where neither refuses.
-fn end_code(table: Table, k: u32, r: Request, wanted: u8) -> u8
-    ensures { λ n. ⌜ n ≡ firstCode (channelChecks table k r wanted) ⌝ }
+// 3 or 5 of WRITE and READ, by the end that the caller's partition must be; 0 where neither refuses.
+fn end_code(x: Port, wanted: u8) -> u8
+    ensures { λ n. ⌜ n ≡ codeOf (channelChecks x wanted) ⌝ }
 {
-    let a = r.a;
-    let count = table.channelCount as u32;
-    if !fields::is_between(a, 1, count) {
+    let channel = x.channel;
+    if !x.exists {
         return 3;
     }
-    let c = channel_of(table, r);
-    if is_apart(c, k) {
+    if is_apart(channel, x.own) {
         return 3;
     }
-    if wanted as u32 != k {
+    if wanted as u32 != x.own {
         return 5;
     }
     0
 }
 
-// The code that WRITE by partition k gets.
-fn write_code(table: Table, k: u32, r: Request) -> u8
-    ensures { λ n. ⌜ n ≡ writeCode table k r ⌝ }
-{
-    let c = channel_of(table, r);
-    let n = end_code(table, k, r, c.source);
-    if n != 0 {
-        return n;
-    }
-    let b = r.b;
-    if fields::is_duration(b) {
-        return 0;
-    }
-    3
-}
+// The fields that it uses.
+pub const WRITE_FIELDS: u8 = 2;
 
-// The message that WRITE stores at t.
-fn written_by(r: Request, t: u32) -> Message
-    ensures { λ x. ⌜ x ≡ writtenBy t r ⌝ }
+// 21 WRITE
+pub fn write_channel(c: Context, x: Port, a: Field) -> Decision
+    ensures { λ d. ⌜ d ≡ write c x a ⌝ }
 {
-    let b = r.b;
-    Message {
-        present: true,
-        value: fields::number_of(b),
-        written: t,
+    let channel = x.channel;
+    let code = end_code(x, channel.source);
+    if code != 0 {
+        return Decision::Refused(code);
     }
+    if !fields::is_duration(a) {
+        return Decision::Refused(3);
+    }
+    let message = Message {
+        present: true,
+        value: fields::number_of(a),
+        written: c.time,
+    };
+    Decision::Written(x.place, message)
 }
 
 // 1 where a message written then is not older than refresh at t, else 0.
-fn freshness(t: u32, written: u32, refresh: u32) -> u32
+fn freshness_at(t: u32, written: u32, refresh: u32) -> u32
     ensures { λ n. ⌜ n ≡ cond (leb (t - written) refresh) 1 0 ⌝ }
 {
     if t < written {
@@ -134,77 +138,30 @@ fn freshness(t: u32, written: u32, refresh: u32) -> u32
     0
 }
 
-// What READ by partition k answers at t, where the channel holds x.
-fn read_reply(table: Table, t: u32, k: u32, r: Request, x: Message) -> Reply
-    ensures { λ a. ⌜ a ≡ readReply table t k r x ⌝ }
-{
-    let c = channel_of(table, r);
-    let n = end_code(table, k, r, c.destination);
-    if n != 0 {
-        return reply_of(n);
-    }
-    if x.present {
-        return Reply {
-            code: 0,
-            value: x.value,
-            extra: Time::At(freshness(t, x.written, c.refresh)),
-        };
-    }
-    reply_of(1)
-}
+// The fields that it uses.
+pub const READ_FIELDS: u8 = 1;
 
-// What the channel at a place holds.
-fn held_at(q: Messages, i: usize) -> Message
-    ensures { λ x. ⌜ x ≡ held i q ⌝ }
+// 22 READ
+pub fn read_channel(c: Context, x: Port) -> Decision
+    ensures { λ d. ⌜ d ≡ read c x ⌝ }
 {
-    if i < Module::CHANNELS {
-        return q.items[i];
-    }
-    Message {
-        present: false,
-        value: 0,
-        written: 0,
-    }
-}
-
-// The messages with x on the channel at a place.
-fn with_held(q: Messages, i: usize, x: Message) -> Messages
-    ensures { λ p. ⌜ p ≡ holding i x q ⌝ }
-{
-    let mut p = q;
-    if i < Module::CHANNELS {
-        p.items[i] = x;
-    }
-    p
-}
-
-// 21 WRITE by partition k at t.
-pub fn write(q: Messages, table: Table, t: u32, k: u32, r: Request) -> Sent
-    ensures { λ s. ⌜ s ≡ sentBy table t k r q ⌝ }
-{
-    let code = write_code(table, k, r);
-    let reply = reply_of(code);
+    let channel = x.channel;
+    let message = x.message;
+    let code = end_code(x, channel.destination);
     if code != 0 {
-        return Sent { messages: q, reply };
+        return Decision::Refused(code);
     }
-    let x = written_by(r, t);
-    Sent {
-        messages: with_held(q, place_of(r), x),
-        reply,
+    if !message.present {
+        return Decision::Refused(1);
     }
+    let extra = Time::At(freshness_at(c.time, message.written, channel.refresh));
+    Decision::Unchanged(message.value, extra)
 }
 
-// 22 READ by partition k at t.
-pub fn read(q: Messages, table: Table, t: u32, k: u32, r: Request) -> Reply
-    ensures { λ a. ⌜ a ≡ readBy table t k r q ⌝ }
-{
-    let x = held_at(q, place_of(r));
-    read_reply(table, t, k, r, x)
-}
-
+// ---------------------------------------------------------------- restarts
 // The messages without those on channels into partition k.
 pub fn erase_into(q: Messages, table: Table, k: u32) -> Messages
-    ensures { λ p. ⌜ p ≡ erasedIn table k q ⌝ }
+    ensures { λ p. ⌜ p .items ≡ keptTo table k channelLimit (q .items) ⌝ }
 {
     let mut p = q;
     let mut i: usize = 0;

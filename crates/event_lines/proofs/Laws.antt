@@ -1,13 +1,10 @@
--- What a line is answered with is what a replay prints for it, and the line of a bad table can be written. Assumes nothing.
+-- The line of a bad table can be written. Assumes nothing.
 use Prim.Native.Nat.{ℕ, zero, suc, _+_, _≤_}
-use mathlib.Core.Path.{_≡_, refl}
-use mathlib.Core.Bool.{Bool, true, false, _&&_}
+use mathlib.Core.Path.{_≡_}
+use mathlib.Core.Bool.{true}
 use mathlib.Core.List.{List, [], _∷_, map}
 use native.Mathlib.Omega.{arith}
-use lib.Dec.{leb}
-use lib.IntN.{ℤ, pos}
 use borrow.Author.Tests.{le-leb}
-use Rattle.machine.specs.declared.Module.{Module}
 use Rattle.machine.specs.declared.Line.{Line}
 use Rattle.machine.specs.declared.Line.the-variants.{Six, Bad}
 use Rattle.machine.specs.declared.Draft.{Draft}
@@ -15,24 +12,12 @@ use Rattle.machine.specs.declared.Reading.{Reading}
 use Rattle.machine.specs.Limits.{numberLimit, windowLimit, channelLimit}
 use Rattle.machine.specs.Fields.{rowOf}
 use Rattle.machine.specs.Line.{readLine, lines, inRange, allInRange}
-use Rattle.machine.specs.Step.{step}
 use Rattle.machine.specs.Windows.{windows}
 use Rattle.machine.specs.Table.{headGood, headDraft, rowGood, withRow, flaggedFrom, tableFrom, tableOf, readTable}
-use Rattle.machine.specs.Replay.{answerNumbers, lineAnswer, lineNext}
+use Rattle.machine.specs.Replay.{refusalNumbers}
 use Rattle.machine.proofs.Tests.{by-test}
 use Rattle.machine.proofs.Tables.{head-draft}
-use Rattle.event_lines.specs.EventLines.{lineStepped, refusalNumbers}
 
--- ---------------------------------------------------------------- an event line
-pub heard-next : (m : Module) (l : Line) → lineStepped m l .executive ≡ record { inner = lineNext m l }
-heard-next m (Six n) = refl
-heard-next m Bad = refl
-
-pub heard-answer : (m : Module) (l : Line) → answerNumbers (lineStepped m l .answer) ≡ lineAnswer m l
-heard-answer m (Six n) = refl
-heard-answer m Bad = refl
-
--- ---------------------------------------------------------------- a bad table
 -- the code of a reading, and the number of a table's line
 record Small (r : Reading) : Type 0 where
   code : r .code ≤ 12

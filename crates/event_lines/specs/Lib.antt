@@ -1,1 +1,1 @@
-pub mod EventLines
+pub mod Blocks

@@ -1,191 +1,135 @@
--- The step's parts, put together, are the machine's step. Assumes nothing.
+-- One event in parts: its places, its decision, and what is stored of it, are the machine's step. Assumes nothing.
 use Prim.Native.Nat.{ℕ, zero, suc, _+_, _-_, _≤_, _<_}
-use mathlib.Core.Bool.{Bool, true, false, cond, not, or-true}
-use mathlib.Core.List.{[], _∷_}
-use mathlib.Core.Logic.{⊎-elim}
-use mathlib.Core.Path.{_≡_, refl, sym, ap, _∙_}
+use mathlib.Core.Bool.{Bool, true, false, cond, not, _&&_}
+use mathlib.Core.List.{List, [], _∷_, _++_}
+use mathlib.Core.Path.{_≡_, refl, sym, ap, _∙_, subst}
 use native.Mathlib.Omega.{arith}
 use lib.Dec.{eqb, leb, ltb}
 use lib.IntN.{ℤ}
-use lib.ListN.{length, length-set, List·getD-eq-default}
-use lib.Seq.{set-getD}
+use lib.ListN.{length, set, length-set, List·getD-eq-default}
 use mir.Syntax.{w64}
 use mir.Val.{toZ, ofZ, SFits}
 use mir.ValLaws.{toZ-ofZ}
-use borrow.Author.Tests.{eq-eqb, ne-eqb, lt-ltb, le-ltb, lt-leb, ltb-false, leb-true, leb-false, eqb-false}
-use Rattle.channels.specs.Channels.{sentBy, readBy, erasedIn}
-use Rattle.channels.specs.declared.Messages.{Messages}
-use Rattle.ticks.specs.Due.{anyDue}
-use Rattle.machine.specs.Checks.{coded, checked}
-use Rattle.machine.specs.Services.{partitionCall}
-use Rattle.machine.specs.Fields.{requestOf, numberOf, field, between}
-use Rattle.machine.specs.Limits.{timeLimit, partitionLimit}
-use Rattle.machine.specs.Module.{noPartition, emptyTable, emptyModule, part, current, runningIn, withPart, withTime, refuse}
-use Rattle.machine.specs.Windows.{lookup}
+use borrow.Author.Tests.{ne-eqb, ltb-true, ltb-false, eqb-true, eqb-false, leb-true, not-false}
+use Rattle.machine.specs.Channels.{portAt, portOf, leadsInto, keptTo}
+use Rattle.machine.specs.Decisions.{coded, checked, codeOf, replyOf, changes, restarts, writtenAt, messageOf, noMessage}
+use Rattle.machine.specs.Fields.{requestOf, numberOf}
+use Rattle.machine.specs.Limits.{partitionLimit, channelLimit}
+use Rattle.machine.specs.Module.{noPartition, channel, part, message, current, runningIn, withPart, withMessage, withTime}
+use Rattle.machine.specs.Partition.{running, noted, partitionAfter}
+use Rattle.machine.specs.Places.{noCaller, ticks, eventChecks, firstChecks}
+use Rattle.machine.specs.Services.{called}
+use Rattle.machine.specs.Step.{contextOf, decision, moduleAfter, sees, answerTo, stepped, step}
 use Rattle.machine.specs.Ticks.{dueAt, tickAt, tickTo, partitionCount, tickModule}
-use Rattle.machine.specs.Step.{restarts, restarted, accepts, storedCall, contextOf, callDone, done, sees, answerTo, step}
-use Rattle.machine.specs.Places.{malformed, noCaller}
-use Rattle.machine.specs.Partition.{running, noted}
-use Rattle.machine.specs.Valid.{SoundModule, Reached}
-use Rattle.machine.specs.Windows.{waitingRefused, WaitingTime}
+use Rattle.machine.specs.Valid.{Reached}
+use Rattle.machine.specs.Windows.{lookup, releasePoint, waitingOf, WaitingTime}
 use Rattle.machine.specs.declared.Answer.{Answer}
-use Rattle.machine.specs.declared.Called.{Called}
-use Rattle.machine.specs.declared.Done.{Done}
+use Rattle.machine.specs.declared.Decision.{Decision}
+use Rattle.machine.specs.declared.Decision.the-variants.{Refused, Ticked}
 use Rattle.machine.specs.declared.Event.{Event}
-use Rattle.machine.specs.declared.Field.{Field}
-use Rattle.machine.specs.declared.Field.the-variants.{Number, MinusOne, Other}
-use Rattle.machine.specs.declared.Lookup.{Lookup}
+use Rattle.machine.specs.declared.Message.{Message}
 use Rattle.machine.specs.declared.Module.{Module}
 use Rattle.machine.specs.declared.Partition.{Partition}
+use Rattle.machine.specs.declared.Port.{Port}
 use Rattle.machine.specs.declared.Reply.{Reply}
 use Rattle.machine.specs.declared.Request.{Request}
 use Rattle.machine.specs.declared.Table.{Table}
 use Rattle.machine.specs.declared.Waiting.{Waiting}
-use Rattle.windows.specs.Nearest.{waitingOf}
-use Rattle.channels.proofs.Laws.{Stands, stands-none, stands-checked, messagesOf, withMessages, write-sent, read-replied, erased-messages}
-use Rattle.ticks.proofs.Laws.{tick-same}
+use Rattle.machine.proofs.Applied.{NoTick, called-no-tick, after-changed, after-restarted, after-written, after-same}
 use Rattle.machine.proofs.Bounds.{either}
-use Rattle.machine.proofs.Reached.{reached-valid}
-use Rattle.machine.proofs.Tests.{by-test, not-both}
-use Rattle.windows.proofs.Waiting.{waiting-time}
-use Rattle.executive.specs.Executive.{turned, eventPlaces, callPlaces, applied, settled, outcomeOf, actOf, shownSlot, answerOf, Awaited}
-use Rattle.executive.specs.declared.Outcome.{Outcome}
-use Rattle.executive.specs.declared.Placed.{Placed}
+use Rattle.machine.proofs.Folds.{tick-to-none}
+use Rattle.machine.proofs.Starts.{waiting-time, reached-waiting}
+use Rattle.machine.proofs.Tests.{by-test, codesIn, Passed, code-refuses, code-passes, and-left, and-right}
+use Rattle.places.specs.Placed.{placedAt}
+use Rattle.executive.specs.Executive.{turned, answerOf, Awaited}
+use Rattle.executive.specs.Lists.{callChecks, tickCount, slotOf, callSlot, shownSlot, planOf}
+use Rattle.executive.specs.declared.Plan.{Plan}
 
--- ---------------------------------------------------------------- a place past the partitions
-module _ (m : Module) (long : length (m .partitions) ≡ partitionLimit) where
-  none-past : (i : ℕ) → partitionLimit ≤ i → part m i ≡ noPartition
-  none-past i h = List·getD-eq-default (m .partitions) noPartition (omega arith)
+-- ---------------------------------------------------------------- lists of checks
+checked-more : {A : Type 0} (f : ℕ → A) (l k : List (Bool × ℕ)) (x : A) → checked f l (checked f k x) ≡ checked f (l ++ k) x
+unfolding checked
+checked-more f [] k x = refl
+checked-more f ((true, n) ∷ l) k x = refl
+checked-more f ((false, n) ∷ l) k x = checked-more f l k x
 
-  pub no-caller-past : (k : ℕ) → partitionLimit < k → noCaller (part m (k - 1)) ≡ true
-  no-caller-past k h = rw (none-past (k - 1) (omega arith))
-
-  none-runs-past : (i : ℕ) → partitionLimit ≤ i → running (part m i) ≡ 0
-  unfolding running
-  none-runs-past i h = rw (none-past i h)
-
-  -- the running process of one partition is what the answer shows
-  module _ (r : Request) (k : ℕ) where
-    shown-running : cond (ltb (shownSlot r k) partitionLimit) (running (part m (shownSlot r k))) 0 ≡ cond (sees r k) (runningIn k m) 0
-    shown-running = either (eqb k 0)
-        (λ e. either (sees r k) (λ s. rw (e, s)) (λ s. rw (e, s)))
-        (λ e. either (sees r k)
-        (λ s. either (ltb (k - 1) partitionLimit)
-        (λ l. rw (e, s, l))
-        (λ l. rw (e, s, l) (sym (none-runs-past (k - 1) (ltb-false (k - 1) partitionLimit l)))))
-        (λ s. rw (e, s)))
-
-    module _ (i n : ℕ) (at : i ≡ shownSlot r k) where
-      shown-at : cond (ltb i partitionLimit) (running (part m i)) 0 ≡ cond (sees r k) (runningIn k m) 0
-      shown-at = rw at shown-running
-
-      pub runs-shown : i < partitionLimit → n ≡ running (part m i) → n ≡ cond (sees r k) (runningIn k m) 0
-      runs-shown h e = e ∙ (rw (lt-ltb i partitionLimit h) at shown-at)
-
-      pub none-shown : partitionLimit ≤ i → n ≡ 0 → n ≡ cond (sees r k) (runningIn k m) 0
-      none-shown h e = e ∙ (rw (le-ltb i partitionLimit h) at shown-at)
-
--- ---------------------------------------------------------------- a call
-module _ (m : Module) (k : ℕ) where
-  -- where the partition stays as it is, the messages alone change
-  apply-messages : (q : Messages) (a : Reply) → applied k (record { messages = q; partition = part m (k - 1); reply = a }) m ≡ record { state = withMessages q m; reply = a }
-  apply-messages q a = rw (set-getD (m .partitions) (k - 1) noPartition)
-
-  -- an accepted call's partition is stored
-  apply-settled : (n : ℕ) (r : Request) (c : Called) → applied k (settled (m .table) k n r (part m (k - 1)) (messagesOf m) c) m ≡ storedCall m k n r c
-  apply-settled n r c = either (accepts (c .reply))
-      (λ y. rw y (go (restarts n r)))
-      (λ y. rw (y, set-getD (m .partitions) (k - 1) noPartition))
-    where
-      go : (b : Bool) → applied k (record { messages = cond b (erasedIn (m .table) k (messagesOf m)) (messagesOf m); partition = noted (c .partition); reply = c .reply }) m
-          ≡ record { state = withPart (k - 1) (c .partition) (restarted b k m); reply = c .reply }
-      go true = rw (erased-messages k m)
-      go false = refl
-
-  module _ (r : Request) where
-    -- the body of a call is the machine's
-    body-applied : applied k (outcomeOf (m .table) (m .t) k r (part m (k - 1)) (running (part m (k - 1))) (messagesOf m)) m ≡ callDone m k (numberOf (r .call)) r
-    body-applied =
-        let n = numberOf (r .call) in
-        let s = sentBy (m .table) (m .t) k r (messagesOf m) in
-        either (eqb n 21)
-        (λ e. rw e (apply-messages (s .messages) (s .reply) ∙ sym (write-sent m k r)))
-        (λ e. either (eqb n 22)
-        (λ f. rw (e, f) (apply-messages (messagesOf m) (readBy (m .table) (m .t) k r (messagesOf m)) ∙ sym (read-replied m k r)))
-        (λ f. rw (e, f) (apply-settled n r (partitionCall (contextOf m k) n r (part m (k - 1))))))
-
-    -- and so with 9 before it
-    pub act-applied : applied k (actOf (m .table) (m .t) k r (part m (k - 1)) (messagesOf m)) m ≡ checked (refuse m) ((noCaller (part m (k - 1)), 9) ∷ []) (callDone m k (numberOf (r .call)) r)
-    unfolding checked
-    act-applied = either (noCaller (part m (k - 1)))
-        (λ e. rw e (apply-messages (messagesOf m) (coded 9)))
-        (λ e. rw e body-applied)
+-- the code of a list by the code of its first part
+code-more : (l k : List (Bool × ℕ)) → codesIn (leb 1) l ≡ true → codeOf ((not (eqb (codeOf l) 0), codeOf l) ∷ k) ≡ codeOf (l ++ k)
+unfolding checked
+code-more [] k h = refl
+code-more ((true, n) ∷ l) k h = rw (ne-eqb n 0 (λ z. let g = leb-true 1 n (and-left (leb 1 n) (codesIn (leb 1) l) h) in omega arith))
+code-more ((false, n) ∷ l) k h = code-more l k (and-right (leb 1 n) (codesIn (leb 1) l) h)
 
 -- ---------------------------------------------------------------- the places
--- the code of the places, with the window looked up at the time after the event
-abbrev codeOf : Table → ℕ → Placed → ℕ
-codeOf T k x = callPlaces (x .code) k (lookup T (x .time) .partition)
+abbrev own : Request → ℕ
+own r = numberOf (r .partition)
 
-module _ (T : Table) (t k : ℕ) (r : Request) where
-  -- by case, with the tests that lead there
-  by-places : (P : Placed → Type 0)
-      → (malformed T r ≡ true → P (record { code = 13; time = t }))
-      → (malformed T r ≡ false → eqb k 0 ≡ true → leb timeLimit t ≡ true → P (record { code = 10; time = t }))
-      → (malformed T r ≡ false → eqb k 0 ≡ true → leb timeLimit t ≡ false → P (record { code = 0; time = t + 1 }))
-      → (malformed T r ≡ false → eqb k 0 ≡ false → P (record { code = 0; time = t }))
-      → P (eventPlaces T t k r)
-  unfolding checked
-  by-places P f g h i = by-test P (malformed T r) f (λ b. by-test P (eqb k 0) (λ e. by-test P (leb timeLimit t) (g b e) (h b e)) (i b))
-
-  -- t + 1 after a tick that is taken, else t
-  time-after : eventPlaces T t k r .time ≡ cond (eqb k 0) (cond (eqb (codeOf T k (eventPlaces T t k r)) 0) (t + 1) t) t
-  unfolding checked
-  time-after = by-places (λ x. x .time ≡ cond (eqb k 0) (cond (eqb (codeOf T k x) 0) (t + 1) t) t)
-      (λ b. either (eqb k 0) (λ e. rw e) (λ e. rw e))
-      (λ b e l. rw e)
-      (λ b e l. rw e)
-      (λ b e. rw e)
+abbrev placeChecks : Table → ℕ → ℕ → Request → List (Bool × ℕ)
+placeChecks T t now r = eventChecks T t r ++ callChecks (own r) now
 
 module _ (m : Module) (r : Request) (long : length (m .partitions) ≡ partitionLimit) where
-  abbrev own : ℕ
-  own = numberOf (r .partition)
+  abbrev accepted : Decision
+  accepted = cond (ticks r) Ticked (called (contextOf m (own r)) (portOf m (own r) r) (numberOf (r .call)) r (part m (own r - 1)))
 
-  abbrev Called? : Done
-  Called? = checked (refuse m) ((noCaller (part m (own - 1)), 9) ∷ []) (callDone m own (numberOf (r .call)) r)
+  -- past the partitions none has a caller
+  past : partitionLimit < own r → noCaller (part m (own r - 1)) ≡ true
+  past h = let e : part m (own r - 1) ≡ noPartition = List·getD-eq-default (m .partitions) noPartition (omega arith) in rw e
 
-  abbrev Ticked? : Done
-  Ticked? = record { state = tickModule m; reply = coded 0 }
-
-  refusing : {d : Done} (n : ℕ) → eqb n 0 ≡ false → Stands (refuse m) d n (refuse m n)
-  refusing n some = record { accepts = λ z. absurd (eqb-false n 0 some z); refuses = λ z. refl }
-
-  past : Stands (refuse m) Called? (checked (λ n. n) ((not (leb own partitionLimit), 9) ∷ []) 0) Called?
+  bound : accepted ≡ checked Refused ((not (ticks r) && ltb partitionLimit (own r), 9) ∷ []) accepted
   unfolding checked
-  past = either (leb own partitionLimit)
-      (λ e. rw e (stands-none (refuse m) Called?))
-      (λ e. rw (e, no-caller-past m long own (leb-false own partitionLimit e)) (refusing 9 refl))
+  bound = either (ticks r)
+      (λ z. rw z)
+      (λ z. either (ltb partitionLimit (own r))
+      (λ l. rw (z, l, past (ltb-true partitionLimit (own r) l)))
+      (λ l. rw (z, l)))
 
-  -- the places are the machine's: 8 looks at the time after the event, which for a call is t
-  placed : Stands (refuse m) (cond (eqb own 0) Ticked? Called?) (codeOf (m .table) own (eventPlaces (m .table) (m .t) own r)) (done m r)
-  unfolding checked
-  placed = by-places (m .table) (m .t) own r (λ x. Stands (refuse m) (cond (eqb own 0) Ticked? Called?) (codeOf (m .table) own x) (done m r))
-      (λ b. rw b (refusing 13 refl))
-      (λ b e l. rw (b, e, l) (refusing 10 refl))
-      (λ b e l. rw (b, e, l) (stands-none (refuse m) Ticked?))
-      (λ b e. rw (b, e) (stands-checked (refuse m) Called? ((not (eqb (current m) own), 8) ∷ []) _ Called? refl past))
+  -- now is the current partition, but at a tick, which does not look at it
+  module _ (now : ℕ) (seen : ticks r ≡ false → now ≡ current m) where
+    first-same : firstChecks (m .table) (m .t) (current m) r ≡ firstChecks (m .table) (m .t) now r
+    first-same = either (ticks r) (λ z. rw z) (λ z. rw (seen z))
 
--- where no place refuses a call, the record has its partition
-pub place-partition : (c k now : ℕ) (a : Reply) → a ≡ coded (callPlaces c k now) → a .code ≡ 0 → (k ≡ 0 → ⊥) → k ≤ partitionLimit
+    decided : decision m r ≡ checked Refused (placeChecks (m .table) (m .t) now r) accepted
+    unfolding decision
+    decided = ap (λ (l : List (Bool × ℕ)). checked Refused l accepted) first-same
+        ∙ ap (checked Refused (firstChecks (m .table) (m .t) now r)) bound
+        ∙ checked-more Refused (firstChecks (m .table) (m .t) now r) _ accepted
+
+    module _ (n : ℕ) (e : n ≡ codeOf (placeChecks (m .table) (m .t) now r)) where
+      place-refused : (n ≡ 0 → ⊥) → decision m r ≡ Refused n
+      place-refused h = decided ∙ sym (ap Refused e ∙ code-refuses Refused (placeChecks (m .table) (m .t) now r) accepted (λ z. h (e ∙ z)))
+
+      place-passed : n ≡ 0 → decision m r ≡ accepted
+      place-passed z = decided ∙ sym (code-passes Refused (placeChecks (m .table) (m .t) now r) accepted refl (sym e ∙ z) .0)
+
+      -- what the places then tell of a call
+      place-calls : n ≡ 0 → ticks r ≡ false → (now ≡ own r) × (own r ≤ partitionLimit)
+      unfolding Passed
+      place-calls z t =
+          let h : Passed (placeChecks (m .table) (m .t) now r) = code-passes Refused (placeChecks (m .table) (m .t) now r) accepted refl (sym e ∙ z) .1 in
+          (eqb-true now (own r) (not-false _ (rw t at (h .1 .1 .0))), ltb-false partitionLimit (own r) (rw t at (h .1 .1 .1 .0)))
+
+-- a tick gets no code but 13 and 10
+tick-code : (T : Table) (t now : ℕ) (r : Request) → ticks r ≡ true → codeOf (placeChecks T t now r) ≡ codeOf (eventChecks T t r)
 unfolding checked
-place-partition c k now a said none some =
-    let passed : callPlaces c k now ≡ 0 = rw said at none in
-    either (eqb c 0)
-    (λ z. either (eqb now k)
-    (λ l. either (leb k partitionLimit)
-    (λ h. leb-true k partitionLimit h)
-    (λ h. absurd (omega (arith, rw (z, ne-eqb k 0 some, l, h) at passed))))
-    (λ l. absurd (omega (arith, rw (z, ne-eqb k 0 some, l) at passed))))
-    (λ z. absurd (eqb-false c 0 z (rw z at passed)))
+tick-code T t now r z = rw z
+
+-- t + 1 after a tick that is taken, else t
+module _ (T : Table) (t now : ℕ) (r : Request) where
+  time-taken : codeOf (placeChecks T t now r) ≡ 0 → ticks r ≡ true → placedAt T t r .time ≡ t + 1
+  time-taken n z = rw (sym (tick-code T t now r z) ∙ n, z)
+
+  time-called : ticks r ≡ false → placedAt T t r .time ≡ t
+  time-called z = either (eqb (codeOf (eventChecks T t r)) 0) (λ c. rw (c, z)) (λ c. rw c)
+
+  time-refused : (codeOf (placeChecks T t now r) ≡ 0 → ⊥) → placedAt T t r .time ≡ t
+  time-refused h = either (ticks r)
+      (λ z. rw (ne-eqb (codeOf (eventChecks T t r)) 0 (λ c. h (tick-code T t now r z ∙ c))))
+      time-called
+
+-- erasing leaves every place
+kept-long : (T : Table) (k n : ℕ) (l : List Message) → length (keptTo T k n l) ≡ length l
+unfolding keptTo
+kept-long T k zero l = refl
+kept-long T k (suc n) l = by-test (λ (v : List Message). length v ≡ length l) (leadsInto k (channel T n)) (λ _. length-set (keptTo T k n l) n noMessage ∙ kept-long T k n l) (λ _. kept-long T k n l)
 
 -- ---------------------------------------------------------------- one event
 -- what storing a partition leaves, the tick of the partitions leaves
@@ -194,67 +138,243 @@ unfolding tickTo tickAt
 tick-keeps P f zero m h = h
 tick-keeps P f (suc n) m h = by-test P (dueAt n (tickTo n m)) (λ _. f n _ (tickTo n m) (tick-keeps P f n m h)) (λ _. tick-keeps P f n m h)
 
--- record and reply after an event are the machine's, the record has its places, and the window was looked up as it is then
-pub record After (m : Module) (r : Request) (l : Lookup) (q : Module) (b : Reply) : Type 0 where
-  pub did : record { state = q; reply = b } ≡ done m r
+-- record and reply after an event are the machine's, and the record has its places; the window was looked up as it is then
+pub record After (m : Module) (r : Request) (now : ℕ) (q : Module) (b : Reply) : Type 0 where
+  pub state : q ≡ moduleAfter m (own r) (decision m r)
+  pub reply : b ≡ replyOf (decision m r)
   pub long : length (q .partitions) ≡ partitionLimit
-  pub window : l ≡ lookup (q .table) (q .t)
-
--- what the code finds of an event: its partition k, x before the lookup, l the lookup, a the reply of the places
-pub record Found (m : Module) (r : Request) (k : ℕ) (x : Placed) (l : Lookup) (a : Reply) : Type 0 where
-  pub long : length (m .partitions) ≡ partitionLimit
-  pub partition : k ≡ numberOf (r .partition)
-  pub first : x ≡ eventPlaces (m .table) (m .t) k r
-  pub looked : l ≡ lookup (m .table) (x .time)
-  pub said : a ≡ coded (callPlaces (x .code) k (l .partition))
-
-module _ {m : Module} {r : Request} {k : ℕ} {x : Placed} {l : Lookup} {a : Reply} (f : Found m r k x l a) where
-  found : a .code ≡ codeOf (m .table) (numberOf (r .partition)) (eventPlaces (m .table) (m .t) (numberOf (r .partition)) r)
-  found = rw (f .said, f .looked, f .first, f .partition)
-
-  time : x .time ≡ cond (eqb k 0) (cond (eqb (a .code) 0) (m .t + 1) (m .t)) (m .t)
-  time = rw (found, f .first, f .partition) (time-after (m .table) (m .t) (numberOf (r .partition)) r)
-
-  accepted : a .code ≡ 0 → cond (eqb k 0) (record { state = tickModule m; reply = coded 0 }) (checked (refuse m) ((noCaller (part m (k - 1)), 9) ∷ []) (callDone m k (numberOf (r .call)) r)) ≡ done m r
-  accepted none = rw (f .partition) (sym (placed m r (f .long) .accepts (sym found ∙ none)))
-
-  coded-reply : a ≡ coded (a .code)
-  coded-reply = rw (f .said)
-
-  -- q and b are record and reply after the event
-  module _ {q : Module} {b : Reply} where
-    pub step-refused : (a .code ≡ 0 → ⊥) → q ≡ m → b ≡ a → After m r l q b
-    step-refused e g h = record {
-      did = rw (g, h ∙ coded-reply, found) (sym (placed m r (f .long) .refuses (λ z. e (found ∙ z))));
-      long = rw g (f .long);
-      window = rw (g, f .looked, time, ne-eqb (a .code) 0 e) (either (eqb k 0) (λ z. rw z) (λ z. rw z));
-    }
-
-    pub step-ticked : a .code ≡ 0 → k ≡ 0 → q ≡ tickTo (partitionCount (m .table)) (withTime (x .time) m) → b ≡ a → After m r l q b
-    step-ticked none z g h = record {
-      did = rw (g, time, h ∙ coded-reply, none, eq-eqb k 0 z) (rw (eq-eqb k 0 z) at (accepted none));
-      long = rw g (tick-keeps (λ (y : Module). length (y .partitions) ≡ partitionLimit) (λ i p y s. length-set (y .partitions) i (noted p) ∙ s) (partitionCount (m .table)) (withTime (x .time) m) (f .long));
-      window = rw (g, f .looked) (tick-keeps (λ (y : Module). lookup (m .table) (x .time) ≡ lookup (y .table) (y .t)) (λ i p y s. s) (partitionCount (m .table)) (withTime (x .time) m) refl);
-    }
-
-    pub step-quiet : a .code ≡ 0 → (d : Bool) → d ≡ anyDue (withTime (x .time) m) → d ≡ false → k ≡ 0 → q ≡ withTime (x .time) m → b ≡ a → After m r l q b
-    step-quiet none d due e z g h = step-ticked none z (g ∙ sym (tick-same (withTime (x .time) m) (sym due ∙ e))) h
-
-    pub step-called : a .code ≡ 0 → (o : Outcome) → o ≡ actOf (m .table) (m .t) k r (part m (k - 1)) (messagesOf m) → (k ≡ 0 → ⊥) → q ≡ applied k o m .state → b ≡ o .reply → After m r l q b
-    step-called none o d z g h = record {
-      did = rw (g, h, d) (act-applied m k r ∙ (rw (ne-eqb k 0 z) at (accepted none)));
-      long = rw g (length-set (m .partitions) (k - 1) (o .partition) ∙ f .long);
-      window = rw (g, f .looked, time, ne-eqb k 0 z);
-    }
+  pub held : length (q .messages) ≡ channelLimit
+  pub window : now ≡ current q
 
 -- the answer is read off the record after the event
-pub step-answered : (m : Module) (e : Event) (r : Request) (l : Lookup) (q : Module) (b : Reply) (n : ℕ) (a : Answer) → r ≡ requestOf e → After m r l q b
-    → n ≡ cond (sees r (l .partition)) (runningIn (l .partition) q) 0 → a ≡ answerOf b (q .t) (l .partition) n
-    → record { executive = record { inner = q }; answer = a } ≡ turned (step m e)
-unfolding step
-step-answered m e r l q b n a heard after shows said =
-    rw (said, shows, after .window) (ap (λ (d : Done). turned (record { state = d .state; answer = answerTo r d })) (after .did)
-    ∙ ap (λ (x : Request). turned (record { state = done m x .state; answer = answerTo x (done m x) })) heard)
+answered-is : (m : Module) (r : Request) (now : ℕ) (y : Module) (b : Reply) → After m r now y b → (n : ℕ) (a : Answer) → n ≡ cond (sees r now) (runningIn now y) 0 → a ≡ answerOf b (y .t) now n
+    → record { executive = record { inner = y }; answer = a } ≡ turned (stepped m r (decision m r))
+answered-is m r now y b done n a shows says = rw (says, shows, done .window) (λ i. turned (record { state = done .state i; answer = answerTo r (done .reply i) (done .state i) }))
+
+-- what is found of the event e before its partition is looked at; T is the table, which no event changes
+pub record Planned (m : Module) (e : Event) (T : Table) (x : Plan) : Type 0 where
+  pub same : m .table ≡ T
+  pub long : length (m .partitions) ≡ partitionLimit
+  pub held : length (m .messages) ≡ channelLimit
+  pub plan : x ≡ planOf T (m .t) e
+
+module _ {m : Module} {e : Event} {T : Table} {x : Plan} (f : Planned m e T x) where
+  here : x ≡ planOf (m .table) (m .t) e
+  here = rw (f .same) (f .plan)
+
+  abbrev r : Request
+  r = requestOf e
+
+  abbrev k : ℕ
+  k = own r
+
+  abbrev time : ℕ
+  time = placedAt (m .table) (m .t) r .time
+
+  abbrev now : ℕ
+  now = lookup (m .table) time .partition
+
+  abbrev code : ℕ
+  code = codeOf (placeChecks (m .table) (m .t) now r)
+
+  request-is : x .request ≡ r
+  unfolding planOf
+  request-is = rw here
+
+  pub own-is : x .own ≡ k
+  unfolding planOf
+  own-is = rw here
+
+  call-is : x .call ≡ numberOf (r .call)
+  unfolding planOf
+  call-is = rw here
+
+  place-is : x .place ≡ numberOf (r .a) - 1
+  unfolding planOf
+  place-is = rw here
+
+  code-is : x .code ≡ code
+  unfolding planOf
+  code-is = rw here (code-more (eventChecks (m .table) (m .t) r) (callChecks k now) refl)
+
+  time-is : x .time ≡ time
+  unfolding planOf
+  time-is = rw here
+
+  current-is : x .current ≡ now
+  unfolding planOf
+  current-is = rw here
+
+  ticks-is : x .ticks ≡ tickCount (m .table) (x .code) k
+  unfolding planOf
+  ticks-is = rw here
+
+  spot-is : x .spot ≡ slotOf (x .current)
+  unfolding planOf
+  spot-is = rw here
+
+  slot-is : x .slot ≡ callSlot (x .code) k
+  unfolding planOf
+  slot-is = rw here
+
+  shown-is : x .shown ≡ shownSlot r (x .current)
+  unfolding planOf
+  shown-is = rw here
+
+  pub few-ticks : x .ticks ≤ partitionLimit
+  few-ticks = rw ticks-is (by-test (λ (n : ℕ). n ≤ partitionLimit) (eqb (x .code) 0) (λ _. by-test (λ (n : ℕ). n ≤ partitionLimit) (eqb k 0) (λ _. few (m .table .size)) (λ _. omega arith)) (λ _. omega arith))
+    where
+      few : (n : ℕ) → cond (leb n partitionLimit) n partitionLimit ≤ partitionLimit
+      few n = by-test (λ (i : ℕ). i ≤ partitionLimit) (leb n partitionLimit) (λ h. leb-true n partitionLimit h) (λ _. omega arith)
+
+  -- a call looks at the window that is current
+  seen : ticks r ≡ false → now ≡ current m
+  seen z = ap (λ (t : ℕ). lookup (m .table) t .partition) (time-called (m .table) (m .t) now r z)
+
+  -- a call that no place refuses: its partition has a place, and is the current one
+  pub record Called : Type 0 where
+    pub none : x .code ≡ 0
+    pub some : ticks r ≡ false
+    pub slot : x .slot ≡ k - 1
+    pub now : x .current ≡ k
+
+  calls : x .slot < partitionLimit → Called
+  calls h = either (eqb (x .code) 0)
+      (λ z. either (eqb k 0)
+      (λ o. let w : x .slot ≡ partitionLimit = slot-is ∙ rw (z, o) in absurd (omega arith))
+      (λ o. record { none = eqb-true (x .code) 0 z; some = o; slot = slot-is ∙ rw (z, o); now = current-is ∙ place-calls m r (f .long) now seen (x .code) code-is (eqb-true (x .code) 0 z) o .0 }))
+      (λ z. let w : x .slot ≡ partitionLimit = slot-is ∙ rw z in absurd (omega arith))
+
+  -- where the partition that makes a call lies, the current one does
+  pub slot-spot : x .slot < partitionLimit → x .slot ≡ x .spot
+  slot-spot h = let c = calls h in c .slot ∙ sym (spot-is ∙ ap slotOf (c .now) ∙ rw (c .some))
+
+  -- q is the record after the ticks
+  module _ {q : Module} (ticked : q ≡ tickTo (x .ticks) (withTime (x .time) m)) where
+    still : tickCount (m .table) (x .code) k ≡ 0 → time ≡ m .t → q ≡ m
+    still none stays = ticked ∙ rw (ticks-is, none, time-is, stays) (tick-to-none m)
+
+    -- no call: a tick, or refused
+    pub not-called : partitionLimit ≤ x .slot → {y : Module} {b : Reply} → y ≡ q → b ≡ coded (x .code) → After m (x .request) (x .current) y b
+    not-called far {y} {b} g h = either (eqb (x .code) 0)
+        (λ z. either (eqb k 0)
+        (λ o. taken (eqb-true (x .code) 0 z) o)
+        (λ o.
+        let u = place-calls m r (f .long) now seen (x .code) code-is (eqb-true (x .code) 0 z) o .1 in
+        let w : x .slot ≡ k - 1 = slot-is ∙ rw (z, o) in
+        let v = eqb-false k 0 o in
+        absurd (omega (arith, u, v))))
+        (λ z. refused (eqb-false (x .code) 0 z))
+      where
+        refused : (x .code ≡ 0 → ⊥) → After m (x .request) (x .current) y b
+        refused z =
+            let d = place-refused m r (f .long) now seen (x .code) code-is z in
+            let t : time ≡ m .t = time-refused (m .table) (m .t) now r (λ c. z (code-is ∙ c)) in
+            let w : y ≡ m = g ∙ still (rw (ne-eqb (x .code) 0 z)) t in
+            record { state = rw (request-is, d) w; reply = rw (request-is, d) h; long = rw w (f .long); held = rw w (f .held); window = rw (current-is, w) (ap (λ (t : ℕ). lookup (m .table) t .partition) t) }
+
+        taken : x .code ≡ 0 → ticks r ≡ true → After m (x .request) (x .current) y b
+        taken z o =
+            let d : decision m r ≡ Ticked = place-passed m r (f .long) now seen (x .code) code-is z ∙ rw o in
+            let t : time ≡ m .t + 1 = time-taken (m .table) (m .t) now r (sym code-is ∙ z) o in
+            let w : y ≡ tickModule m = g ∙ ticked ∙ rw (ticks-is, time-is, t, z, o) in
+            record {
+              state = rw (request-is, d) w;
+              reply = rw (request-is, d) (h ∙ ap coded z);
+              long = rw w (tick-keeps (λ (v : Module). length (v .partitions) ≡ partitionLimit) (λ i p v l. length-set (v .partitions) i (noted p) ∙ l) (partitionCount (m .table)) (withTime (m .t + 1) m) (f .long));
+              held = rw w (tick-keeps (λ (v : Module). length (v .messages) ≡ channelLimit) (λ i p v l. l) (partitionCount (m .table)) (withTime (m .t + 1) m) (f .held));
+              window = rw (current-is, w) (ap (λ (t : ℕ). lookup (m .table) t .partition) t ∙ tick-keeps (λ (v : Module). lookup (m .table) (m .t + 1) .partition ≡ current v) (λ i p v l. l) (partitionCount (m .table)) (withTime (m .t + 1) m) refl);
+            }
+
+    -- a call
+    module _ (inside : x .slot < partitionLimit) where
+      -- the record is as it was
+      called-same : q ≡ m
+      called-same = let c = calls inside in still (rw (c .none, c .some)) (time-called (m .table) (m .t) now r (c .some))
+
+      -- what the code decides is the machine's decision
+      module _ {caller v : ℕ} {hold : Message} {port : Port} {d : Decision} (runs : caller ≡ running (part q (x .slot))) (point : v ≡ releasePoint T (q .t) (x .own)) (lies : hold ≡ message q (x .place))
+          (sees-port : port ≡ portAt T (x .own) (x .request .a) hold)
+          (made : d ≡ called (record { time = q .t; frame = T .frame; release = v; caller = caller }) port (x .call) (x .request) (part q (x .slot))) where
+        made-is : d ≡ decision m r
+        made-is =
+            let c = calls inside in
+            let w = called-same in
+            made ∙ rw (runs, point, sees-port, lies, w, ← f .same, request-is, own-is, call-is, place-is, c .slot) (sym (place-passed m r (f .long) now seen (x .code) code-is (c .none) ∙ rw (c .some)))
+
+        made-called : d ≡ called (contextOf m k) (portOf m k r) (numberOf (r .call)) r (part m (k - 1))
+        made-called = made-is ∙ place-passed m r (f .long) now seen (x .code) code-is (calls inside .none) ∙ chosen (calls inside .some)
+          where
+            chosen : ticks r ≡ false → accepted m r (f .long) ≡ called (contextOf m k) (portOf m k r) (numberOf (r .call)) r (part m (k - 1))
+            chosen z = rw z
+
+        window-is : (y : Module) → y .table ≡ q .table → y .t ≡ q .t → x .current ≡ current y
+        window-is y a b = let w = called-same in rw (a, b, w) (current-is ∙ seen (calls inside .some))
+
+        module _ {b : Reply} (says : b ≡ replyOf d) where
+          stores : {y : Module} → y ≡ moduleAfter m k d → length (y .partitions) ≡ partitionLimit → length (y .messages) ≡ channelLimit → y .table ≡ q .table → y .t ≡ q .t → After m (x .request) (x .current) y b
+          stores {y} g l l′ a t = record { state = rw (request-is) (g ∙ ap (moduleAfter m k) made-is); reply = rw (request-is) (says ∙ ap replyOf made-is); long = l; held = l′; window = window-is y a t }
+
+          pub call-same : changes d ≡ false → channelLimit ≤ writtenAt d → {y : Module} → y ≡ q → After m (x .request) (x .current) y b
+          call-same c h {y} g =
+              let w = called-same in
+              let n = called-no-tick (contextOf m k) (portOf m k r) (numberOf (r .call)) r (part m (k - 1)) in
+              let u : NoTick d = subst NoTick (sym made-called) (n .is) in
+              stores (g ∙ w ∙ sym (after-same m k (f .held) d u c h)) (rw (g, w) (f .long)) (rw (g, w) (f .held)) (ap (λ (z : Module). z .table) g) (ap (λ (z : Module). z .t) g)
+
+          pub call-written : writtenAt d < channelLimit → {a : Message} → a ≡ messageOf d → {y : Module} → y ≡ withMessage (writtenAt d) a q → After m (x .request) (x .current) y b
+          call-written h {a} e {y} g =
+              let w = called-same in
+              stores (g ∙ rw (e, w) (sym (after-written m k d h))) (rw (g, w) (f .long)) (rw (g, w) (length-set (m .messages) (writtenAt d) a ∙ f .held)) (ap (λ (z : Module). z .table) g) (ap (λ (z : Module). z .t) g)
+
+          module _ {p : Partition} (after : p ≡ noted (partitionAfter d (part q (x .slot)))) where
+            pub call-changed : changes d ≡ true → restarts d ≡ false → {y : Module} → y ≡ record { table = q .table; t = q .t; messages = q .messages; partitions = set (q .partitions) (x .slot) p } → After m (x .request) (x .current) y b
+            call-changed c n {y} g =
+                let w = called-same in
+                stores (g ∙ rw (after, w, calls inside .slot) (sym (after-changed m k d c n))) (rw (g, w) (length-set (m .partitions) (x .slot) p ∙ f .long)) (rw (g, w) (f .held)) (ap (λ (z : Module). z .table) g) (ap (λ (z : Module). z .t) g)
+
+            pub call-restarted : restarts d ≡ true → {l : List Message} → l ≡ keptTo T (x .own) channelLimit (q .messages)
+                → {y : Module} → y ≡ record { table = q .table; t = q .t; messages = l; partitions = set (q .partitions) (x .slot) p } → After m (x .request) (x .current) y b
+            call-restarted n {l} kept {y} g =
+                let w = called-same in
+                stores (g ∙ rw (after, kept, own-is, w, ← f .same, calls inside .slot) (sym (after-restarted m k d n))) (rw (g, w) (length-set (m .partitions) (x .slot) p ∙ f .long)) (rw (g, kept, w) (kept-long T (x .own) channelLimit (m .messages) ∙ f .held)) (ap (λ (z : Module). z .table) g) (ap (λ (z : Module). z .t) g)
+
+  -- ------------------------------------------------------------ the answer
+  pub shown-spot : x .shown < partitionLimit → x .shown ≡ x .spot
+  shown-spot h = either (sees r (x .current))
+      (λ z. shown-is ∙ rw z (sym spot-is))
+      (λ z. let w : x .shown ≡ partitionLimit = shown-is ∙ rw z in absurd (omega arith))
+
+  -- y is the record after the event, and n the running process of the current partition, where it has one
+  module _ {y : Module} {b : Reply} (done : After m (x .request) (x .current) y b) where
+    none-past : partitionLimit ≤ x .spot → runningIn (x .current) y ≡ 0
+    unfolding running
+    none-past h = by-test (λ (n : ℕ). n ≡ 0) (eqb (x .current) 0) (λ _. refl)
+        (λ z.
+        let w : x .spot ≡ x .current - 1 = spot-is ∙ rw z in
+        let e : part y (x .current - 1) ≡ noPartition = List·getD-eq-default (y .partitions) noPartition (omega (arith, done .long)) in
+        rw e)
+
+    spot-running : x .spot < partitionLimit → running (part y (x .spot)) ≡ runningIn (x .current) y
+    spot-running h = either (eqb (x .current) 0)
+        (λ z. let w : x .spot ≡ partitionLimit = spot-is ∙ rw z in absurd (omega arith))
+        (λ z. let w : x .spot ≡ x .current - 1 = spot-is ∙ rw z in rw (z, w))
+
+    -- what is shown
+    pub runs-shown : x .shown < partitionLimit → {n : ℕ} → n ≡ running (part y (x .spot)) → n ≡ cond (sees (x .request) (x .current)) (runningIn (x .current) y) 0
+    runs-shown h {n} e = either (sees r (x .current))
+        (λ z. e ∙ rw (request-is, z) (spot-running (rw (shown-spot h) at h)))
+        (λ z. let w : x .shown ≡ partitionLimit = shown-is ∙ rw z in absurd (omega arith))
+
+    pub none-shown : partitionLimit ≤ x .shown → 0 ≡ cond (sees (x .request) (x .current)) (runningIn (x .current) y) 0
+    none-shown h = either (sees r (x .current))
+        (λ z. let w : x .shown ≡ x .spot = shown-is ∙ rw z (sym spot-is) in rw (request-is, z) (sym (none-past (rw w at h))))
+        (λ z. rw (request-is, z))
+
+    -- the answer is read off the record after the event
+    pub event-answered : {n : ℕ} → n ≡ cond (sees (x .request) (x .current)) (runningIn (x .current) y) 0 → {a : Answer} → a ≡ answerOf b (y .t) (x .current) n → record { executive = record { inner = y }; answer = a } ≡ turned (step m e)
+    unfolding step
+    event-answered {n} shows {a} says = answered-is m (x .request) (x .current) y b done n a shows says ∙ ap (λ (v : Request). turned (stepped m v (decision m v))) request-is
 
 -- ---------------------------------------------------------------- the waiting time
 -- the two numbers are passed on by their bits
@@ -262,19 +382,6 @@ pub awaited : (T : Table) (t k : ℤ) (w : Waiting) → SFits w64 t → SFits w6
 unfolding waitingOf
 awaited T t k w f g e = rw (rw (toZ-ofZ w64 t f, toZ-ofZ w64 k g) at e) (record { refused = λ h. rw h; accepted = λ h. rw h; given = λ s. waiting-time T s t k })
 
-none-between : (f : Field) → between 1 0 f ≡ false
-none-between (Number n) = either (leb 1 n) (λ e. rw (e, lt-leb n 0 (leb-true 1 n e))) (λ e. rw e)
-none-between MinusOne = refl
-none-between Other = refl
-
--- the empty record has no partition
-empty-refuses : (t k : Field) → waitingRefused (emptyModule .table) t k ≡ true
-unfolding emptyModule emptyTable
-empty-refuses t k = rw (none-between k) (or-true (not (between 0 timeLimit t)))
-
 -- of every record that a run reaches the waiting time is as document 01 says
 pub reached-awaited : (m : Module) → Reached m → (t k : ℤ) (w : Waiting) → Awaited (m .table) t k w → WaitingTime (m .table) t k w
-reached-awaited m h t k w a = ⊎-elim
-    (λ (e : m ≡ emptyModule). record { refused = a .refused; given = λ z. not-both _ (rw e (empty-refuses (field t) (field k))) z })
-    (λ (s : SoundModule m). a .given (s .table))
-    (reached-valid m h)
+reached-awaited m h t k w a = reached-waiting m h t k w (a .refused) (a .given)

@@ -1,17 +1,18 @@
 // The executive: a module that comes only from table reading and from events.
 ghost use mathlib.Core.Path.{_≡_};
-ghost use mathlib.Core.Bool.{cond};
-ghost use Rattle.machine.specs.Step.{restarts, accepts, sees, step};
+ghost use Prim.Native.Nat.{_+_, _≤_};
+ghost use lib.ListN.{length};
+ghost use lib.Seq.{sets};
+ghost use Rattle.machine.specs.Step.{sees, step};
+ghost use Rattle.machine.specs.Replay.{timeNumber, answerNumbers, unread};
 ghost use Rattle.machine.specs.Table.{readTable};
-ghost use Rattle.channels.specs.Channels.{erasedIn};
-ghost use Rattle.executive.specs.Executive.{turned, opened, unread, eventPlaces, callPlaces, settled, outcomeOf, actOf, shownSlot, answerOf, Awaited};
+ghost use Rattle.executive.specs.Executive.{turned, opened, noAnswer, answerOf, Awaited};
+ghost use Rattle.executive.specs.Lists.{six, eventAt, placeCode, tickCount, slotOf, callSlot, shownSlot, planOf, afterList, answeredList, lastAnswer, eventsIn};
 use channels::Messages;
 use machine::Answer;
-use machine::Called;
 use machine::Context;
 use machine::Event;
 use machine::Module;
-use machine::Partition;
 use machine::Reply;
 use machine::Request;
 use machine::Table;
@@ -36,45 +37,30 @@ pub struct Opening {
     pub lines: u32,
 }
 
-// An event before the window is looked up: 13, 10 or 0, and the time after the event.
-struct Placed {
+// ---------------------------------------------------------------- what an event does, before its partition is looked at
+// The code of the places that need no partition, the time and the current partition after the event, how many partitions are ticked,
+// and where these lie: the channel that a call may name, the current partition, the one that makes a call, the one whose
+// running process is shown; past the last for none.
+struct Plan {
+    request: Request,
+    own: u32,
+    call: u32,
+    place: usize,
     code: u8,
     time: u32,
+    current: u8,
+    ticks: usize,
+    spot: usize,
+    slot: usize,
+    shown: usize,
 }
 
-// What a call makes of the messages and of its own partition, and its reply.
-struct Outcome {
-    messages: Messages,
-    partition: Partition,
-    reply: Reply,
-}
-
-// ---------------------------------------------------------------- the places before a call's body
-// 13, and for a tick 10; a tick that is taken lets t rise by one.
-fn event_places(table: Table, t: u32, k: u32, r: Request) -> Placed
-    ensures { λ x. ⌜ x ≡ eventPlaces table t k r ⌝ }
+// 8 for a call, and 9 for a partition that the record has no place for; n where it is another code already.
+fn call_code(n: u8, k: u32, current: u8) -> u8
+    ensures { λ r. ⌜ r ≡ placeCode n k current ⌝ }
 {
-    if places::is_malformed(table, r) {
-        return Placed { code: 13, time: t };
-    }
-    if k == 0 {
-        if Module::END <= t {
-            return Placed { code: 10, time: t };
-        }
-        return Placed {
-            code: 0,
-            time: t + 1,
-        };
-    }
-    Placed { code: 0, time: t }
-}
-
-// Then for a call 8, and 9 for a partition that the record has no place for; 0 where none of them refuses.
-fn call_places(code: u8, k: u32, current: u8) -> u8
-    ensures { λ n. ⌜ n ≡ callPlaces code k current ⌝ }
-{
-    if code != 0 {
-        return code;
+    if n != 0 {
+        return n;
     }
     if k == 0 {
         return 0;
@@ -82,102 +68,44 @@ fn call_places(code: u8, k: u32, current: u8) -> u8
     if current as u32 != k {
         return 8;
     }
-    if k <= Module::PARTITIONS as u32 { 0 } else { 9 }
-}
-
-// ---------------------------------------------------------------- calls
-// Modes 0, 1, 2.
-fn is_restart(n: u32, r: Request) -> bool
-    ensures { λ b. ⌜ b ≡ restarts n r ⌝ }
-{
-    let a = r.a;
-    n == 1 && fields::is_between(a, 0, 2)
-}
-
-fn is_accepted(reply: Reply) -> bool
-    ensures { λ b. ⌜ b ≡ accepts reply ⌝ }
-{
-    reply.code == 0 || reply.code == 7
-}
-
-// The messages, without those into partition k where it restarts.
-fn messages_after(q: Messages, table: Table, k: u32, restart: bool) -> Messages
-    ensures { λ p. ⌜ p ≡ cond restart (erasedIn table k q) q ⌝ }
-{
-    if restart {
-        return channels::erase_into(q, table, k);
-    }
-    q
-}
-
-// What call n leaves of partition p and of the messages; a refused call leaves them as they are.
-fn settle(q: Messages, table: Table, k: u32, n: u32, r: Request, p: Partition, c: Called) -> Outcome
-    ensures { λ o. ⌜ o ≡ settled table k n r p q c ⌝ }
-{
-    let reply = c.reply;
-    if is_accepted(reply) {
-        let after = c.partition;
-        return Outcome {
-            messages: messages_after(q, table, k, is_restart(n, r)),
-            partition: partition::note(after),
-            reply,
-        };
-    }
-    Outcome {
-        messages: q,
-        partition: p,
-        reply,
+    if (Module::PARTITIONS as u32) < k {
+        9
+    } else {
+        0
     }
 }
 
-// The body of a call by partition k, whose record is p.
-fn body(q: Messages, table: Table, t: u32, k: u32, r: Request, p: Partition, caller: u8) -> Outcome
-    ensures { λ o. ⌜ o ≡ outcomeOf table t k r p caller q ⌝ }
+fn tick_count(table: Table, code: u8, k: u32) -> usize
+    ensures { λ n. ⌜ n ≡ tickCount table code k ⌝ }
 {
-    let call = r.call;
-    let n = fields::number_of(call);
-    if n == 21 {
-        let s = channels::write(q, table, t, k, r);
-        let messages = s.messages;
-        let reply = s.reply;
-        return Outcome {
-            messages,
-            partition: p,
-            reply,
-        };
+    if code != 0 {
+        return 0;
     }
-    if n == 22 {
-        return Outcome {
-            messages: q,
-            partition: p,
-            reply: channels::read(q, table, t, k, r),
-        };
+    if k != 0 {
+        return 0;
     }
-    let context = Context {
-        time: t,
-        frame: table.frame,
-        release: windows::release_point(table, t, k),
-        caller,
-    };
-    settle(q, table, k, n, r, p, services::call(p, context, n, r))
+    ticks::count(table)
 }
 
-// A call by the current partition k, whose record is p: 9, then its body.
-fn act(q: Messages, table: Table, t: u32, k: u32, r: Request, p: Partition) -> Outcome
-    ensures { λ o. ⌜ o ≡ actOf table t k r p q ⌝ }
+// Where partition k lies, past the last for none.
+fn slot_of(k: u32) -> usize
+    ensures { λ i. ⌜ i ≡ slotOf k ⌝ }
 {
-    let caller = partition::running_process(p);
-    if places::has_no_caller(p.mode, caller) {
-        return Outcome {
-            messages: q,
-            partition: p,
-            reply: channels::reply_of(9),
-        };
+    if k == 0 {
+        return Module::PARTITIONS;
     }
-    body(q, table, t, k, r, p, caller)
+    (k - 1) as usize
 }
 
-// ---------------------------------------------------------------- the answer
+fn call_slot(code: u8, k: u32) -> usize
+    ensures { λ i. ⌜ i ≡ callSlot code k ⌝ }
+{
+    if code != 0 {
+        return Module::PARTITIONS;
+    }
+    slot_of(k)
+}
+
 // Whether an event of this partition is shown the running process of partition k.
 fn is_shown(r: Request, k: u8) -> bool
     ensures { λ b. ⌜ b ≡ sees r k ⌝ }
@@ -186,20 +114,42 @@ fn is_shown(r: Request, k: u8) -> bool
     fields::is_number(own, 0) || fields::is_number(own, k as u32)
 }
 
-// Where the partition lies whose running process the event is shown, k being current; past the last for none.
 fn shown_slot(r: Request, k: u8) -> usize
     ensures { λ i. ⌜ i ≡ shownSlot r k ⌝ }
 {
-    if k == 0 {
-        return Module::PARTITIONS;
-    }
     if is_shown(r, k) {
-        (k - 1) as usize
-    } else {
-        Module::PARTITIONS
+        return slot_of(k as u32);
+    }
+    Module::PARTITIONS
+}
+
+fn plan_of(table: Table, t: u32, event: Event) -> Plan
+    ensures { λ x. ⌜ x ≡ planOf table t event ⌝ }
+{
+    let request = fields::request_of(event);
+    let partition = request.partition;
+    let own = fields::number_of(partition);
+    let call = request.call;
+    let a = request.a;
+    let first = places::place_event(table, t, request);
+    let now = windows::lookup_at(table, first.time);
+    let code = call_code(first.code, own, now.partition);
+    Plan {
+        request,
+        own,
+        call: fields::number_of(call),
+        place: channels::place_of(a) as usize,
+        code,
+        time: first.time,
+        current: now.partition,
+        ticks: tick_count(table, code, own),
+        spot: slot_of(now.partition as u32),
+        slot: call_slot(code, own),
+        shown: shown_slot(request, now.partition),
     }
 }
 
+// ---------------------------------------------------------------- the answer
 fn answer_of(reply: Reply, t: u32, current: u8, running: u8) -> Answer
     ensures { λ a. ⌜ a ≡ answerOf reply t current running ⌝ }
 {
@@ -213,6 +163,57 @@ fn answer_of(reply: Reply, t: u32, current: u8, running: u8) -> Answer
         running,
     }
 }
+
+fn no_answer() -> Answer
+    ensures { λ a. ⌜ a ≡ noAnswer ⌝ }
+{
+    answer_of(decisions::reply_with(0), 0, 0, 0)
+}
+
+// ---------------------------------------------------------------- the lent list
+// The numbers of an event, and of its answer.
+const SIX: usize = 6;
+
+fn event_at(list: &[i64], at: usize) -> Event
+    requires { ⌜ at + six ≤ length (now list) ⌝ }
+    ensures { λ e. ⌜ e ≡ eventAt (now (list .entry)) at ⌝ }
+{
+    Event {
+        partition: list[at],
+        call: list[at + 1],
+        a: list[at + 2],
+        b: list[at + 3],
+        c: list[at + 4],
+        e: list[at + 5],
+    }
+}
+
+// -1 is never.
+fn time_number(t: Time) -> i64
+    ensures { λ r. ⌜ r ≡ timeNumber t ⌝ }
+{
+    match t {
+        Time::Never => -1,
+        Time::At(n) => n as i64,
+    }
+}
+
+// Stores code, value, extra, t, current, running.
+fn put_answer(list: &mut [i64], at: usize, a: Answer)
+    requires { ⌜ at + six ≤ length (now list) ⌝ }
+    ensures { λ _. ⌜ now (list .exit) ≡ sets (now (list .entry)) at (answerNumbers a) ⌝ }
+{
+    let extra = a.extra;
+    list[at] = a.code as i64;
+    list[at + 1] = a.value as i64;
+    list[at + 2] = time_number(extra);
+    list[at + 3] = a.t as i64;
+    list[at + 4] = a.current as i64;
+    list[at + 5] = a.running as i64;
+}
+
+// What stands for a running process that has not been looked up.
+const UNKNOWN: u8 = 255;
 
 impl Executive {
     // Reads a table at the front of an input.
@@ -229,45 +230,111 @@ impl Executive {
         }
     }
 
+    // The loop: the events of a lent list, six numbers each, in order; the six of an answer take their place. The module lies in one
+    // local and changes where it lies. It gives the last answer too.
+    fn run_list(self, list: &mut [i64]) -> Turn
+        ensures { λ r. ⌜ (r .executive .inner ≡ afterList (self .inner) (now (list .entry))) × (r .answer ≡ lastAnswer (self .inner) noAnswer (eventsIn (now (list .entry)))) × (now (list .exit) ≡ answeredList (self .inner) (now (list .entry))) ⌝ }
+    {
+        let mut m = self.inner;
+        let table = m.table;
+        let mut runs = [UNKNOWN; Module::PARTITIONS];
+        let mut last = no_answer();
+        let n = list.len() / SIX;
+        let mut i: usize = 0;
+        while i < n {
+            let at = i * SIX;
+            let x = plan_of(table, m.t, event_at(list, at));
+            m.t = x.time;
+            let mut j: usize = 0;
+            while j < x.ticks {
+                if m.partitions[j].soonest <= m.t {
+                    let p = m.partitions[j];
+                    let q = partition::ticked(p, m.t);
+                    m.partitions[j] = q;
+                    runs[j] = UNKNOWN;
+                }
+                j += 1;
+            }
+            let spot = x.spot;
+            if spot < Module::PARTITIONS {
+                if runs[spot] == UNKNOWN {
+                    let p = m.partitions[spot];
+                    runs[spot] = partition::running_process(p);
+                }
+            }
+            let place = x.place;
+            let mut held = decisions::no_message();
+            if place < Module::CHANNELS {
+                held = m.messages[place];
+            }
+            let mut reply = decisions::reply_with(x.code);
+            let slot = x.slot;
+            if slot < Module::PARTITIONS {
+                let request = x.request;
+                let a = request.a;
+                let was = m.partitions[slot];
+                let context = Context {
+                    time: m.t,
+                    frame: table.frame,
+                    release: windows::release_point(table, m.t, x.own),
+                    caller: runs[slot],
+                };
+                let port = channels::port_at(table, x.own, a, held);
+                let d = services::call(was, context, port, x.call, request);
+                reply = decisions::reply_of(d);
+                let put = decisions::written_at(d);
+                if decisions::does_change(d) {
+                    let q = partition::after(was, d);
+                    m.partitions[slot] = q;
+                    runs[slot] = partition::running_process(q);
+                    if decisions::is_restart(d) {
+                        let items = m.messages;
+                        let e = channels::erase_into(Messages { items }, table, x.own);
+                        let kept = e.items;
+                        m.messages = kept;
+                    }
+                } else if put < Module::CHANNELS {
+                    let message = decisions::message_of(d);
+                    m.messages[put] = message;
+                }
+            }
+            let shown = x.shown;
+            let mut running: u8 = 0;
+            if shown < Module::PARTITIONS {
+                running = runs[shown];
+            }
+            last = answer_of(reply, m.t, x.current, running);
+            put_answer(list, at, last);
+            i += 1;
+        }
+        let executive = Executive { inner: m };
+        Turn {
+            executive,
+            answer: last,
+        }
+    }
+
+    // The events of a lent list, six numbers each, in order; the six of an answer take their place.
+    pub fn run(self, list: &mut [i64]) -> Executive
+        ensures { λ r. ⌜ (r .inner ≡ afterList (self .inner) (now (list .entry))) × (now (list .exit) ≡ answeredList (self .inner) (now (list .entry))) ⌝ }
+    {
+        let r = self.run_list(list);
+        r.executive
+    }
+
     // One event.
     pub fn step(self, event: Event) -> Turn
         ensures { λ x. ⌜ x ≡ turned (step (self .inner) event) ⌝ }
     {
-        let r = fields::request_of(event);
-        let own = r.partition;
-        let k = fields::number_of(own);
-        let mut m = self.inner;
-        let table = m.table;
-        let placed = event_places(table, m.t, k, r);
-        let now = windows::lookup_at(table, placed.time);
-        let mut reply = channels::reply_of(call_places(placed.code, k, now.partition));
-        if reply.code == 0 {
-            if k == 0 {
-                m.t = placed.time;
-                if ticks::is_any_due(m) {
-                    m = ticks::tick_partitions(m);
-                }
-            } else {
-                let i = (k - 1) as usize;
-                let items = m.messages;
-                let o = act(Messages { items }, table, m.t, k, r, m.partitions[i]);
-                let messages = o.messages;
-                let kept = messages.items;
-                let p = o.partition;
-                let said = o.reply;
-                m.messages = kept;
-                m.partitions[i] = p;
-                reply = said;
-            }
-        }
-        let shown = shown_slot(r, now.partition);
-        let mut running: u8 = 0;
-        if shown < Module::PARTITIONS {
-            running = partition::running_process(m.partitions[shown]);
-        }
-        let executive = Executive { inner: m };
-        let answer = answer_of(reply, m.t, now.partition, running);
-        Turn { executive, answer }
+        let mut list = [
+            event.partition,
+            event.call,
+            event.a,
+            event.b,
+            event.c,
+            event.e,
+        ];
+        self.run_list(&mut list)
     }
 
     // The whole record.

@@ -2,3 +2,4 @@ pub mod Signed
 pub mod Reading
 pub mod Writing
 pub mod Parts
+pub mod Scan

@@ -1,129 +1,29 @@
 -- Reading: what each loop of the reader has done.
 -- Assumes nothing.
-use Prim.Native.Nat.{ℕ, suc, _+_, _-_, _*_, _/_, _^_, _≤_, _<_}
+use Prim.Native.Nat.{ℕ, suc, _+_, _-_, _*_, _≤_, _<_}
 use mathlib.Core.Path.{_≡_, refl, sym, _∙_, ap}
-use mathlib.Core.Bool.{Bool, true, false, cond, _&&_, and-comm, and-assoc, and-true}
+use mathlib.Core.Bool.{Bool, true, false, cond, and-true}
 use mathlib.Core.List.{List, [], _∷_, _++_, append-assoc, append-nil}
 use native.Mathlib.Omega.{arith}
-use native.Mathlib.Nat.{pow-succ', pow-le-pow-right}
 use native.Mathlib.Numerals.{add-one}
 use lib.ListN.{length, getD, take, drop, set, drop-of-length-le}
-use lib.Seq.{take-suc, take-suc-set, take-all, drop-cons, drop-drop, length-take-le}
-use lib.Dec.{eqb, leb, lit<}
-use borrow.Author.Tests.{eq-eqb, ne-eqb, le-leb, lt-leb, leb-true}
+use lib.Seq.{take-suc-set, take-all, drop-cons, drop-drop}
+use lib.Dec.{eqb, leb}
+use borrow.Author.Tests.{eq-eqb, ne-eqb, le-leb, leb-true}
 use mathlib.Core.Option.{Option, none, some}
-use lib.IntN.{ℤ, pos, negsuc}
+use lib.IntN.{ℤ, pos}
 use mir.Syntax.{w64}
 use mir.Val.{toZ, ofZ}
-use mir.ValLaws.{toZ-pos}
 use Rattle.machine.specs.declared.Line.the-variants.{Six, Bad}
-use Rattle.machine.specs.Limits.{numberLimit, lineLength}
-use Rattle.machine.specs.Line.{lineFeed, space, minus, zeroDigit, base, fieldWidth, inRange, column, markAfter, columns, lastDigit, numberText, fieldText, sameBytes, spelled, candidate, readField, joined, fieldCount, readNumbers, readLine, firstLength, lineEnd}
-use Rattle.machine.proofs.TextField.{columns-length, columns-more, columns-none, read-field}
+use Rattle.machine.specs.Limits.{lineLength}
+use Rattle.machine.specs.Line.{lineFeed, fieldWidth, sameBytes, readField, joined, fieldCount, readNumbers, readLine, firstLength, lineEnd}
+use Rattle.machine.proofs.TextField.{read-field}
 use Rattle.machine.proofs.TextLine.{reads-more, reads-none, read-line}
 use Rattle.line.proofs.Signed.{range-back, ranges-back}
 use Rattle.line.specs.declared.Found.{Found}
 use Rattle.line.specs.declared.Found.the-variants.{Number, Nothing}
 use Rattle.line.specs.Found.{foundOf}
 use Rattle.machine.proofs.Bounds.{either}
-
--- ---------------------------------------------------------------- the number that columns spell
-pub spelled-more : (l : List ℕ) (i v d r : ℕ) → i < length l → d ≡ getD l i 0 - zeroDigit → spelled (drop i l) v ≡ r
-    → spelled (drop (i + 1) l) (v * base + d) ≡ r
-unfolding spelled
-spelled-more l i v d r h e q = rw (add-one, e) (ap (λ (x : List ℕ). spelled x v) (sym (drop-cons l i 0 h)) ∙ q)
-
-pub spelled-end : (l : List ℕ) (i v r : ℕ) → length l ≤ i → spelled (drop i l) v ≡ r → v ≡ r
-unfolding spelled
-spelled-end l i v r h q = rw (drop-of-length-le l h) at q
-
--- a byte less the digit 0 is below 9 × 23, so v stays below 23 × 10 ^ i
-pub spelled-bound : (i v d : ℕ) → d ≤ 207 → v + 23 ≤ 23 * base ^ i → v * base + d + 23 ≤ 23 * base ^ (i + 1)
-spelled-bound i v d hd h = let p : base ^ (i + 1) ≡ base * base ^ i = rw add-one (pow-succ' base i) in omega arith
-
-pub spelled-fits : (i v : ℕ) → i < fieldWidth → v + 23 ≤ 23 * base ^ i → v ≤ 23 * base ^ (fieldWidth - 1)
-spelled-fits i v hi h =
-    let p : base ^ i ≤ base ^ (fieldWidth - 1) = pow-le-pow-right (lit< tt) {i = i} {j = fieldWidth - 1} (omega arith) in
-    omega arith
-
--- ---------------------------------------------------------------- columns compared from the right
-same-last : (l m : List ℕ) (a b : ℕ) → length l ≡ length m → sameBytes (l ++ (a ∷ [])) (m ++ (b ∷ [])) ≡ (eqb a b && sameBytes l m)
-unfolding sameBytes
-same-last [] [] a b h = refl
-same-last [] (y ∷ m) a b h = absurd (omega arith)
-same-last (x ∷ l) [] a b h = absurd (omega arith)
-same-last (x ∷ l) (y ∷ m) a b h =
-    rw (same-last l m a b (omega arith))
-    (sym (and-assoc (eqb x y) (eqb a b) (sameBytes l m))
-    ∙ ap (λ (t : Bool). t && sameBytes l m) (and-comm (eqb x y) (eqb a b))
-    ∙ and-assoc (eqb a b) (eqb x y) (sameBytes l m))
-
--- the first j bytes against j columns, of which b is the last
-module _ (l : List ℕ) (j rest mark b x : ℕ) (r : Bool) (h : 0 < j) (k : j ≤ length l) (q : x ≡ b) (s : sameBytes (take j l) (columns (j - 1) rest mark ++ (b ∷ [])) ≡ r) where
-  split : sameBytes (take j l) (columns (j - 1) rest mark ++ (b ∷ [])) ≡ (eqb (getD l (j - 1) 0) b && sameBytes (take (j - 1) l) (columns (j - 1) rest mark))
-  split =
-      let n : j ≡ suc (j - 1) = omega arith in
-      ap (λ (i : ℕ). sameBytes (take i l) (columns (j - 1) rest mark ++ (b ∷ []))) n
-      ∙ rw (take-suc l (j - 1) 0 (omega arith))
-      (same-last (take (j - 1) l) (columns (j - 1) rest mark) (getD l (j - 1) 0) b (length-take-le (j - 1) l (omega arith) ∙ sym (columns-length (j - 1) rest mark)))
-
-  differs : (getD l (j - 1) 0 ≡ x → ⊥) → false ≡ r
-  differs n = rw (ne-eqb (getD l (j - 1) 0) b (λ p. n (p ∙ sym q))) at (sym split ∙ s)
-
-  agrees : getD l (j - 1) 0 ≡ x → sameBytes (take (j - 1) l) (columns (j - 1) rest mark) ≡ r
-  agrees p = rw (eq-eqb (getD l (j - 1) 0) b (p ∙ q)) at (sym split ∙ s)
-
--- a number's last column, then the columns left of it
-module _ (l : List ℕ) (magnitude sign x : ℕ) (h : length l ≡ fieldWidth) (q : x ≡ lastDigit magnitude) where
-  whole : sameBytes (take fieldWidth l) (columns (fieldWidth - 1) (magnitude / base) sign ++ (lastDigit magnitude ∷ [])) ≡ sameBytes l (numberText magnitude sign)
-  unfolding numberText
-  whole = rw (take-all fieldWidth l (omega arith))
-
-  pub number-differs : (getD l (fieldWidth - 1) 0 ≡ x → ⊥) → false ≡ sameBytes l (numberText magnitude sign)
-  number-differs = differs l fieldWidth (magnitude / base) sign _ x _ (omega arith) (omega arith) q whole
-
-  pub number-agrees : getD l (fieldWidth - 1) 0 ≡ x → sameBytes (take (fieldWidth - 1) l) (columns (fieldWidth - 1) (magnitude / base) sign) ≡ sameBytes l (numberText magnitude sign)
-  number-agrees = agrees l fieldWidth (magnitude / base) sign _ x _ (omega arith) (omega arith) q whole
-
--- one more column
-module _ (l : List ℕ) (j rest mark x : ℕ) (r : Bool) (h : 0 < j) (k : j ≤ length l) (q : x ≡ column rest mark) (s : sameBytes (take j l) (columns j rest mark) ≡ r) where
-  pub column-differs : (getD l (j - 1) 0 ≡ x → ⊥) → false ≡ r
-  column-differs = differs l j (rest / base) (markAfter rest mark) _ x r h k q (rw (columns-more j rest mark h) at s)
-
-  pub column-agrees : (y : ℕ) → y ≡ markAfter rest mark → getD l (j - 1) 0 ≡ x → sameBytes (take (j - 1) l) (columns (j - 1) (rest / base) y) ≡ r
-  column-agrees y w n = rw w (agrees l j (rest / base) (markAfter rest mark) _ x r h k q (rw (columns-more j rest mark h) at s) n)
-
--- none left
-pub columns-agree : (l : List ℕ) (j rest mark : ℕ) (r : Bool) → j ≤ 0 → sameBytes (take j l) (columns j rest mark) ≡ r → true ≡ r
-unfolding sameBytes
-columns-agree l j rest mark r h s = let z : j ≡ 0 = omega arith in rw (columns-none j rest mark h, z) at s
-
--- ---------------------------------------------------------------- a field
-candidate-by : (bs : List ℕ) (a : Bool) → a ≡ sameBytes bs (numberText 1 minus) → candidate bs ≡ cond a (negsuc 0) (pos (spelled bs 0))
-unfolding candidate fieldText
-candidate-by bs a d = rw d
-
-pub minus-found : (bs : List ℕ) (a : Bool) → a ≡ sameBytes bs (numberText 1 minus) → a ≡ true → Number (negsuc 0) ≡ foundOf (readField bs)
-unfolding readField inRange fieldText
-minus-found bs a d t = rw (candidate-by bs a d, t, sym d ∙ t)
-
--- columns that are not −1's
-module _ (bs : List ℕ) (a : Bool) (d : a ≡ sameBytes bs (numberText 1 minus)) (f : a ≡ false) (v : ℕ) (ev : v ≡ spelled bs 0) where
-  plain : candidate bs ≡ pos v
-  plain = rw (candidate-by bs a d, f, ev)
-
-  pub large-found : numberLimit < v → Nothing ≡ foundOf (readField bs)
-  unfolding readField inRange
-  large-found h = rw (plain, lt-leb v numberLimit h)
-
-  module _ (h : v ≤ numberLimit) (b : Bool) (e : b ≡ sameBytes bs (numberText v space)) where
-    pub number-found : b ≡ true → Number (toZ w64 v) ≡ foundOf (readField bs)
-    unfolding readField inRange fieldText
-    number-found t = rw (plain, le-leb v numberLimit h, sym e ∙ t) (ap Number (toZ-pos w64 v (omega arith)))
-
-    pub nothing-found : b ≡ false → Nothing ≡ foundOf (readField bs)
-    unfolding readField inRange fieldText
-    nothing-found t = rw (plain, le-leb v numberLimit h, sym e ∙ t)
 
 -- ---------------------------------------------------------------- where a line ends
 module _ (l : List ℕ) (i r : ℕ) (e : lineEnd l i ≡ r) where

@@ -1,7 +1,7 @@
 -- Writing: what each loop of the writer has stored.
 -- Assumes nothing.
-use Prim.Native.Nat.{ℕ, suc, _+_, _-_, _*_, _/_, _≤_, _<_}
-use mathlib.Core.Path.{_≡_, sym, _∙_, ap}
+use Prim.Native.Nat.{ℕ, zero, suc, _+_, _-_, _*_, _/_, _≤_, _<_}
+use mathlib.Core.Path.{_≡_, refl, sym, _∙_, ap}
 use mathlib.Core.List.{List, [], _∷_, _++_, append-nil}
 use native.Mathlib.Omega.{arith}
 use native.Mathlib.Nat.{add-zero, zero-add}
@@ -9,14 +9,17 @@ use native.Mathlib.Numerals.{add-one}
 use mathlib.Core.Bool.{Bool, true, false, not, _&&_, and-false, and-eq-true-iff}
 use lib.IntN.{ℤ, pos}
 use lib.ListN.{length, getD, set, take, drop, length-drop, drop-of-length-le}
-use lib.Seq.{sets, sets-eq, set-comm, drop-cons, take-all}
-use borrow.Author.Tests.{not-true, not-false, le-leb, lt-leb}
+use lib.Seq.{sets, sets-eq, set-comm, set-set, set-getD, getD-set-same, getD-set-other, drop-cons, take-all}
+use lib.Dec.{eqb}
+use borrow.Author.Tests.{not-true, not-false, le-leb, lt-leb, eqb-true, eqb-false, eq-eqb, ne-eqb}
 use borrow.Rule.Slice.PartMut.{putMid}
 use Rattle.machine.specs.declared.Numbers.{Numbers}
 use Rattle.machine.specs.Limits.{lineLength}
-use Rattle.machine.specs.Line.{base, fieldWidth, column, markAfter, columns, lastDigit, numberText, fieldText, lineText, lineFeed, inRange, allInRange, numberList, lineRefusal, canWrite, writeCode, written, writtenAt}
+use Rattle.machine.specs.Line.{space, base, fieldWidth, column, markAfter, columns, lastDigit, numberText, fieldText, lineText, lineFeed, inRange, allInRange, numberList, lineRefusal, canWrite, writeCode, written, writtenAt}
 use Rattle.machine.proofs.TextField.{columns-length, columns-more, columns-none, field-length}
 use Rattle.machine.proofs.TextLine.{six-length}
+use Rattle.machine.proofs.Bounds.{either}
+use Rattle.line.specs.Blank.{Blank, Alike}
 use Rattle.line.proofs.Parts.{tail-is, tail-put}
 
 -- the last of a run of stores, made first
@@ -127,3 +130,56 @@ pub tail-written : (out : List ℕ) (at : ℕ) (n : Numbers) (x : ℕ) (m : List
 tail-written out at n x m e =
     let p = rw (tail-is at out) at e in
     (rw length-drop at (p .0), tail-put at out m ∙ ap (λ (l : List ℕ). take at out ++ l) (p .1))
+
+-- ---------------------------------------------------------------- over spaces
+-- a byte that is stored over
+pub sets-over : (l : List ℕ) (at k x : ℕ) (m : List ℕ) → k < length m → sets (set l (at + k) x) at m ≡ sets l at m
+sets-over l at k x [] h = absurd (omega arith)
+sets-over l at zero x (c ∷ m) h = rw add-zero (ap (λ (r : List ℕ). sets r (suc at) m) (set-set l at x c))
+sets-over l at (suc k) x (c ∷ m) h =
+    ap (λ (r : List ℕ). sets r (suc at) m)
+    (set-comm l (at + suc k) at x c (λ e. omega arith) ∙ ap (λ (i : ℕ). set (set l at c) i x) (omega arith))
+    ∙ sets-over (set l at c) (suc at) k x m (omega arith)
+
+pub alike-more : (n k x : ℕ) (l o : List ℕ) → k < n → Alike n l o → Alike n (set l k x) o
+alike-more n k x l o h a m w = let e : 0 + k ≡ k = omega arith in rw e at (sets-over l 0 k x m (omega arith)) ∙ a m w
+
+pub blank-more : (l : List ℕ) (k : ℕ) → k < length l → Blank l 0 k → Blank (set l k space) 0 (k + 1)
+blank-more l k h b i lo hi =
+    either (eqb i k)
+    (λ t. rw (eqb-true i k t) (getD-set-same l k space 0 h))
+    (λ t. let n = eqb-false i k t in getD-set-other l k i space 0 n ∙ b i lo (omega (arith, n)))
+
+pub blank-less : (l : List ℕ) (at j x : ℕ) → Blank l at (at + j) → Blank (set l (at + (j - 1)) x) at (at + (j - 1))
+blank-less l at j x b i lo hi = getD-set-other l (at + (j - 1)) i x 0 (λ e. omega arith) ∙ b i lo (omega arith)
+
+pub past-stores : (l : List ℕ) (at : ℕ) (m : List ℕ) (k : ℕ) → at + length m ≤ k → getD (sets l at m) k 0 ≡ getD l k 0
+past-stores l at [] k h = refl
+past-stores l at (c ∷ m) k h = past-stores (set l at c) (suc at) m k (omega arith) ∙ getD-set-other l at k c 0 (λ e. omega arith)
+
+pub blank-stored : (l : List ℕ) (at n : ℕ) → Blank l at (at + n) → sets l at (columns n 0 space) ≡ l
+unfolding columns column markAfter
+blank-stored l at zero b = refl
+blank-stored l at (suc n) b =
+    let d : getD l (at + n) 0 ≡ space = b (at + n) (omega arith) (omega arith) in
+    let e : set l (at + n) space ≡ l = ap (set l (at + n)) (sym d) ∙ set-getD l (at + n) 0 in
+    sym (sets-first l at n (columns n 0 space) space space (columns-length n 0 space) refl)
+    ∙ rw e (blank-stored l at n (λ k lo hi. b k lo (omega arith)))
+
+module _ (l : List ℕ) (at j rest sign : ℕ) (r : List ℕ) (h : 0 < j) (s : sets l at (columns j rest sign) ≡ r) where
+  -- one more digit stored
+  pub digit-stored : (x : ℕ) → 0 < rest → x ≡ lastDigit rest → sets (set l (at + (j - 1)) x) at (columns (j - 1) (rest / base) sign) ≡ r
+  unfolding column markAfter
+  digit-stored x n q =
+      let e : eqb rest 0 ≡ false = ne-eqb rest 0 (λ z. omega arith) in
+      column-stored l at j rest sign x sign r h (rw e q) (rw e) s
+
+  -- the mark stored, where no digit is left: spaces stand further left
+  pub mark-stored : rest ≤ 0 → Blank l at (at + j) → set l (at + (j - 1)) sign ≡ r
+  unfolding column markAfter
+  mark-stored n b =
+      let z : rest ≡ 0 = omega arith in
+      let d : rest / base ≡ 0 = omega arith in
+      let e : eqb rest 0 ≡ true = eq-eqb rest 0 z in
+      sym (blank-stored (set l (at + (j - 1)) sign) at (j - 1) (blank-less l at j sign b))
+      ∙ rw d at (column-stored l at j rest sign sign space r h (rw e) (rw e) s)

@@ -6,8 +6,10 @@ ghost use lib.ListN.{length, getD, take, drop};
 ghost use lib.Seq.{sets};
 ghost use lib.IntN.{pos};
 ghost use Rattle.machine.specs.Limits.{lineLength};
-ghost use Rattle.machine.specs.Line.{zeroDigit, fieldWidth, inRange, column, markAfter, lastDigit, numberText, fieldText, lineText, sameBytes, spelled, readField, numberList, readLine, readAt, allInRange, writeCode, written, writtenAt, lineEnd};
+ghost use Rattle.machine.specs.Line.{fieldWidth, inRange, lastDigit, numberText, fieldText, lineText, readField, numberList, readLine, readAt, allInRange, writeCode, written, writtenAt, lineEnd};
 ghost use Rattle.line.specs.Found.{foundOf};
+ghost use Rattle.line.specs.Scan.{digitsFrom, numberFrom, firstFrom};
+ghost use Rattle.line.specs.Blank.{fieldsLength, Blank, Alike};
 use machine::Line;
 use machine::Module;
 use machine::Numbers;
@@ -30,27 +32,6 @@ enum Found {
     Nothing,
 }
 
-// What a byte is worth as a digit: nothing below '0'.
-fn digit(b: u8) -> u64
-    ensures { λ r. ⌜ r ≡ b - zeroDigit ⌝ }
-{
-    if b < b'0' { 0 } else { (b - b'0') as u64 }
-}
-
-// The number that a field's columns spell, each taken as a digit.
-fn value(s: &[u8]) -> u64
-    requires { ⌜ length (now s) ≡ fieldWidth ⌝ }
-    ensures { λ r. ⌜ r ≡ spelled (now (s .entry)) 0 ⌝ }
-{
-    let mut v: u64 = 0;
-    let mut i: usize = 0;
-    while i < WIDTH {
-        v = v * BASE + digit(s[i]);
-        i += 1;
-    }
-    v
-}
-
 // The byte of a number's last digit.
 fn last_digit(n: u64) -> u8
     ensures { λ r. ⌜ r ≡ lastDigit n ⌝ }
@@ -58,65 +39,76 @@ fn last_digit(n: u64) -> u8
     b'0' + (n % BASE) as u8
 }
 
-// A column further left: a digit of what is left of the number, or the mark where nothing is left.
-fn column_of(rest: u64, mark: u8) -> u8
-    ensures { λ r. ⌜ r ≡ column rest mark ⌝ }
+// What digits to the field's end spell.
+fn digits(s: &[u8], from: usize) -> Found
+    requires { ⌜ (length (now s) ≡ fieldWidth) × (from ≤ fieldWidth) ⌝ }
+    ensures { λ r. ⌜ r ≡ digitsFrom (drop from (now (s .entry))) 0 ⌝ }
 {
-    if rest == 0 {
-        return mark;
-    }
-    last_digit(rest)
-}
-
-// The mark of the columns further left: a minus stands once.
-fn mark_after(rest: u64, mark: u8) -> u8
-    ensures { λ r. ⌜ r ≡ markAfter rest mark ⌝ }
-{
-    if rest == 0 {
-        return b' ';
-    }
-    mark
-}
-
-// Whether a field's columns are the text of a number, compared from the right.
-fn same(s: &[u8], magnitude: u64, sign: u8) -> bool
-    requires { ⌜ length (now s) ≡ fieldWidth ⌝ }
-    ensures { λ r. ⌜ r ≡ sameBytes (now (s .entry)) (numberText magnitude sign) ⌝ }
-{
-    let mut j = WIDTH - 1;
-    if s[j] != last_digit(magnitude) {
-        return false;
-    }
-    let mut rest = magnitude / BASE;
-    let mut mark = sign;
-    while 0 < j {
-        j -= 1;
-        if s[j] != column_of(rest, mark) {
-            return false;
+    let mut v: u64 = 0;
+    let mut i = from;
+    while i < WIDTH {
+        let b = s[i];
+        if b < b'0' {
+            return Found::Nothing;
         }
-        mark = mark_after(rest, mark);
-        rest = rest / BASE;
+        if b'9' < b {
+            return Found::Nothing;
+        }
+        v = v * BASE + (b - b'0') as u64;
+        i += 1;
     }
-    true
+    Found::Number(v as i64)
 }
 
-// What a field's columns hold: the number that they can be the text of, if they are its text.
+// What the columns hold from the first byte on that is no space: a minus stands before a 1 alone, a 0 stands alone.
+fn number_from(s: &[u8], at: usize) -> Found
+    requires { ⌜ (length (now s) ≡ fieldWidth) × (at + 1 ≤ fieldWidth) ⌝ }
+    ensures { λ r. ⌜ r ≡ numberFrom (drop at (now (s .entry))) ⌝ }
+{
+    let b = s[at];
+    if b == b'-' {
+        if at != WIDTH - 2 {
+            return Found::Nothing;
+        }
+        if s[WIDTH - 1] != b'1' {
+            return Found::Nothing;
+        }
+        return Found::Number(-1);
+    }
+    if b == b'0' {
+        if at < WIDTH - 1 {
+            return Found::Nothing;
+        }
+        return Found::Number(0);
+    }
+    digits(s, at)
+}
+
+// The first column past the first one that has no space; the last column where none before it has.
+fn first(s: &[u8]) -> usize
+    requires { ⌜ length (now s) ≡ fieldWidth ⌝ }
+    ensures { λ r. ⌜ (r + 1 ≤ fieldWidth) × (numberFrom (drop r (now (s .entry))) ≡ firstFrom (drop 1 (now (s .entry)))) ⌝ }
+{
+    let mut i: usize = 1;
+    while i < WIDTH - 1 {
+        if s[i] != b' ' {
+            return i;
+        }
+        i += 1;
+    }
+    WIDTH - 1
+}
+
+// What a field's columns hold, read once from the left: no number in range fills the first column.
 fn field(s: &[u8]) -> Found
     requires { ⌜ length (now s) ≡ fieldWidth ⌝ }
     ensures { λ r. ⌜ r ≡ foundOf (readField (now (s .entry))) ⌝ }
 {
-    if same(s, 1, b'-') {
-        return Found::Number(-1);
-    }
-    let v = value(s);
-    if v > Module::NUMBER as u64 {
+    if s[0] != b' ' {
         return Found::Nothing;
     }
-    if same(s, v, b' ') {
-        Found::Number(v as i64)
-    } else {
-        Found::Nothing
-    }
+    let at = first(s);
+    number_from(s, at)
 }
 
 // What the field from `at` on holds.
@@ -225,25 +217,43 @@ fn all_in_range(n: Numbers) -> bool
     true
 }
 
-// The text of a number, from the right, each digit straight into its column.
+// Spaces where the fields are to stand.
+fn put_spaces(out: &mut [u8])
+    requires { ⌜ fieldsLength ≤ length (now out) ⌝ }
+    ensures { λ _. ⌜ (length (now (out .exit)) ≡ length (now (out .entry))) × Blank (now (out .exit)) 0 fieldsLength × Alike fieldsLength (now (out .exit)) (now (out .entry)) ⌝ }
+{
+    let mut k: usize = 0;
+    while k < Module::LINE - 1 {
+        out[k] = b' ';
+        k += 1;
+    }
+}
+
+// The text of a number over spaces, from the right, each digit straight into its column.
 fn put_number(out: &mut [u8], at: usize, magnitude: u64, sign: u8)
-    requires { ⌜ at + fieldWidth ≤ length (now out) ⌝ }
+    requires { ⌜ (at + fieldWidth ≤ length (now out)) × Blank (now out) at (at + fieldWidth) ⌝ }
     ensures { λ _. ⌜ now (out .exit) ≡ sets (now (out .entry)) at (numberText magnitude sign) ⌝ }
 {
     let mut j = WIDTH - 1;
     out[at + j] = last_digit(magnitude);
     let mut rest = magnitude / BASE;
-    let mut mark = sign;
-    while 0 < j {
+    while 0 < rest {
+        if j == 0 {
+            return;
+        }
         j -= 1;
-        out[at + j] = column_of(rest, mark);
-        mark = mark_after(rest, mark);
+        out[at + j] = last_digit(rest);
         rest = rest / BASE;
     }
+    if j == 0 {
+        return;
+    }
+    j -= 1;
+    out[at + j] = sign;
 }
 
 fn put_field(out: &mut [u8], at: usize, x: i64)
-    requires { ⌜ (at + fieldWidth ≤ length (now out)) × (inRange x ≡ true) ⌝ }
+    requires { ⌜ (at + fieldWidth ≤ length (now out)) × Blank (now out) at (at + fieldWidth) × (inRange x ≡ true) ⌝ }
     ensures { λ _. ⌜ now (out .exit) ≡ sets (now (out .entry)) at (fieldText x) ⌝ }
 {
     if x == -1 {
@@ -258,6 +268,7 @@ fn put_line(out: &mut [u8], n: Numbers)
     requires { ⌜ (lineLength ≤ length (now out)) × (allInRange (numberList n) ≡ true) ⌝ }
     ensures { λ _. ⌜ now (out .exit) ≡ sets (now (out .entry)) 0 (lineText (numberList n)) ⌝ }
 {
+    put_spaces(out);
     let mut i: usize = 0;
     while i < FIELDS {
         put_field(out, i * WIDTH, number(n, i));

@@ -1,6 +1,7 @@
 -- Two modules that agree on a set of partitions, and what each way of changing a module keeps of that. Assumes nothing.
 use Prim.Native.Nat.{ℕ, zero, suc, _+_, _-_}
 use mathlib.Core.Path.{_≡_, refl, sym, ap, ap₂, _∙_}
+use mathlib.Core.List.{List}
 use mathlib.Core.Bool.{Bool, true, false, cond}
 use lib.ListN.{length, length-set}
 use lib.Seq.{getD-set-other}
@@ -11,9 +12,10 @@ use Rattle.machine.specs.declared.Table.{Table}
 use Rattle.machine.specs.declared.Message.{Message}
 use Rattle.machine.specs.declared.Module.{Module}
 use Rattle.machine.specs.Partition.{noted, tickPartition}
-use Rattle.machine.specs.Module.{part, message, channel, withPart, withMessage, withTime, noMessage}
+use Rattle.machine.specs.Module.{part, message, channel, withPart, withMessages, withMessage, withTime}
+use Rattle.machine.specs.Decisions.{noMessage}
 use Rattle.machine.specs.Ticks.{dueAt, tickAt, tickTo}
-use Rattle.machine.specs.Channels.{leadsInto, erasedTo}
+use Rattle.machine.specs.Channels.{leadsInto, keptTo, erasedTo}
 use Rattle.machine.proofs.Tests.{by-test, by-tests, set-both, not-both}
 
 pub record Agree (T : Table) (S : ℕ → Bool) (m n : Module) : Type 0 where
@@ -108,20 +110,20 @@ module _ (T : Table) (S : ℕ → Bool) where
   tick-both (suc k) m n a = tick-at-both k (tickTo k m) (tickTo k n) (tick-both k m n a)
 
   pub erase-both : (k c : ℕ) (m n : Module) → Agree T S m n → Agree T S (erasedTo k c m) (erasedTo k c n)
-  unfolding erasedTo
+  unfolding keptTo
   erase-both k zero m n a = a
   erase-both k (suc c) m n a =
       let h = erase-both k c m n a in
       let q : m .table ≡ n .table = a .left ∙ sym (a .right) in
-      by-tests (Agree T S) (leadsInto k (channel (m .table) c)) (leadsInto k (channel (n .table) c)) (cc)
+      by-tests (λ (x y : List Message). Agree T S (withMessages x m) (withMessages y n)) (leadsInto k (channel (m .table) c)) (leadsInto k (channel (n .table) c)) (cc)
       (λ q. message-both (erasedTo k c m) (erasedTo k c n) c noMessage noMessage h (λ s. refl))
       (λ q. h)
 
   pub erase-free : (k c : ℕ) (m n : Module) → Agree T S m n → S k ≡ false → Agree T S (erasedTo k c m) n
-  unfolding erasedTo
+  unfolding keptTo
   erase-free k zero m n a f = a
   erase-free k (suc c) m n a f =
       let h = erase-free k c m n a f in
-      by-test (λ (x : Module). Agree T S x n) (leadsInto k (channel (m .table) c))
+      by-test (λ (x : List Message). Agree T S (withMessages x m) n) (leadsInto k (channel (m .table) c))
       (λ q. message-free (erasedTo k c m) n c noMessage h (ap (λ (x : Table). S (channel x c .destination)) (sym (a .left)) ∙ ap S (eqb-true _ _ q) ∙ f))
       (λ q. h)

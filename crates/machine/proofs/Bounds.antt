@@ -1,5 +1,5 @@
 -- What a test settles, and what an id inside its limit names, and one outside. Assumes nothing.
-use Prim.Native.Nat.{ℕ, _+_, _-_, _≤_, _<_}
+use Prim.Native.Nat.{ℕ, _+_, _-_, _≤_, _<_, max}
 use mathlib.Core.Path.{_≡_, refl, ap, _∙_}
 use mathlib.Core.Bool.{Bool, true, false, cond, _&&_, _||_, and-false}
 use mathlib.Core.List.{List}
@@ -10,13 +10,14 @@ use lib.Seq.{getD-set-same, getD-set-other, set-getD}
 use lib.Dec.{eqb, ltb, leb}
 use borrow.Author.Tests.{lt-ltb, le-ltb, le-leb, lt-leb, ltb-true, ltb-false, leb-true, eqb-true, eqb-false}
 use Rattle.machine.specs.declared.Process.{Process}
+use Rattle.machine.specs.declared.Semaphore.{Semaphore as SemaphoreT}
+use Rattle.machine.specs.declared.EventState.{EventState}
 use Rattle.machine.specs.declared.Partition.{Partition}
 use Rattle.machine.specs.Limits.{processLimit, semaphoreLimit, eventLimit}
 use Rattle.machine.specs.Ids.{follow}
 use Rattle.machine.specs.Process.{blankProcess, ready, onObject}
-use Rattle.machine.specs.Partition.{within, byId, replaced, noSemaphore, noEvent, withSemaphores, withEvents, withProcesses, stored}
-use Rattle.machine.specs.Calls.{unknown}
-use Rattle.machine.specs.Objects.{withValue, withUp}
+use Rattle.machine.specs.Partition.{within, byId, replaced, withSemaphores, withEvents, withProcesses, stored, created, storedSemaphore, storedEvent}
+use Rattle.machine.specs.Decisions.{unknown}
 use Rattle.machine.proofs.Tests.{by-test, or-left, or-right, and-left, and-right}
 
 -- ---------------------------------------------------------------- tests
@@ -134,19 +135,28 @@ module _ (id : ℕ) (x : Process) (p : Partition) where
   unfolding stored
   stored-out h = rw h
 
-module _ (k : ℕ) (p : Partition) where
-  pub value-in : (n : ℕ) → within semaphoreLimit k ≡ true → withValue k n p ≡ (let s = getD (p .semaphores) (k - 1) noSemaphore in withSemaphores (set (p .semaphores) (k - 1) (record { name = s .name; value = n; max = s .max })) (p .semaphoreCount) p)
-  unfolding withValue byId replaced
-  value-in n h = rw h
+  pub created-in : within processLimit id ≡ true → created id x p ≡ withProcesses (set (p .processes) (id - 1) x) (max (p .processCount) id) (p .arrival) (p .waiting) p
+  unfolding created replaced
+  created-in h = rw h
 
-  pub value-out : (n : ℕ) → within semaphoreLimit k ≡ false → withValue k n p ≡ p
-  unfolding withValue byId replaced
-  value-out n h = rw h
+  pub created-out : within processLimit id ≡ false → created id x p ≡ p
+  unfolding created
+  created-out h = rw h
 
-  pub up-in : (b : Bool) → within eventLimit k ≡ true → withUp k b p ≡ withEvents (set (p .events) (k - 1) (record { name = getD (p .events) (k - 1) noEvent .name; up = b })) (p .eventCount) p
-  unfolding withUp byId replaced
-  up-in b h = rw h
+module _ (k : ℕ) (s : SemaphoreT) (p : Partition) where
+  pub semaphore-in : within semaphoreLimit k ≡ true → storedSemaphore k s p ≡ withSemaphores (set (p .semaphores) (k - 1) s) (max (p .semaphoreCount) k) p
+  unfolding storedSemaphore replaced
+  semaphore-in h = rw h
 
-  pub up-out : (b : Bool) → within eventLimit k ≡ false → withUp k b p ≡ p
-  unfolding withUp byId replaced
-  up-out b h = rw h
+  pub semaphore-out : within semaphoreLimit k ≡ false → storedSemaphore k s p ≡ p
+  unfolding storedSemaphore
+  semaphore-out h = rw h
+
+module _ (k : ℕ) (e : EventState) (p : Partition) where
+  pub event-in : within eventLimit k ≡ true → storedEvent k e p ≡ withEvents (set (p .events) (k - 1) e) (max (p .eventCount) k) p
+  unfolding storedEvent replaced
+  event-in h = rw h
+
+  pub event-out : within eventLimit k ≡ false → storedEvent k e p ≡ p
+  unfolding storedEvent
+  event-out h = rw h

@@ -2,22 +2,25 @@
 -- a place on, or what is done up to it. Assumes nothing.
 use Prim.Native.Nat.{ℕ, suc, _+_, _-_, _≤_, _<_}
 use mathlib.Core.Path.{_≡_, refl}
-use mathlib.Core.Bool.{cond}
+use mathlib.Core.List.{List}
 use native.Mathlib.Omega.{arith}
 use native.Mathlib.Numerals.{add-one}
-use lib.ListN.{length, getD, drop}
-use lib.Dec.{eqb}
+use lib.ListN.{length, getD, set, drop}
+use borrow.Author.Tests.{eq-eqb, ne-eqb}
 use Rattle.machine.specs.declared.Ids.{Ids}
 use Rattle.machine.specs.declared.Choice.{Choice}
 use Rattle.machine.specs.declared.Process.{Process}
 use Rattle.machine.specs.declared.Partition.{Partition}
 use Rattle.machine.specs.declared.Module.{Module}
+use Rattle.machine.specs.declared.Message.{Message}
+use Rattle.machine.specs.declared.Table.{Table}
 use Rattle.machine.specs.Limits.{greatestTime}
 use Rattle.machine.specs.Ids.{members}
 use Rattle.machine.specs.Partition.{process, stored, preferred, chosen, ended, endedAll, eachFrom, sooner, soonestFrom}
-use Rattle.machine.specs.Module.{channel, withMessage, noMessage}
+use Rattle.machine.specs.Module.{channel}
+use Rattle.machine.specs.Decisions.{noMessage}
 use Rattle.machine.specs.Ticks.{tickAt, tickTo}
-use Rattle.machine.specs.Channels.{erasedTo}
+use Rattle.machine.specs.Channels.{keptTo}
 use Rattle.machine.proofs.Lists.{next-member, no-member}
 
 -- a list of ids, from place i on
@@ -65,15 +68,21 @@ module _ (n : ℕ) (m : Module) where
   unfolding tickTo
   tick-to-more = rw (add-one n)
 
-  pub erased-more : (k : ℕ) → erasedTo k (n + 1) m ≡ cond (eqb (channel (m .table) n .destination) k) (withMessage n noMessage (erasedTo k n m)) (erasedTo k n m)
-  unfolding erasedTo
-  erased-more k = rw (add-one n)
-
 module _ (m : Module) where
   pub tick-to-none : tickTo 0 m ≡ m
   unfolding tickTo
   tick-to-none = refl
 
-  pub erased-none : (k : ℕ) → erasedTo k 0 m ≡ m
-  unfolding erasedTo
-  erased-none k = refl
+-- the messages on the first channels
+module _ (T : Table) (k n : ℕ) (l : List Message) where
+  pub kept-erased : channel T n .destination ≡ k → set (keptTo T k n l) n noMessage ≡ keptTo T k (n + 1) l
+  unfolding keptTo
+  kept-erased e = rw (add-one n, keptTo, eq-eqb _ _ e)
+
+  pub kept-same : (channel T n .destination ≡ k → ⊥) → keptTo T k n l ≡ keptTo T k (n + 1) l
+  unfolding keptTo
+  kept-same e = rw (add-one n, keptTo, ne-eqb _ _ e)
+
+pub kept-none : (T : Table) (k : ℕ) (l : List Message) → l ≡ keptTo T k 0 l
+unfolding keptTo
+kept-none T k l = refl

@@ -6,25 +6,23 @@ use mathlib.Core.List.{List, [], _∷_}
 use native.Mathlib.Omega.{arith}
 use lib.Dec.{eqb, ltb, leb}
 use lib.IntN.{ℤ, pos, negsuc}
-use borrow.Author.Tests.{eqb-true, eqb-false, eq-eqb, leb-true, not-false, not-true}
+use borrow.Author.Tests.{eqb-true, eqb-false, ne-eqb, not-false}
 use Rattle.machine.specs.declared.Partition.{Partition}
 use Rattle.machine.specs.declared.Table.{Table}
 use Rattle.machine.specs.declared.Module.{Module}
 use Rattle.machine.specs.declared.Message.{Message}
-use Rattle.machine.specs.declared.Context.{Context}
 use Rattle.machine.specs.declared.Field.{Field}
 use Rattle.machine.specs.declared.Field.the-variants.{Number, MinusOne, Other}
 use Rattle.machine.specs.declared.Event.{Event}
 use Rattle.machine.specs.declared.Request.{Request}
 use Rattle.machine.specs.declared.EventRecord.{EventRecord}
-use Rattle.machine.specs.declared.Reply.{Reply}
-use Rattle.machine.specs.declared.Called.{Called}
-use Rattle.machine.specs.declared.Done.{Done}
-use Rattle.machine.specs.Limits.{greatestTime, timeLimit, channelLimit}
+use Rattle.machine.specs.declared.Decision.{Decision}
+use Rattle.machine.specs.declared.Decision.the-variants.{Refused, Unchanged, Ticked, Blocked, Changed, Restarted, Written}
+use Rattle.machine.specs.Limits.{greatestTime, channelLimit}
 use Rattle.machine.specs.Fields.{field, requestOf, isNumber, between, numberOf}
-use Rattle.machine.specs.Partition.{running}
-use Rattle.machine.specs.Checks.{coded, valued}
-use Rattle.machine.specs.Services.{partitionCall}
+use Rattle.machine.specs.Partition.{running, partitionAfter}
+use Rattle.machine.specs.Decisions.{checked, replyOf}
+use Rattle.machine.specs.Services.{lastCall, callDecision}
 use Rattle.machine.specs.Windows as Wi
 use Rattle.machine.specs.Module as M
 use Rattle.machine.specs.Ticks as Ti
@@ -33,14 +31,12 @@ use Rattle.machine.specs.Places as Pl
 use Rattle.machine.specs.Step as St
 use Rattle.machine.specs.LeftRight.{next, answeredEvent, after, isZero, memberOf, isTick, common, shown, commonAnswers, Within, Closed, EqualIn, LeftRight}
 use Rattle.machine.specs.TwoRuns.{Unwinding, two-runs, keep}
-use Rattle.machine.proofs.Tests.{by-test, by-tests, by-checks, by-checks₂, Passed, and-left, and-right, or-left, or-right, not-both}
+use Rattle.machine.proofs.Tests.{by-tests, by-checks₂, or-left, or-right, not-both}
 use Rattle.machine.proofs.Fields.{in-limits, between-zero}
+use Rattle.machine.proofs.Dispatch.{by-event}
+use Rattle.machine.proofs.Bodies.{FromSource, Bodily, call-body}
+use Rattle.machine.proofs.Refusals.{call-in-range}
 use Rattle.machine.proofs.Agree.{Agree, agree-same, agree-back, agree-along, part-both, part-free, message-both, message-free, time-both, tick-both, erase-both, erase-free}
-
--- what an event gives on two sides
-pub record SameDone (T : Table) (S : ℕ → Bool) (d f : Done) : Type 0 where
-  pub agree : Agree T S (d .state) (f .state)
-  pub reply : d .reply ≡ f .reply
 
 pub one-less : (k : ℕ) → eqb k 0 ≡ false → suc (k - 1) ≡ k
 one-less k q = let h : k ≡ 0 → ⊥ = eqb-false k 0 q in omega arith
@@ -83,133 +79,104 @@ tick-common S T e q z =
     let q₂ = or-right (eqb (T .size) 0) _ q in
     let p : isNumber 0 (field (e .partition)) ≡ true = between-zero (T .size) (field (e .partition)) (not-false _ (or-left (not (between 0 (T .size) (r .partition))) _ q₂)) z in
     let q₃ = or-right (not (between 0 (T .size) (r .partition))) _ q₂ in
-    let q₄ = or-right (not (between 0 Pl.lastCall (r .call))) _ q₃ in
+    let q₄ = or-right (not (between 0 lastCall (r .call))) _ q₃ in
     let o : not (isNumber 0 (r .call)) ≡ false = rw p at (or-left (Pl.oneZero r) _ q₄) in
     rw (zero-number (e .partition) p, zero-number (e .call) (not-false _ o))
 
--- a call of READ leaves the record, whatever its answer
-pub read-same : (m : Module) (k : ℕ) (r : Request) → Ch.read m k r .state ≡ m
-unfolding Ch.read
-read-same m k r =
-    by-checks (λ (d : Done). d .state ≡ m) (M.refuse m) _ _ (λ n. refl) λ q₁.
-    by-checks (λ (d : Done). d .state ≡ m) (M.refuse m) _ _ (λ n. refl) λ q₂. refl
-
 module _ (T : Table) (S : ℕ → Bool) (closed : Closed T S) where
-  refused-both : (m n : Module) (c : ℕ) → Agree T S m n → SameDone T S (M.refuse m c) (M.refuse n c)
-  refused-both m n c a = record { agree = a; reply = refl }
-
   tables : (m n : Module) → Agree T S m n → m .table ≡ n .table
   tables m n a = a .left ∙ sym (a .right)
 
-  -- what the checks on a channel's end settle: the channel is one of the table's, and the wanted end is the caller
-  record AtEnd (U : Table) (k i w : ℕ) : Type 0 where
-    there : i < U .channelCount
-    end : w ≡ k
-
-  at-end : (U : Table) (k : ℕ) (r : Request) (w : ℕ) → Passed (Ch.channelChecks U k r w) → AtEnd U k (numberOf (r .a) - 1) w
-  unfolding Ch.channelChecks Passed
-  at-end U k r w q =
-      let b = in-limits 1 (U .channelCount) (r .a) (not-false _ (q .0)) in
-      record { there = omega arith; end = eqb-true w k (not-false (eqb w k) (q .1 .1 .0)) }
+  pub current-both : (m n : Module) → Agree T S m n → M.current m ≡ M.current n
+  current-both m n a = ap₂ (λ (x : Table) (t : ℕ). Wi.lookup x t .partition) (tables m n a) (a .time)
 
   -- ------------------------------------------------------------ an event of a partition in S, or a tick, on two sides
-  write-both : (m n : Module) (k : ℕ) (r : Request) → Agree T S m n → SameDone T S (Ch.write m k r) (Ch.write n k r)
-  unfolding Ch.write
-  write-both m n k r a =
-      by-checks₂ (SameDone T S) _ _ _ _ _ _ (ap (λ (x : Table). Ch.channelChecks x k r (Ch.namedChannel x r .source)) (tables m n a)) (λ c. refused-both m n c a) λ q₁.
-      by-checks₂ (SameDone T S) _ _ _ _ _ _ refl (λ c. refused-both m n c a) λ q₂.
-      record { agree = message-both T S m n (numberOf (r .a) - 1) _ _ a (λ s. ap (λ (x : ℕ). record { present = true; value = numberOf (r .b); written = x }) (a .time)); reply = refl }
-
-  read-both : (m n : Module) (k : ℕ) (r : Request) → Agree T S m n → S k ≡ true → SameDone T S (Ch.read m k r) (Ch.read n k r)
-  unfolding Ch.read
-  read-both m n k r a s =
-      by-checks₂ (SameDone T S) _ _ _ _ _ _ (ap (λ (x : Table). Ch.channelChecks x k r (Ch.namedChannel x r .destination)) (tables m n a)) (λ c. refused-both m n c a) λ q₁.
-      let d = at-end (m .table) k r _ q₁ in
-      let x : M.message m (numberOf (r .a) - 1) ≡ M.message n (numberOf (r .a) - 1) = a .inbound (numberOf (r .a) - 1) (ap (λ (y : Table). S (M.channel y (numberOf (r .a) - 1) .destination)) (sym (a .left)) ∙ ap S (d .end) ∙ s) in
-      by-checks₂ (SameDone T S) _ _ _ _ _ _ (ap (λ (y : Message). (not (y .present), 1) ∷ []) x) (λ c. refused-both m n c a) λ q₂.
-      record { agree = a; reply = λ i. valued (x i .value) (Ch.freshness (a .time i) (x i) (Ch.namedChannel (tables m n a i) r)) }
-
-  restarted-both : (b : Bool) (m n : Module) (k : ℕ) → Agree T S m n → Agree T S (St.restarted b k m) (St.restarted b k n)
-  restarted-both b m n k a = by-tests (Agree T S) b b refl (λ q. erase-both T S k channelLimit m n a) (λ q. a)
-
-  stored-both : (m n : Module) (k l : ℕ) (r : Request) (c : Called) → Agree T S m n → SameDone T S (St.storedCall m k l r c) (St.storedCall n k l r c)
-  stored-both m n k l r c a = record {
-    agree = by-tests (Agree T S) (St.accepts (c .reply)) _ refl (λ q. part-both T S _ _ (k - 1) _ _ (restarted-both (St.restarts l r) m n k a) (λ s. refl)) (λ q. a);
-    reply = refl;
-  }
-
-  call-both : (m n : Module) (k l : ℕ) (r : Request) → Agree T S m n → S k ≡ true → M.part m (k - 1) ≡ M.part n (k - 1) → SameDone T S (St.callDone m k l r) (St.callDone n k l r)
-  call-both m n k l r a s p =
-      by-tests (SameDone T S) (eqb l 21) _ refl (λ q. write-both m n k r a) λ q₁.
-      by-tests (SameDone T S) (eqb l 22) _ refl (λ q. read-both m n k r a s) λ q₂.
-      subst (λ (x : Called). SameDone T S (St.storedCall m k l r (partitionCall (St.contextOf m k) l r (M.part m (k - 1)))) (St.storedCall n k l r x)) same (stored-both m n k l r _ a)
+  -- a partition in S sees the same of a channel: of a message only what lies on a channel into S
+  port-both : (m n : Module) (k : ℕ) (r : Request) → Agree T S m n → S k ≡ true → Ch.portOf m k r ≡ Ch.portOf n k r
+  port-both m n k r a s = ap₂ (λ (x : Table) (y : Message). record { own = k; place = i; exists = between 1 (x .channelCount) (r .a); channel = M.channel x i; message = y }) (tables m n a) same
     where
-      context : St.contextOf m k ≡ St.contextOf n k
-      context = λ i. record { time = a .time i; frame = tables m n a i .frame; release = Wi.releasePoint (tables m n a i) (a .time i) k; caller = running (p i) }
+      i : ℕ
+      i = numberOf (r .a) - 1
 
-      same : partitionCall (St.contextOf m k) l r (M.part m (k - 1)) ≡ partitionCall (St.contextOf n k) l r (M.part n (k - 1))
-      same = ap₂ (λ (x : Context) (y : Partition). partitionCall x l r y) context p
+      same : Ch.seenAt k (M.channel (m .table) i) (M.message m i) ≡ Ch.seenAt k (M.channel (n .table) i) (M.message n i)
+      same = by-tests (λ (x y : Message). x ≡ y) _ _ (ap (λ (x : Table). eqb (M.channel x i .destination) k) (tables m n a))
+          (λ q. a .inbound i (ap (λ (x : Table). S (M.channel x i .destination)) (sym (a .left)) ∙ ap S (eqb-true _ k q) ∙ s))
+          (λ q. refl)
+
+  -- it sees the same, so it decides the same
+  decision-both : (m n : Module) (e : Event) → Agree T S m n → common S e ≡ true → St.decision m (requestOf e) ≡ St.decision n (requestOf e)
+  unfolding St.decision
+  decision-both m n e a c =
+      let r = requestOf e in
+      let k = numberOf (r .partition) in
+      by-checks₂ (λ (x y : Decision). x ≡ y) _ _ _ _ _ _ (λ i. Pl.firstChecks (tables m n a i) (a .time i) (current-both m n a i) r) (λ c. refl) λ q₁.
+      by-tests (λ (x y : Decision). x ≡ y) (eqb k 0) _ refl (λ z. refl) λ z.
+      let s : S k ≡ true = own S e z ∙ c in
+      let p : M.part m (k - 1) ≡ M.part n (k - 1) = a .parts (k - 1) (ap S (one-less k z) ∙ s) in
+      let x = port-both m n k r a s in
+      λ i. checked Refused ((Pl.noCaller (p i), 9) ∷ []) (callDecision (record { time = a .time i; frame = tables m n a i .frame; release = Wi.releasePoint (tables m n a i) (a .time i) k; caller = running (p i) }) (x i) (numberOf (r .call)) r (p i))
 
   tick-done-both : (m n : Module) → Agree T S m n → Agree T S (Ti.tickModule m) (Ti.tickModule n)
   tick-done-both m n a =
       subst (λ (x : Table). Agree T S (Ti.tickModule m) (Ti.tickTo (Ti.partitionCount x) (M.withTime (n .t + 1) n))) (tables m n a)
       (tick-both T S (Ti.partitionCount (m .table)) _ _ (time-both T S m n _ _ a (ap (λ (x : ℕ). x + 1) (a .time))))
 
-  pub current-both : (m n : Module) → Agree T S m n → M.current m ≡ M.current n
-  current-both m n a = ap₂ (λ (x : Table) (t : ℕ). Wi.lookup x t .partition) (tables m n a) (a .time)
-
-  done-both : (m n : Module) (e : Event) → Agree T S m n → common S e ≡ true → SameDone T S (St.done m (requestOf e)) (St.done n (requestOf e))
-  done-both m n e a c =
-      let r = requestOf e in
-      let k = numberOf (r .partition) in
-      by-checks₂ (SameDone T S) _ _ _ _ _ _ (ap (λ (x : Table). (Pl.malformed x r, 13) ∷ []) (tables m n a)) (λ c. refused-both m n c a) λ q₁.
-      by-tests (SameDone T S) (eqb k 0) _ refl
-      (λ z. by-checks₂ (SameDone T S) _ _ _ _ _ _ (ap (λ (x : ℕ). (leb timeLimit x, 10) ∷ []) (a .time)) (λ c. refused-both m n c a) (λ q. record { agree = tick-done-both m n a; reply = refl }))
-      λ z.
-      let s : S k ≡ true = own S e z ∙ c in
-      let p : M.part m (k - 1) ≡ M.part n (k - 1) = a .parts (k - 1) (ap S (one-less k z) ∙ s) in
-      by-checks₂ (SameDone T S) _ _ _ _ _ _ (ap₂ (λ (x : ℕ) (y : Partition). (not (eqb x k), 8) ∷ (Pl.noCaller y, 9) ∷ []) (current-both m n a) p) (λ c. refused-both m n c a) λ q.
-      call-both m n k (numberOf (r .call)) r a s p
+  -- one decision applied on both sides
+  after-both : (m n : Module) (k : ℕ) (d : Decision) → Agree T S m n → (S (suc (k - 1)) ≡ true → M.part m (k - 1) ≡ M.part n (k - 1)) → Agree T S (St.moduleAfter m k d) (St.moduleAfter n k d)
+  after-both m n k (Refused c) a p = a
+  after-both m n k (Unchanged v e) a p = a
+  after-both m n k Ticked a p = tick-done-both m n a
+  after-both m n k (Blocked id x) a p = part-both T S m n (k - 1) _ _ a (λ s. ap (partitionAfter (Blocked id x)) (p s))
+  after-both m n k (Changed x y v) a p = part-both T S m n (k - 1) _ _ a (λ s. ap (partitionAfter (Changed x y v)) (p s))
+  after-both m n k (Restarted mode) a p = part-both T S _ _ (k - 1) _ _ (erase-both T S k channelLimit m n a) (λ s. refl)
+  after-both m n k (Written i x) a p = message-both T S m n i x x a (λ s. refl)
 
   -- ------------------------------------------------------------ a free event on one side
-  abbrev Hidden : Module → Done → Type 0
-  Hidden m d = Agree T S (d .state) m
+  -- the source of a channel into S is in S: a partition outside S leaves no message there
+  unseen : (m : Module) (k : ℕ) (r : Request) (i : ℕ) → m .table ≡ T → S k ≡ false → FromSource (Ch.portOf m k r) (numberOf (r .call)) i → S (M.channel T i .destination) ≡ false
+  unseen m k r i e f w = go (S (M.channel T i .destination)) refl
+    where
+      b : (1 ≤ numberOf (r .a)) × (numberOf (r .a) ≤ m .table .channelCount)
+      b = in-limits 1 (m .table .channelCount) (r .a) (w .there)
 
-  module _ (m : Module) (k : ℕ) (r : Request) (a : Agree T S m m) (f : S k ≡ false) where
-    write-free : Hidden m (Ch.write m k r)
-    unfolding Ch.write
-    write-free =
-        by-checks (Hidden m) _ (Ch.channelChecks (m .table) k r (Ch.namedChannel (m .table) r .source)) _ (λ n. a) λ q₁.
-        by-checks (Hidden m) _ _ _ (λ n. a) λ q₂.
-        let d = at-end (m .table) k r _ q₁ in
-        message-free T S m m (numberOf (r .a) - 1) _ a (unseen (m .table) (a .left) (numberOf (r .a) - 1) (d .there) (d .end))
-      where
-        -- the source of a channel into S is in S
-        unseen : (U : Table) → U ≡ T → (i : ℕ) → i < U .channelCount → M.channel U i .source ≡ k → S (M.channel T i .destination) ≡ false
-        unseen U e i l s = go (S (M.channel T i .destination)) refl
-          where
-            go : (b : Bool) → S (M.channel T i .destination) ≡ b → b ≡ false
-            go true q = not-both (S k) (ap S (sym s) ∙ ap (λ (x : Table). S (M.channel x i .source)) e ∙ closed i (rw e at l) q) f
-            go false q = refl
+      count : m .table .channelCount ≡ T .channelCount
+      count = ap (λ (x : Table). x .channelCount) e
 
-    call-free : (l : ℕ) → S (suc (k - 1)) ≡ false → Hidden m (St.callDone m k l r)
-    call-free l g =
-        by-test (Hidden m) (eqb l 21) (λ q. write-free) λ q₁.
-        by-test (Hidden m) (eqb l 22) (λ q. rw (read-same m k r) a) λ q₂.
-        by-test (λ (x : Module). Agree T S x m) (St.accepts (partitionCall (St.contextOf m k) l r (M.part m (k - 1)) .reply))
-        (λ q. part-free T S _ m (k - 1) _ (by-test (λ (x : Module). Agree T S x m) (St.restarts l r) (λ h. erase-free T S k channelLimit m m a f) (λ h. a)) g)
-        (λ q. a)
+      there : i < T .channelCount
+      there = omega (arith, w .place, b .0, b .1, count)
 
-  done-free : (m : Module) (e : Event) → Agree T S m m → common S e ≡ false → Hidden m (St.done m (requestOf e))
-  unfolding Passed
-  done-free m e a c =
+      source : M.channel T i .source ≡ k
+      source = ap₂ (λ (x : Table) (j : ℕ). M.channel x j .source) (sym e) (w .place) ∙ w .source
+
+      go : (v : Bool) → S (M.channel T i .destination) ≡ v → v ≡ false
+      go true q = not-both (S k) (ap S (sym source) ∙ closed i there q) f
+      go false q = refl
+
+  after-free : (m : Module) (e : Event) → Agree T S m m → common S e ≡ false → Agree T S (St.moduleAfter m (numberOf (requestOf e .partition)) (St.decision m (requestOf e))) m
+  after-free m e a c =
       let r = requestOf e in
       let k = numberOf (r .partition) in
-      by-checks (Hidden m) (M.refuse m) ((Pl.malformed (m .table) r, 13) ∷ []) _ (λ n. a) λ q₁.
-      by-test (Hidden m) (eqb k 0) (λ z. not-both (common S e) (tick-common S (m .table) e (q₁ .0) z) c) λ z.
+      by-event m r (λ (d : Decision). Agree T S (St.moduleAfter m k d) m)
+      (λ n _. a)
+      (λ q z _. not-both (common S e) (tick-common S (m .table) e q z) c)
+      λ q.
+      let z : eqb k 0 ≡ false = ne-eqb k 0 (q .some) in
       let f : S k ≡ false = own S e z ∙ c in
-      by-checks (Hidden m) (M.refuse m) _ _ (λ n. a) λ q.
-      call-free m k r a f (numberOf (r .call)) (ap S (one-less k z) ∙ f)
+      let g : S (suc (k - 1)) ≡ false = ap S (one-less k z) ∙ f in
+      let x = Ch.portOf m k r in
+      let u = call-in-range (m .table) r (q .formed) z in
+      let d = callDecision (St.contextOf m k) x (numberOf (r .call)) r (M.part m (k - 1)) in
+      let body = call-body x (numberOf (r .call)) (St.contextOf m k) r (M.part m (k - 1)) (u .0) (u .1) .is in
+      body-free m k r d a f g body
+    where
+      body-free : (m : Module) (k : ℕ) (r : Request) (d : Decision) → Agree T S m m → S k ≡ false → S (suc (k - 1)) ≡ false → Bodily (Ch.portOf m k r) (numberOf (r .call)) d → Agree T S (St.moduleAfter m k d) m
+      body-free m k r (Refused n) a f g w = a
+      body-free m k r (Unchanged v y) a f g w = a
+      body-free m k r Ticked a f g w = absurd w
+      body-free m k r (Blocked id y) a f g w = part-free T S m m (k - 1) _ a g
+      body-free m k r (Changed b y v) a f g w = part-free T S m m (k - 1) _ a g
+      body-free m k r (Restarted mode) a f g w = part-free T S _ m (k - 1) _ (erase-free T S k channelLimit m m a f) g
+      body-free m k r (Written i y) a f g w = message-free T S m m i y a (unseen m k r i (a .left) f w)
 
   -- ------------------------------------------------------------ the answer's last three numbers
   pub running-both : (m n : Module) → Agree T S m n → S (M.current m) ≡ true → M.runningIn (M.current m) m ≡ M.runningIn (M.current n) n
@@ -229,26 +196,28 @@ module _ (T : Table) (S : ℕ → Bool) (closed : Closed T S) where
   pub step-both : (m n : Module) (e : Event) → Agree T S m n → common S e ≡ true → Agree T S (next m e) (next n e) × (shown S (answeredEvent m e) ≡ shown S (answeredEvent n e))
   unfolding St.step
   step-both m n e a c =
-      let d = done-both m n e a c in
       let r = requestOf e in
-      let x = St.done m r .state in
-      let y = St.done n r .state in
-      let k = current-both x y (d .agree) in
+      let o = numberOf (r .partition) in
+      let d = decision-both m n e a c in
+      let x = St.moduleAfter m o (St.decision m r) in
+      let y = St.moduleAfter n o (St.decision n r) in
+      let b : Agree T S x y = subst (λ (v : Decision). Agree T S x (St.moduleAfter n o v)) d (after-both m n o (St.decision m r) a (λ s. a .parts (o - 1) s)) in
+      let k = current-both x y b in
       let run : cond (isZero (e .partition) && not (S (M.current x))) 0 (cond (St.sees r (M.current x)) (M.runningIn (M.current x) x) 0) ≡ cond (isZero (e .partition) && not (S (M.current y))) 0 (cond (St.sees r (M.current y)) (M.runningIn (M.current y) y) 0) =
       by-tests (λ (x y : ℕ). x ≡ y) _ _ (ap (λ (k : ℕ). isZero (e .partition) && not (S k)) k) (λ q. refl) λ l.
       by-tests (λ (x y : ℕ). x ≡ y) _ _ (ap (λ (k : ℕ). St.sees r k) k)
-      (λ h. running-both x y (d .agree) (shown-in (e .partition) (M.current x) (weaker (isZero (e .partition)) (isZero (e .call)) (memberOf S (e .partition)) c) l h))
+      (λ h. running-both x y b (shown-in (e .partition) (M.current x) (weaker (isZero (e .partition)) (isZero (e .call)) (memberOf S (e .partition)) c) l h))
       (λ h. refl) in (
-        d .agree,
+        b,
         λ i. record {
           event = e;
-          answer = record { code = d .reply i .code; value = d .reply i .value; extra = d .reply i .extra; t = d .agree .time i; current = k i; running = run i };
+          answer = record { code = replyOf (d i) .code; value = replyOf (d i) .value; extra = replyOf (d i) .extra; t = b .time i; current = k i; running = run i };
         },
       )
 
   pub step-free : (m : Module) (e : Event) → Agree T S m m → common S e ≡ false → Agree T S (next m e) m
   unfolding St.step
-  step-free m e a c = done-free m e a c
+  step-free m e a c = after-free m e a c
 
   pub unwinding : Unwinding next answeredEvent (common S) (λ (r : EventRecord). common S (r .event)) (shown S) (Agree T S)
   unwinding = record { back = agree-back T S; along = agree-along T S; tagged = λ m e. refl; free = step-free; both = step-both }

@@ -1,18 +1,25 @@
--- The tick and every call keep a partition valid, and a partition with nothing created is valid. Assumes nothing.
-use Prim.Native.Nat.{ℕ, _+_, _-_, _%_, _≤_, _<_}
+-- The tick and every change keep a partition valid, what a call decides is sound, and a partition with nothing created is valid. Assumes
+-- nothing.
+use Prim.Native.Nat.{ℕ, _+_, _-_, _%_, _≤_, _<_, max}
 use mathlib.Core.Path.{_≡_, refl, ap, sym, _∙_}
 use mathlib.Core.Bool.{Bool, true, false, not, _||_}
 use mathlib.Core.List.{List, [], _∷_}
 use native.Mathlib.Omega.{arith}
 use lib.ListN.{set, replicate, length-replicate}
-use lib.Dec.{eqb, ltb}
+use lib.Dec.{eqb, ltb, leb}
 use borrow.Author.Tests.{eq-eqb, ne-eqb, eqb-true, eqb-false, ltb-false, leb-false, not-true, not-false}
 use Rattle.machine.specs.declared.Given.{Given}
 use Rattle.machine.specs.declared.Ids.{Ids}
 use Rattle.machine.specs.declared.Process.{Process}
 use Rattle.machine.specs.declared.Partition.{Partition}
 use Rattle.machine.specs.declared.Context.{Context}
-use Rattle.machine.specs.declared.Called.{Called}
+use Rattle.machine.specs.declared.Change.{Change}
+use Rattle.machine.specs.declared.Change.the-variants.{Nothing, Stored, Created, Last, StoredSemaphore, StoredEvent, Ended, Entered}
+use Rattle.machine.specs.declared.Port.{Port}
+use Rattle.machine.specs.declared.Decision.{Decision}
+use Rattle.machine.specs.declared.Decision.the-variants.{Refused, Unchanged, Ticked, Blocked, Changed, Restarted, Written}
+use Rattle.machine.specs.declared.Semaphore.{Semaphore as SemaphoreT}
+use Rattle.machine.specs.declared.EventState.{EventState}
 use Rattle.machine.specs.declared.Request.{Request}
 use Rattle.machine.specs.declared.Field.{Field}
 use Rattle.machine.specs.declared.Field.the-variants.{Number, MinusOne, Other}
@@ -20,30 +27,32 @@ use Rattle.machine.specs.declared.Wait.{Wait}
 use Rattle.machine.specs.declared.Wait.the-variants.{Timed, Semaphore, Event}
 use Rattle.machine.specs.declared.Time.{Time}
 use Rattle.machine.specs.declared.Time.the-variants.{Never, At}
-use Rattle.machine.specs.Limits.{processLimit, semaphoreLimit, eventLimit, nameLimit, priorityLimit, valueLimit, durationLimit, timeLimit, greatestValue}
+use Rattle.machine.specs.Limits.{processLimit, semaphoreLimit, eventLimit, nameLimit, priorityLimit, valueLimit, durationLimit, timeLimit, frameLimit, numberLimit, greatestValue}
 use Rattle.machine.specs.Ids.{members}
 use Rattle.machine.specs.Fields.{isNumber, between, isDuration, isMinusOne, isTimeout, isName, numberOf, timeOf}
-use Rattle.machine.specs.Process.{createdProcess, blankProcess, later, object, onObject, periodic, ready, waitEnded, withCurrent, waitingFor, entered, ticked}
-use Rattle.machine.specs.Partition.{normalMode, idleMode, byId, nothingCreated, noSemaphore, noEvent, process, semaphore, event, withMode, stored, waitsOn, waiters, ended, endedAll, each, running, tickPartition, enteredNormal, freshPartition}
-use Rattle.machine.specs.Calls.{refused, blocked, startMode, dormant, setMode, isMultiple, above, isPriority, admissible, withNewProcess, createProcess, reaches, start, stop, stopSelf, suspend, suspendSelf, timedWait, periodicWait, resume, setPriority, getStatus}
-use Rattle.machine.specs.Objects.{createSemaphore, createEvent, withValue, withUp, queued, waitSemaphore, waitEvent, oneMore, signalled, signal, setEvent, resetEvent}
-use Rattle.machine.specs.Services.{partitionCall}
-use Rattle.machine.specs.Valid.{Between, contains, Distinct, Tracks, Timeout, Ahead, SoundPeriod, SoundCapacity, NotAbove, Below, SoundGiven, SoundProcess, SoundSemaphore, SoundEvent, Numbered, ListedIn, settingOf, Valid, SoundContext}
-use Rattle.machine.proofs.Tests.{by-test, Passed, by-checks, not-both}
-use Rattle.machine.proofs.Bounds.{not-so, or-false-parts, and-true-parts, known-id, within-in, named-in, named-same, named-other, replaced-in, named-replicate, value-in, up-in, either}
+use Rattle.machine.specs.Process.{Class, classOf, createdProcess, blankProcess, later, object, onObject, periodic, ready, waitEnded, withCurrent, waitingFor, entered, ticked}
+use Rattle.machine.specs.Partition.{normalMode, idleMode, byId, nothingCreated, noSemaphore, noEvent, process, semaphore, event, withMode, stored, waitsOn, waiters, ended, endedAll, each, running, tickPartition, enteredNormal, created, storedSemaphore, storedEvent, applied, partitionAfter, freshPartition}
+use Rattle.machine.specs.Calls.{setMode, isMultiple, above, isPriority, admissible, createProcess, reaches, start, stop, stopSelf, suspend, suspendSelf, timedWait, periodicWait, resume, setPriority, status, getStatus}
+use Rattle.machine.specs.Objects.{createSemaphore, createEvent, withValue, withUp, waitSemaphore, waitEvent, oneMore, signalled, signal, setEvent, resetEvent}
+use Rattle.machine.specs.Channels.{write, read}
+use Rattle.machine.specs.Services.{callDecision}
+use Rattle.machine.specs.Valid.{counted, Between, contains, Distinct, Tracks, Timeout, Ahead, SoundPeriod, SoundCapacity, NotAbove, Below, SoundGiven, SoundProcess, SoundSemaphore, SoundEvent, Numbered, ListedIn, settingOf, Valid, SoundContext, SoundMessage, SoundChange, SoundDecision, NotAfter, latestDeadline}
+use Rattle.machine.proofs.Tests.{by-test, by-tests, Passed, passed-parts, by-checks, not-both}
+use Rattle.machine.proofs.Bounds.{not-so, or-false-parts, and-true-parts, known-id, within-in, named-in, named-same, named-other, replaced-in, named-replicate, created-in, semaphore-in, event-in, either}
 use Rattle.machine.proofs.Dispatch.{by-call}
 use Rattle.machine.proofs.Fields.{in-limits}
 use Rattle.machine.proofs.Tracking.{contains-kept, distinct-kept, tracks-same}
 use Rattle.machine.proofs.Keeping.{numbered-set, all-set, process-created, process-stored, each-rest, each-listed, each-process, changedAll, ended-changed, AllCreated, changed-rest, changed-listed, changed-process, valid-of, stored-valid, arrived-valid}
-use Rattle.machine.proofs.Sound.{outside-normal, ahead-later, created-sound, start-sound, entered-sound, early-sound, stopped-sound, suspended-sound, priority-sound, resumed-sound, ended-sound, ready-released, waiting-sound, suspends-sound, next-sound, ticked-sound, early-waits}
+use Rattle.machine.proofs.Sound.{times-bounded, outside-normal, more-objects, ahead-later, created-sound, start-sound, entered-sound, early-sound, stopped-sound, suspended-sound, priority-sound, resumed-sound, ended-sound, ready-released, waiting-sound, suspends-sound, next-sound, ticked-sound, early-waits}
 use Rattle.machine.proofs.Running.{running-runs}
+use Rattle.machine.specs.Decisions.{checked, changed, blocked, startMode, dormant, queued, awaiting}
 
 -- ---------------------------------------------------------------- the tick
 pub tick-valid : (frame t : ℕ) (p : Partition) → Valid frame t p → Valid frame (t + 1) (tickPartition (t + 1) p)
 unfolding tickPartition
 tick-valid frame t p v = by-test (Valid frame (t + 1)) (normalMode p)
     (λ e. valid-of frame (t + 1) p (each (ticked (t + 1)) p) (each-rest (ticked (t + 1)) p (v .lists)) (v .mode) (v .objects) (each-listed (ticked (t + 1)) p (v .lists)) (λ id b.
-    rw (each-process (ticked (t + 1)) p (v .lists) id b) (ticked-sound frame t (p .semaphoreCount) (p .eventCount) (normalMode p) e (process id p) (v .eachProcess id b))))
+    rw (each-process (ticked (t + 1)) p (v .lists) id b) (ticked-sound frame t _ (normalMode p) e (process id p) (v .eachProcess id b))))
     (λ e. record {
       mode = v .mode;
       lists = v .lists;
@@ -96,39 +105,41 @@ timeout-ahead t MinusOne ends h z = tt
 timeout-ahead t Other ends h z = not-both _ h refl
 
 -- ---------------------------------------------------------------- semaphores and events
+counted-more : (a b a′ b′ : ℕ) → a ≤ a′ → b ≤ b′ → (kind : ℕ) → counted a b kind ≤ counted a′ b′ kind
+counted-more a b a′ b′ h k kind = by-tests (λ (x y : ℕ). x ≤ y) (eqb kind 1) _ refl (λ _. h) (λ _. by-tests (λ (x y : ℕ). x ≤ y) (eqb kind 2) _ refl (λ _. k) (λ _. omega arith))
+
+-- one that is known, or the next
 module _ (frame t : ℕ) (p : Partition) (v : Valid frame t p) (k : ℕ) where
-  pub value-valid : Between 1 (p .semaphoreCount) k → (n : ℕ) → n ≤ semaphore k p .max → Valid frame t (withValue k n p)
-  value-valid b n h =
+  pub semaphore-valid : Between 1 (p .semaphoreCount + 1) k → k ≤ semaphoreLimit → (s : SemaphoreT) → SoundSemaphore s → Valid frame t (storedSemaphore k s p)
+  semaphore-valid b room s sound =
       let o = v .objects in
-      let s = o .eachSemaphore k b in
-      let i = within-in semaphoreLimit k (b .0) (omega (arith, b .1, o .semaphores .few)) in
-      rw (value-in k p n i, ← named-in semaphoreLimit k noSemaphore (p .semaphores) i) (record {
+      let n = max (p .semaphoreCount) k in
+      rw (semaphore-in k s p (within-in semaphoreLimit k (b .0) room)) (record {
         mode = v .mode;
         lists = v .lists;
         objects = record {
-          semaphores = numbered-set (o .semaphores) k _ (p .semaphoreCount) (omega arith) b (o .semaphores .few);
+          semaphores = numbered-set (o .semaphores) k s n (omega arith) (b .0, omega arith) (omega (arith, o .semaphores .few));
           events = o .events;
-          eachSemaphore = all-set (o .semaphores) k _ (p .semaphoreCount) (omega arith) b (o .semaphores .few) SoundSemaphore (record { name = s .name; value = h; max = s .max }) (λ y r _. o .eachSemaphore y r);
+          eachSemaphore = all-set (o .semaphores) k s n (omega arith) (b .0, omega arith) (omega (arith, o .semaphores .few)) SoundSemaphore sound (λ y r ne. o .eachSemaphore y (r .0, omega (arith, r .1, b .1, ne)));
           eachEvent = o .eachEvent;
         };
-        eachProcess = v .eachProcess;
+        eachProcess = λ id r. more-objects frame t (normalMode p) _ _ (counted-more (p .semaphoreCount) (p .eventCount) n (p .eventCount) (omega arith) (omega arith)) (process id p) (v .eachProcess id r);
       })
 
-  pub up-valid : Between 1 (p .eventCount) k → (up : Bool) → Valid frame t (withUp k up p)
-  up-valid b up =
+  pub event-valid : Between 1 (p .eventCount + 1) k → k ≤ eventLimit → (s : EventState) → SoundEvent s → Valid frame t (storedEvent k s p)
+  event-valid b room s sound =
       let o = v .objects in
-      let s = o .eachEvent k b in
-      let i = within-in eventLimit k (b .0) (omega (arith, b .1, o .events .few)) in
-      rw (up-in k p up i, ← named-in eventLimit k noEvent (p .events) i) (record {
+      let n = max (p .eventCount) k in
+      rw (event-in k s p (within-in eventLimit k (b .0) room)) (record {
         mode = v .mode;
         lists = v .lists;
         objects = record {
           semaphores = o .semaphores;
-          events = numbered-set (o .events) k _ (p .eventCount) (omega arith) b (o .events .few);
+          events = numbered-set (o .events) k s n (omega arith) (b .0, omega arith) (omega (arith, o .events .few));
           eachSemaphore = o .eachSemaphore;
-          eachEvent = all-set (o .events) k _ (p .eventCount) (omega arith) b (o .events .few) SoundEvent (record { name = s .name }) (λ y r _. o .eachEvent y r);
+          eachEvent = all-set (o .events) k s n (omega arith) (b .0, omega arith) (omega (arith, o .events .few)) SoundEvent sound (λ y r ne. o .eachEvent y (r .0, omega (arith, r .1, b .1, ne)));
         };
-        eachProcess = v .eachProcess;
+        eachProcess = λ id r. more-objects frame t (normalMode p) _ _ (counted-more (p .semaphoreCount) (p .eventCount) (p .semaphoreCount) n (omega arith) (omega arith)) (process id p) (v .eachProcess id r);
       })
 
 -- ---------------------------------------------------------------- queues
@@ -151,77 +162,10 @@ module _ (p : Partition) (v : ListedIn p) (o : ℕ) where
   waiters-created : AllCreated (waiters o p) (p .processCount)
   waiters-created id h = process-created onObject refl p v id (waiters-on id h)
 
--- ---------------------------------------------------------------- the calls
-abbrev pub KeptBy : Context → Called → Type 0
-KeptBy c q = Valid (c .frame) (c .time) (q .partition)
-
--- periodic and delay ≥ period is refused
-reaches-below : (period : Time) (delay : ℕ) → reaches period delay ≡ false → Below period delay
-reaches-below Never delay h = tt
-reaches-below (At n) delay h = leb-false n delay h
-
+-- ---------------------------------------------------------------- the changes
 module _ (c : Context) (p : Partition) (v : Valid (c .frame) (c .time) p) where
   puts : (id : ℕ) → Between 1 (p .processCount) id → (x : Process) → SoundProcess (settingOf (c .frame) (c .time) p) x → Valid (c .frame) (c .time) (stored id x p)
   puts id b x s = stored-valid (c .frame) (c .time) p v id b x s
-
-  -- DORMANT or periodic is refused
-  fit : (id : ℕ) → (dormant (process id p) || periodic (process id p)) ≡ false → (process id p .started ≡ true) × (periodic (process id p) ≡ false)
-  fit id h = let r = or-false-parts _ (periodic (process id p)) h in (not-false (process id p .started) (r .0), r .1)
-
-  pub stop-valid : (id : ℕ) → KeptBy c (stop c id p)
-  unfolding stop Passed
-  stop-valid id = by-checks (KeptBy c) (refused p) _ _ (λ n. v) (λ h.
-      let b = known-id id (p .processCount) (h .0) in
-      puts id b _ (stopped-sound _ (process id p) (v .eachProcess id b)))
-
-  pub suspend-valid : (id : ℕ) → KeptBy c (suspend c id p)
-  unfolding suspend Passed
-  suspend-valid id = by-checks (KeptBy c) (refused p) _ _ (λ n. v) (λ h.
-      let b = known-id id (p .processCount) (h .0) in
-      let f = fit id (h .1 .1 .0) in
-      puts id b _ (suspended-sound _ (process id p) (v .eachProcess id b) (f .0) (f .1)))
-
-  pub resume-valid : (id : ℕ) → KeptBy c (resume c id p)
-  unfolding resume Passed
-  resume-valid id = by-checks (KeptBy c) (refused p) _ _ (λ n. v) (λ h.
-      let b = known-id id (p .processCount) (h .0) in
-      puts id b _ (resumed-sound _ (process id p) (v .eachProcess id b) (fit id (h .1 .1 .0) .0)))
-
-  pub priority-valid : (id : ℕ) (a : Field) → KeptBy c (setPriority id a p)
-  unfolding setPriority Passed
-  priority-valid id a = by-checks (KeptBy c) (refused p) _ _ (λ n. v) (λ h.
-      let b = known-id id (p .processCount) (h .0) in
-      let x = process id p in
-      let y = withCurrent (numberOf a) x in
-      let w = puts id b y (priority-sound _ x (v .eachProcess id b) (not-false (x .started) (h .1 .1 .0)) (numberOf a) (in-limits 1 priorityLimit a (not-false _ (h .1 .0)))) in
-      by-test (Valid (c .frame) (c .time)) (ready x)
-      (λ e. arrived-valid (c .frame) (c .time) (stored id y p) w id (rw (process-stored p id y (v .lists) b) e))
-      (λ _. w))
-
-  pub status-valid : (id : ℕ) → KeptBy c (getStatus c id p)
-  unfolding getStatus Passed
-  status-valid id = by-checks (KeptBy c) (refused p) _ _ (λ n. v) (λ h. v)
-
-  pub reset-valid : (k : ℕ) → KeptBy c (resetEvent k p)
-  unfolding resetEvent Passed
-  reset-valid k = by-checks (KeptBy c) (refused p) _ _ (λ n. v) (λ h. up-valid (c .frame) (c .time) p v k (known-id k (p .eventCount) (h .0)) false)
-
-  ended-valid : (id : ℕ) → Between 1 (p .processCount) id → onObject (process id p) ≡ true → Valid (c .frame) (c .time) (ended id p)
-  unfolding ended
-  ended-valid id b h = puts id b _ (ended-sound _ (process id p) (v .eachProcess id b) h)
-
-  signalled-valid : (l : List ℕ) (k : ℕ) → Between 1 (p .semaphoreCount) k → (semaphore k p .value ≡ semaphore k p .max → ⊥) → ((id : ℕ) → contains id l ≡ true → onObject (process id p) ≡ true) → AllCreated l (p .processCount) → Valid (c .frame) (c .time) (signalled l k p)
-  unfolding signalled contains
-  signalled-valid [] k b below on all =
-      let s = v .objects .eachSemaphore k b in
-      value-valid (c .frame) (c .time) p v k b (oneMore (semaphore k p .value)) (by-test (λ (n : ℕ). n ≤ semaphore k p .max) (ltb (semaphore k p .value) greatestValue) (λ _. omega (arith, s .value)) (λ _. s .value))
-  signalled-valid (id ∷ l) k b below on all = let i : (eqb id id || contains id l) ≡ true = rw (eq-eqb id id refl) in ended-valid id (all id i) (on id i)
-
-  pub signal-valid : (k : ℕ) → KeptBy c (signal k p)
-  unfolding signal Passed
-  signal-valid k = by-checks (KeptBy c) (refused p) _ _ (λ n. v) (λ h.
-      let o = object (Semaphore k) in
-      signalled-valid (waiters o p) k (known-id k (p .semaphoreCount) (h .0)) (eqb-false _ _ (h .1 .0)) (waiters-on p (v .lists) o) (waiters-created p (v .lists) o))
 
   -- the waits of these processes end
   ended-all-valid : (l : List ℕ) → Distinct l → ((id : ℕ) → contains id l ≡ true → onObject (process id p) ≡ true) → AllCreated l (p .processCount) → Valid (c .frame) (c .time) (endedAll l p)
@@ -232,12 +176,61 @@ module _ (c : Context) (p : Partition) (v : Valid (c .frame) (c .time) p) where
       (λ e. ended-sound _ (process id p) (v .eachProcess id b) (on id e))
       (λ _. v .eachProcess id b))))
 
-pub set-event-valid : (c : Context) (p : Partition) → Valid (c .frame) (c .time) p → (k : ℕ) → KeptBy c (setEvent k p)
-unfolding setEvent withUp Passed
-set-event-valid c p v k = by-checks (KeptBy c) (refused p) _ _ (λ n. v) (λ h.
-    let o = object (Event k) in
-    ended-all-valid c (withUp k true p) (up-valid (c .frame) (c .time) p v k (known-id k (p .eventCount) (h .0)) true) (waiters o p)
-    (waiters-distinct p (v .lists) o) (waiters-on p (v .lists) o) (waiters-created p (v .lists) o))
+  -- the next process, DORMANT
+  new-process-valid : p .processCount < processLimit → (g : Given) → SoundGiven (c .frame) g → Valid (c .frame) (c .time) (created (p .processCount + 1) (createdProcess g) p)
+  new-process-valid room g h =
+      let n = p .processCount + 1 in
+      let x = createdProcess g in
+      let o = v .lists in
+      let tracked : (f : Process → Bool) → f blankProcess ≡ f x → (q : Ids) → Tracks (λ y. f (process y p)) q → Tracks (λ y. f (byId processLimit blankProcess y (set (p .processes) (n - 1) x))) q = λ f e q tr.
+      tracks-same (λ y. f (process y p)) q tr (λ y. f (byId processLimit blankProcess y (set (p .processes) (n - 1) x))) n
+      (λ y ne. ap f (named-other processLimit blankProcess n x (p .processes) (omega arith) y ne))
+      (ap f (named-same processLimit blankProcess n x (p .processes) (omega arith) (omega arith) (omega (arith, o .numbered .size))) ∙ sym e ∙ ap f (sym (o .numbered .past n (omega arith)))) in
+      let e : max (p .processCount) n ≡ n = omega arith in
+      rw (created-in n x p (within-in processLimit n (omega arith) (omega arith)), e) (record {
+        mode = v .mode;
+        lists = record {
+          numbered = numbered-set (o .numbered) n x n (omega arith) (omega arith, omega arith) (omega arith);
+          arrivals = tracked ready refl (p .arrival) (o .arrivals);
+          waitings = tracked onObject refl (p .waiting) (o .waitings);
+        };
+        objects = v .objects;
+        eachProcess = all-set (o .numbered) n x n (omega arith) (omega arith, omega arith) (omega arith) (SoundProcess (settingOf (c .frame) (c .time) p)) (created-sound _ g h) (λ y b ne. v .eachProcess y (b .0, omega (arith, b .1, ne)));
+      })
+
+  -- entering NORMAL
+  entered-valid : c .time ≤ timeLimit → c .frame ≤ frameLimit → c .release < c .time + c .frame + c .frame → normalMode p ≡ false → Valid (c .frame) (c .time) (enteredNormal c p)
+  unfolding enteredNormal
+  entered-valid ends frame near e =
+      let q = withMode 3 p in
+      let f = entered c in
+      valid-of (c .frame) (c .time) q (each f q) (each-rest f q (v .lists)) (omega arith) (v .objects) (each-listed f q (v .lists)) (λ id b.
+      rw (each-process f q (v .lists) id b) (entered-sound c ends frame near true refl _ (c .time) (normalMode p) e (process id p) (v .eachProcess id b)))
+
+-- each change keeps a partition valid; k says that the call was made at a sound time
+pub change-valid : (c : Context) {o : Partition} → SoundContext c o → (p : Partition) → Valid (c .frame) (c .time) p → (a : Change) → SoundChange c p a → Valid (c .frame) (c .time) (applied a p)
+change-valid c k p v Nothing h = v
+change-valid c k p v (Stored id x) h = puts c p v id (h .0) x (h .1)
+change-valid c k p v (Created id x) h = rw (h .next, h .dormant) (new-process-valid c p v (h .room) (x .given) (h .given))
+change-valid c k p v (Last id) h = arrived-valid (c .frame) (c .time) p v id h
+change-valid c k p v (StoredSemaphore j s) h = semaphore-valid (c .frame) (c .time) p v j (h .0 .0) (h .0 .1) s (h .1)
+change-valid c k p v (StoredEvent j e) h = event-valid (c .frame) (c .time) p v j (h .0 .0) (h .0 .1) e (h .1)
+change-valid c k p v (Ended o) h = ended-all-valid c p v (waiters o p) (waiters-distinct p (v .lists) o) (waiters-on p (v .lists) o) (waiters-created p (v .lists) o)
+change-valid c k p v (Entered d) h = rw (h .0) (entered-valid c p v (k .time) (k .frame .1) (k .near) (h .1))
+
+-- and so does each decision
+pub decision-valid : (c : Context) (p : Partition) → SoundContext c p → Valid (c .frame) (c .time) p → (d : Decision) → SoundDecision c p d → Valid (c .frame) (c .time) (partitionAfter d p)
+decision-valid c p k v (Refused n) h = v
+decision-valid c p k v (Unchanged n e) h = v
+decision-valid c p k v Ticked h = v
+decision-valid c p k v (Blocked id x) h = change-valid c k p v (Stored id x) h
+decision-valid c p k v (Changed a b n) h = change-valid c k (applied a p) (change-valid c k p v a (h .0)) b (h .1)
+decision-valid c p k v (Restarted mode) h = nothing-valid (c .frame) (c .time) mode h
+decision-valid c p k v (Written i x) h = v
+
+-- ---------------------------------------------------------------- the calls
+pub record Sound (c : Context) (p : Partition) (d : Decision) : Type 0 where
+  pub is : SoundDecision c p d
 
 -- what the caller of a call is in NORMAL
 pub record Caller (id : ℕ) (p : Partition) : Type 0 where
@@ -247,105 +240,17 @@ pub record Caller (id : ℕ) (p : Partition) : Type 0 where
 pub running-caller : (p : Partition) → ListedIn p → (running p ≡ 0 → ⊥) → Caller (running p) p
 running-caller p v some = let k = running-runs p v some .isReady in record { created = process-created ready refl p v (running p) k; isReady = k }
 
-module _ (c : Context) (p : Partition) (v : Valid (c .frame) (c .time) p) (k : SoundContext c p) where
-  normal-caller : normalMode p ≡ true → Caller (c .caller) p
-  normal-caller n = rw (k .caller) (running-caller p (v .lists) (λ z. not-both _ (rw (n, z)) (or-false-parts (idleMode p) _ (k .calls) .1)))
+-- periodic and delay ≥ period is refused
+reaches-below : (period : Time) (delay : ℕ) → reaches period delay ≡ false → Below period delay
+reaches-below Never delay h = tt
+reaches-below (At n) delay h = leb-false n delay h
 
-  -- not a start mode
-  in-normal : startMode p ≡ false → normalMode p ≡ true
-  in-normal h = not-false (normalMode p) h
+more-room : (m n : ℕ) (t : Time) → m ≤ n → NotAfter m t → NotAfter n t
+more-room m n Never h k = tt
+more-room m n (At a) h k = omega arith
 
-  pub start-valid : (id : ℕ) (delay : Field) → KeptBy c (start c id delay p)
-  unfolding start Passed
-  start-valid id delay = by-checks (KeptBy c) (refused p) _ _ (λ n. v) (λ h.
-      let b = known-id id (p .processCount) (h .0) in
-      let x = process id p in
-      let l = v .eachProcess id b .lasting in
-      let d = v .eachProcess id b .dormant (not-true _ (not-false _ (h .1 .1 .0))) in
-      let f = or-false-parts _ (reaches (x .given .period) (numberOf delay)) (h .1 .0) in
-      let short = in-limits 0 durationLimit delay (not-false _ (f .0)) .1 in
-      let below = reaches-below (x .given .period) (numberOf delay) (f .1) in
-      puts c p v id b _ (by-test (SoundProcess (settingOf (c .frame) (c .time) p)) (normalMode p)
-      (λ e. start-sound c (k .time) (k .frame .1) (k .near) (normalMode p) e (p .semaphoreCount) (p .eventCount) (numberOf delay) x l (d .times .release) short below)
-      (λ e. early-sound _ x l (d .times) e (numberOf delay) short below)))
-
-  pub stop-self-valid : KeptBy c (stopSelf c p)
-  unfolding stopSelf Passed
-  stop-self-valid = by-checks (KeptBy c) (refused p) _ _ (λ n. v) (λ h.
-      let b = normal-caller (in-normal (h .0)) .created in
-      puts c p v (c .caller) b _ (stopped-sound _ (process (c .caller) p) (v .eachProcess (c .caller) b)))
-
-  pub suspend-self-valid : (a : Field) → KeptBy c (suspendSelf c a p)
-  unfolding suspendSelf blocked Passed
-  suspend-self-valid a = by-checks (KeptBy c) (refused p) _ _ (λ n. v) (λ h.
-      let f = or-false-parts (startMode p) _ (h .0) in
-      let n = in-normal (f .0) in
-      let q = normal-caller n in
-      let x = process (c .caller) p in
-      by-test (KeptBy c) (isNumber 0 a)
-      (λ _. v)
-      (λ e. puts c p v (c .caller) (q .created) _ (suspends-sound _ x (v .eachProcess (c .caller) (q .created)) n (q .isReady) (f .1) _ (timeout-ahead (c .time) a (k .time) (not-false _ (h .1 .0)) e))))
-
-  pub timed-valid : (a : Field) → KeptBy c (timedWait c a p)
-  unfolding timedWait blocked Passed
-  timed-valid a = by-checks (KeptBy c) (refused p) _ _ (λ n. v) (λ h.
-      let n = in-normal (h .0) in
-      let q = normal-caller n in
-      let x = process (c .caller) p in
-      let g = v .eachProcess (c .caller) (q .created) in
-      by-test (KeptBy c) (isNumber 0 a)
-      (λ _. arrived-valid (c .frame) (c .time) p v (c .caller) (q .isReady))
-      (λ e. puts c p v (c .caller) (q .created) _ (waiting-sound _ x g n (q .isReady) Timed tt _ (duration-ahead (c .time) a (k .time) (not-false _ (h .1 .0)) e) (ready-released _ x g n (q .isReady)))))
-
-  pub periodic-valid : KeptBy c (periodicWait c p)
-  unfolding periodicWait blocked Passed
-  periodic-valid = by-checks (KeptBy c) (refused p) _ _ (λ n. v) (λ h.
-      let f = or-false-parts (startMode p) _ (h .0) in
-      let n = in-normal (f .0) in
-      let q = normal-caller n in
-      puts c p v (c .caller) (q .created) _ (next-sound _ (process (c .caller) p) (v .eachProcess (c .caller) (q .created)) n (q .isReady) (k .time) (not-false _ (f .1))))
-
-  -- the caller waits on an object that is known
-  queued-valid : normalMode p ≡ true → (a : Field) → isTimeout a ≡ true → (w : Wait) → ((until : Time) → Timeout (c .time) until → SoundProcess (settingOf (c .frame) (c .time) p) (waitingFor w until (process (c .caller) p))) → KeptBy c (queued c a w p)
-  unfolding queued blocked Passed
-  queued-valid n a f w sound = by-checks (KeptBy c) (refused p) _ _ (λ n. v) (λ h. puts c p v (c .caller) (normal-caller n .created) _ (sound _ (timeout-ahead (c .time) a (k .time) f (h .0))))
-
-  pub wait-semaphore-valid : (j : ℕ) (a : Field) → KeptBy c (waitSemaphore c j a p)
-  unfolding waitSemaphore Passed
-  wait-semaphore-valid j a = by-checks (KeptBy c) (refused p) _ _ (λ n. v) (λ h.
-      let o = known-id j (p .semaphoreCount) (h .0) in
-      let n = in-normal (h .1 .0) in
-      let q = normal-caller n in
-      let g = v .eachProcess (c .caller) (q .created) in
-      by-test (KeptBy c) (ltb 0 (semaphore j p .value))
-      (λ _. value-valid (c .frame) (c .time) p v j o (semaphore j p .value - 1) (omega (arith, v .objects .eachSemaphore j o .value)))
-      (λ _. queued-valid n a (not-false _ (h .1 .1 .0)) (Semaphore j) (λ u f. waiting-sound _ (process (c .caller) p) g n (q .isReady) (Semaphore j) o u f (ready-released _ (process (c .caller) p) g n (q .isReady)))))
-
-  pub wait-event-valid : (j : ℕ) (a : Field) → KeptBy c (waitEvent c j a p)
-  unfolding waitEvent Passed
-  wait-event-valid j a = by-checks (KeptBy c) (refused p) _ _ (λ n. v) (λ h.
-      let n = in-normal (h .1 .0) in
-      let q = normal-caller n in
-      let g = v .eachProcess (c .caller) (q .created) in
-      by-test (KeptBy c) (event j p .up)
-      (λ _. v)
-      (λ _. queued-valid n a (not-false _ (h .1 .1 .0)) (Event j) (λ u f. waiting-sound _ (process (c .caller) p) g n (q .isReady) (Event j) (known-id j (p .eventCount) (h .0)) u f (ready-released _ (process (c .caller) p) g n (q .isReady)))))
-
-  -- entering NORMAL
-  entered-valid : normalMode p ≡ false → Valid (c .frame) (c .time) (enteredNormal c p)
-  unfolding enteredNormal
-  entered-valid e =
-      let q = withMode 3 p in
-      let f = entered c in
-      valid-of (c .frame) (c .time) q (each f q) (each-rest f q (v .lists)) (omega arith) (v .objects) (each-listed f q (v .lists)) (λ id b.
-      rw (each-process f q (v .lists) id b) (entered-sound c (k .time) (k .frame .1) (k .near) true refl (p .semaphoreCount) (p .eventCount) (c .time) (normalMode p) e (process id p) (v .eachProcess id b)))
-
-  pub set-mode-valid : (a : Field) → KeptBy c (setMode c a p)
-  unfolding setMode Passed
-  set-mode-valid a = by-checks (KeptBy c) (refused p) _ _ (λ n. v) (λ h.
-      by-test (Valid (c .frame) (c .time)) (isNumber 3 a)
-      (λ e. entered-valid (rw e at (h .1 .0)))
-      (λ e. nothing-valid (c .frame) (c .time) (numberOf a) (in-limits 0 3 a (not-false _ (h .0)) .1)))
+status-small : (c : Context) (id : ℕ) (x : Process) → status c id x ≤ 3
+status-small c id x = by-test (λ (n : ℕ). n ≤ 3) (dormant x) (λ _. omega arith) (λ _. by-test (λ (n : ℕ). n ≤ 3) (eqb id (c .caller)) (λ _. omega arith) (λ _. by-test (λ (n : ℕ). n ≤ 3) (ready x) (λ _. omega arith) (λ _. omega arith)))
 
 -- ---------------------------------------------------------------- what CREATE_PROCESS admits
 field-period : (frame : ℕ) (f : Field) → (isMinusOne f || isMultiple frame f) ≡ true → SoundPeriod frame (timeOf f)
@@ -381,96 +286,238 @@ admitted c r h =
       capacity = field-capacity (r .e) (r .c) (h4 .0) (h4 .1);
     }
 
-module _ (c : Context) (p : Partition) (v : Valid (c .frame) (c .time) p) where
-  -- the next process, DORMANT
-  new-process-valid : p .processCount < processLimit → (g : Given) → SoundGiven (c .frame) g → Valid (c .frame) (c .time) (withNewProcess (createdProcess g) p)
-  new-process-valid room g h =
-      let n = p .processCount + 1 in
-      let x = createdProcess g in
-      let o = v .lists in
-      let tracked : (f : Process → Bool) → f blankProcess ≡ f x → (q : Ids) → Tracks (λ y. f (process y p)) q → Tracks (λ y. f (byId processLimit blankProcess y (set (p .processes) (n - 1) x))) q = λ f e q tr.
-      tracks-same (λ y. f (process y p)) q tr (λ y. f (byId processLimit blankProcess y (set (p .processes) (n - 1) x))) n
-      (λ y ne. ap f (named-other processLimit blankProcess n x (p .processes) (omega arith) y ne))
-      (ap f (named-same processLimit blankProcess n x (p .processes) (omega arith) (omega arith) (omega (arith, o .numbered .size))) ∙ sym e ∙ ap f (sym (o .numbered .past n (omega arith)))) in
-      rw (replaced-in processLimit n x (p .processes) (within-in processLimit n (omega arith) (omega arith))) (record {
-        mode = v .mode;
-        lists = record {
-          numbered = numbered-set (o .numbered) n x n (omega arith) (omega arith, omega arith) (omega arith);
-          arrivals = tracked ready refl (p .arrival) (o .arrivals);
-          waitings = tracked onObject refl (p .waiting) (o .waitings);
-        };
-        objects = v .objects;
-        eachProcess = all-set (o .numbered) n x n (omega arith) (omega arith, omega arith) (omega arith) (SoundProcess (settingOf (c .frame) (c .time) p)) (created-sound _ g h) (λ y b ne. v .eachProcess y (b .0, omega (arith, b .1, ne)));
-      })
+-- what a call decides of a valid partition that may make it
+module _ (c : Context) (p : Partition) (v : Valid (c .frame) (c .time) p) (k : SoundContext c p) where
+  -- refused, or what the checks leave
+  in-checks : (l : List (Bool × ℕ)) (d : Decision) → (Passed l → SoundDecision c p d) → Sound c p (checked Refused l d)
+  in-checks l d f = by-checks (Sound c p) Refused l d (λ n. record { is = tt }) (λ h. record { is = f h })
 
-  pub create-process-valid : (r : Request) → KeptBy c (createProcess c r p)
+  normal-caller : normalMode p ≡ true → Caller (c .caller) p
+  normal-caller n = rw (k .caller) (running-caller p (v .lists) (λ z. not-both _ (rw (n, z)) (or-false-parts (idleMode p) _ (k .calls) .1)))
+
+  -- not a start mode
+  in-normal : startMode p ≡ false → normalMode p ≡ true
+  in-normal h = not-false (normalMode p) h
+
+  -- DORMANT or periodic is refused
+  fit : (id : ℕ) → (dormant (process id p) || periodic (process id p)) ≡ false → (process id p .started ≡ true) × (periodic (process id p) ≡ false)
+  fit id h = let r = or-false-parts _ (periodic (process id p)) h in (not-false (process id p .started) (r .0), r .1)
+
+  pub set-mode-sound : (a : Field) → Sound c p (setMode c a p)
+  unfolding setMode Passed
+  set-mode-sound a = by-checks (Sound c p) Refused _ _ (λ n. record { is = tt }) (λ h. by-test (Sound c p) (isNumber 3 a)
+      (λ e. record { is = ((refl, rw e at (h .1 .0)), tt, omega arith) })
+      (λ e. record { is = in-limits 0 3 a (not-false _ (h .0)) .1 }))
+
+  pub create-process-sound : (r : Request) → Sound c p (createProcess c r p)
   unfolding createProcess Passed
-  create-process-valid r = by-checks (KeptBy c) (refused p) _ _ (λ n. v) (λ h. new-process-valid (leb-false processLimit (p .processCount) (h .0)) (givenBy r) (admitted c r (not-false _ (h .1 .1 .0))))
+  create-process-sound r = in-checks _ _ (λ h.
+      let room = leb-false processLimit (p .processCount) (h .0) in
+      (record { room = room; next = refl; given = admitted c r (not-false _ (h .1 .1 .0)); dormant = refl }, tt, omega arith))
 
-  pub create-semaphore-valid : (r : Request) → KeptBy c (createSemaphore r p)
+  pub start-sound-in : (id : ℕ) (delay : Field) → Sound c p (start c id delay p)
+  unfolding start Passed
+  start-sound-in id delay = in-checks _ _ (λ h.
+      let b = known-id id (p .processCount) (h .0) in
+      let x = process id p in
+      let l = v .eachProcess id b .lasting in
+      let d = v .eachProcess id b .dormant (not-true _ (not-false _ (h .1 .1 .0))) in
+      let f = or-false-parts _ (reaches (x .given .period) (numberOf delay)) (h .1 .0) in
+      let short = in-limits 0 durationLimit delay (not-false _ (f .0)) .1 in
+      let below = reaches-below (x .given .period) (numberOf delay) (f .1) in (
+        (
+          b,
+          by-test (SoundProcess (settingOf (c .frame) (c .time) p)) (normalMode p)
+              (λ e. start-sound c (k .time) (k .frame .1) (k .near) (normalMode p) e _ (numberOf delay) x l (d .times .release) short below)
+              (λ e. early-sound _ x l (d .times) e (numberOf delay) short below),
+        ),
+        tt,
+        omega arith,
+      ))
+
+  pub stop-sound : (id : ℕ) → Sound c p (stop c id p)
+  unfolding stop Passed
+  stop-sound id = in-checks _ _ (λ h.
+      let b = known-id id (p .processCount) (h .0) in
+      ((b, stopped-sound _ (process id p) (v .eachProcess id b)), tt, omega arith))
+
+  pub stop-self-sound : Sound c p (stopSelf c p)
+  unfolding stopSelf Passed
+  stop-self-sound = in-checks _ _ (λ h.
+      let b = normal-caller (in-normal (h .0)) .created in
+      ((b, stopped-sound _ (process (c .caller) p) (v .eachProcess (c .caller) b)), tt, omega arith))
+
+  pub suspend-sound : (id : ℕ) → Sound c p (suspend c id p)
+  unfolding suspend Passed
+  suspend-sound id = in-checks _ _ (λ h.
+      let b = known-id id (p .processCount) (h .0) in
+      let f = fit id (h .1 .1 .0) in
+      ((b, suspended-sound _ (process id p) (v .eachProcess id b) (f .0) (f .1)), tt, omega arith))
+
+  pub suspend-self-sound : (a : Field) → Sound c p (suspendSelf c a p)
+  unfolding suspendSelf blocked Passed
+  suspend-self-sound a = by-checks (Sound c p) Refused _ _ (λ n. record { is = tt }) (λ h.
+      let f = or-false-parts (startMode p) _ (h .0) in
+      let n = in-normal (f .0) in
+      let q = normal-caller n in
+      let x = process (c .caller) p in
+      by-test (Sound c p) (isNumber 0 a)
+      (λ _. record { is = (omega arith, omega arith) })
+      (λ e. record { is = (q .created, suspends-sound _ x (v .eachProcess (c .caller) (q .created)) n (q .isReady) (f .1) _ (timeout-ahead (c .time) a (k .time) (not-false _ (h .1 .0)) e)) }))
+
+  pub timed-sound : (a : Field) → Sound c p (timedWait c a p)
+  unfolding timedWait blocked Passed
+  timed-sound a = by-checks (Sound c p) Refused _ _ (λ n. record { is = tt }) (λ h.
+      let n = in-normal (h .0) in
+      let q = normal-caller n in
+      let x = process (c .caller) p in
+      let g = v .eachProcess (c .caller) (q .created) in
+      by-test (Sound c p) (isNumber 0 a)
+      (λ _. record { is = ((q .isReady), tt, omega arith) })
+      (λ e. record { is = (q .created, waiting-sound _ x g n (q .isReady) Timed tt _ (duration-ahead (c .time) a (k .time) (not-false _ (h .1 .0)) e) (ready-released _ x g n (q .isReady))) }))
+
+  pub periodic-sound : Sound c p (periodicWait c p)
+  unfolding periodicWait blocked Passed
+  periodic-sound = in-checks _ _ (λ h.
+      let f = or-false-parts (startMode p) _ (h .0) in
+      let n = in-normal (f .0) in
+      let q = normal-caller n in
+      (q .created, next-sound _ (process (c .caller) p) (v .eachProcess (c .caller) (q .created)) n (q .isReady) (k .time) (not-false _ (f .1))))
+
+  pub resume-sound : (id : ℕ) → Sound c p (resume c id p)
+  unfolding resume Passed
+  resume-sound id = in-checks _ _ (λ h.
+      let b = known-id id (p .processCount) (h .0) in
+      ((b, resumed-sound _ (process id p) (v .eachProcess id b) (fit id (h .1 .1 .0) .0)), tt, omega arith))
+
+  pub priority-sound-in : (id : ℕ) (a : Field) → Sound c p (setPriority id a p)
+  unfolding setPriority Passed
+  priority-sound-in id a = in-checks _ _ (λ h.
+      let b = known-id id (p .processCount) (h .0) in
+      let x = process id p in
+      let y = withCurrent (numberOf a) x in (
+        (b, priority-sound _ x (v .eachProcess id b) (not-false (x .started) (h .1 .1 .0)) (numberOf a) (in-limits 1 priorityLimit a (not-false _ (h .1 .0)))),
+        by-test (SoundChange c (stored id y p)) (ready x) (λ e. rw (process-stored p id y (v .lists) b) e) (λ _. tt),
+        omega arith,
+      ))
+
+  pub status-sound : (id : ℕ) → Sound c p (getStatus c id p)
+  unfolding getStatus Passed
+  status-sound id = in-checks _ _ (λ h. (
+    omega (arith, status-small c id (process id p)),
+    more-room latestDeadline numberLimit (process id p .times .deadline) (omega arith) (times-bounded _ (process id p) (v .eachProcess id (known-id id (p .processCount) (h .0))) (k .time) .deadline),
+  ))
+
+  -- ------------------------------------------------------------ objects
+  pub create-semaphore-sound : (r : Request) → Sound c p (createSemaphore r p)
   unfolding createSemaphore Passed
-  create-semaphore-valid r = by-checks (KeptBy c) (refused p) _ _ (λ n. v) (λ h.
+  create-semaphore-sound r = in-checks _ _ (λ h.
       let room = leb-false semaphoreLimit (p .semaphoreCount) (h .0) in
       let f = and-true-parts (isName (r .a)) _ (not-false _ (h .1 .1 .0)) in
-      let g = and-true-parts (between 1 valueLimit (r .c)) _ (f .1) in
-      let n = p .semaphoreCount + 1 in
-      let o = v .objects in
-      rw (replaced-in semaphoreLimit n _ (p .semaphores) (within-in semaphoreLimit n (omega arith) (omega arith))) (record {
-        mode = v .mode;
-        lists = v .lists;
-        objects = record {
-          semaphores = numbered-set (o .semaphores) n _ n (omega arith) (omega arith, omega arith) (omega arith);
-          events = o .events;
-          eachSemaphore = all-set (o .semaphores) n _ n (omega arith) (omega arith, omega arith) (omega arith) SoundSemaphore
-              (record { name = in-limits 1 nameLimit (r .a) (f .0); value = in-limits 0 (numberOf (r .c)) (r .b) (g .1) .1; max = in-limits 1 valueLimit (r .c) (g .0) })
-              (λ y b ne. o .eachSemaphore y (b .0, omega (arith, b .1, ne)));
-          eachEvent = o .eachEvent;
-        };
-        eachProcess = λ id b. outside-normal (settingOf (c .frame) (c .time) p) _ (process id p) (h .1 .1 .1 .0) (h .1 .1 .1 .0) refl (v .eachProcess id b);
-      }))
+      let g = and-true-parts (between 1 valueLimit (r .c)) _ (f .1) in (
+        (((omega arith, omega arith), omega arith), record { name = in-limits 1 nameLimit (r .a) (f .0); value = in-limits 0 (numberOf (r .c)) (r .b) (g .1) .1; max = in-limits 1 valueLimit (r .c) (g .0) }),
+        tt,
+        omega arith,
+      ))
 
-  pub create-event-valid : (name : Field) → KeptBy c (createEvent name p)
+  pub create-event-sound : (name : Field) → Sound c p (createEvent name p)
   unfolding createEvent Passed
-  create-event-valid name = by-checks (KeptBy c) (refused p) _ _ (λ n. v) (λ h.
+  create-event-sound name = in-checks _ _ (λ h.
       let room = leb-false eventLimit (p .eventCount) (h .0) in
-      let n = p .eventCount + 1 in
-      let o = v .objects in
-      rw (replaced-in eventLimit n _ (p .events) (within-in eventLimit n (omega arith) (omega arith))) (record {
-        mode = v .mode;
-        lists = v .lists;
-        objects = record {
-          semaphores = o .semaphores;
-          events = numbered-set (o .events) n _ n (omega arith) (omega arith, omega arith) (omega arith);
-          eachSemaphore = o .eachSemaphore;
-          eachEvent = all-set (o .events) n _ n (omega arith) (omega arith, omega arith) (omega arith) SoundEvent
-              (record { name = in-limits 1 nameLimit name (not-false _ (h .1 .1 .0)) })
-              (λ y b ne. o .eachEvent y (b .0, omega (arith, b .1, ne)));
-        };
-        eachProcess = λ id b. outside-normal (settingOf (c .frame) (c .time) p) _ (process id p) (h .1 .1 .1 .0) (h .1 .1 .1 .0) refl (v .eachProcess id b);
-      }))
+      ((((omega arith, omega arith), omega arith), record { name = in-limits 1 nameLimit name (not-false _ (h .1 .1 .0)) }), tt, omega arith))
+
+  -- one that is known
+  value-sound : (j : ℕ) → Between 1 (p .semaphoreCount) j → (n : ℕ) → n ≤ semaphore j p .max → SoundChange c p (withValue j n p)
+  value-sound j b n h = let s = v .objects .eachSemaphore j b in (((b .0, omega (arith, b .1)), omega (arith, b .1, v .objects .semaphores .few)), record { name = s .name; value = h; max = s .max })
+
+  up-sound : (j : ℕ) → Between 1 (p .eventCount) j → (up : Bool) → SoundChange c p (withUp j up p)
+  up-sound j b up = (((b .0, omega (arith, b .1)), omega (arith, b .1, v .objects .events .few)), record { name = v .objects .eachEvent j b .name })
+
+  -- a call that waits: where its first checks tell that the object is known, success or the wait is sound
+  await-sound : (before : List (Bool × ℕ)) (beside : Bool) (after : List (Bool × ℕ)) (a : Field) (b : Bool) (success : Decision) (w : Wait) (kind j : ℕ)
+      → classOf w ≡ Class.onto kind j
+      → (Passed before → SoundDecision c p success)
+      → (Passed before → Between 1 (settingOf (c .frame) (c .time) p .counts kind) j)
+      → Sound c p (awaiting c before beside after a b success w p)
+  unfolding awaiting queued blocked Passed
+  await-sound before beside after a b success w kind j class done known = by-checks (Sound c p) Refused _ _ (λ n. record { is = tt }) (λ h.
+      let f = passed-parts before _ h in
+      let n = in-normal (f .1 .0) in
+      let q = normal-caller n in
+      let x = process (c .caller) p in
+      let g = v .eachProcess (c .caller) (q .created) in
+      by-test (Sound c p) b
+      (λ _. record { is = done (f .0) })
+      (λ _. in-checks _ _ (λ e.
+      (q .created, waiting-sound _ x g n (q .isReady) w (rw class (known (f .0))) _ (rw class (timeout-ahead (c .time) a (k .time) (and-true-parts beside _ (not-false _ (f .1 .1 .0)) .1) (e .0))) (rw class (ready-released _ x g n (q .isReady)))))))
+
+  pub wait-semaphore-sound : (j : ℕ) (a : Field) → Sound c p (waitSemaphore c j a p)
+  unfolding waitSemaphore Passed
+  wait-semaphore-sound j a = await-sound _ _ _ _ _ _ (Semaphore j) 1 j refl
+      (λ h. ((value-sound j (known-id j (p .semaphoreCount) (h .0)) (semaphore j p .value - 1) (omega (arith, v .objects .eachSemaphore j (known-id j (p .semaphoreCount) (h .0)) .value))), tt, omega arith))
+      (λ h. known-id j (p .semaphoreCount) (h .0))
+
+  pub wait-event-sound : (j : ℕ) (a : Field) → Sound c p (waitEvent c j a p)
+  unfolding waitEvent Passed
+  wait-event-sound j a = await-sound _ _ _ _ _ _ (Event j) 2 j refl
+      (λ h. (omega arith, omega arith))
+      (λ h. known-id j (p .eventCount) (h .0))
+
+  signalled-sound : (l : List ℕ) (j : ℕ) → Between 1 (p .semaphoreCount) j → (semaphore j p .value ≡ semaphore j p .max → ⊥) → ((id : ℕ) → contains id l ≡ true → onObject (process id p) ≡ true) → AllCreated l (p .processCount) → SoundChange c p (signalled l j p)
+  unfolding signalled contains
+  signalled-sound [] j b below on all =
+      let s = v .objects .eachSemaphore j b in
+      value-sound j b (oneMore (semaphore j p .value)) (by-test (λ (n : ℕ). n ≤ semaphore j p .max) (ltb (semaphore j p .value) greatestValue) (λ _. omega (arith, s .value)) (λ _. s .value))
+  signalled-sound (id ∷ l) j b below on all = let i : (eqb id id || contains id l) ≡ true = rw (eq-eqb id id refl) in (all id i, ended-sound _ (process id p) (v .eachProcess id (all id i)) (on id i))
+
+  pub signal-sound : (j : ℕ) → Sound c p (signal j p)
+  unfolding signal Passed
+  signal-sound j = in-checks _ _ (λ h.
+      let o = object (Semaphore j) in
+      ((signalled-sound (waiters o p) j (known-id j (p .semaphoreCount) (h .0)) (eqb-false _ _ (h .1 .0)) (waiters-on p (v .lists) o) (waiters-created p (v .lists) o)), tt, omega arith))
+
+  pub set-event-sound : (j : ℕ) → Sound c p (setEvent j p)
+  unfolding setEvent Passed
+  set-event-sound j = in-checks _ _ (λ h. (up-sound j (known-id j (p .eventCount) (h .0)) true, tt, omega arith))
+
+  pub reset-sound : (j : ℕ) → Sound c p (resetEvent j p)
+  unfolding resetEvent Passed
+  reset-sound j = in-checks _ _ (λ h. ((up-sound j (known-id j (p .eventCount) (h .0)) false), tt, omega arith))
+
+  -- ------------------------------------------------------------ channels
+  pub write-sound : (x : Port) (a : Field) → Sound c p (write c x a)
+  unfolding write Passed
+  write-sound x a = by-checks (Sound c p) Refused _ _ (λ n. record { is = tt }) (λ _. in-checks _ _ (λ h. record { value = in-limits 0 durationLimit a (not-false _ (h .0)) .1; written = omega arith }))
+
+  pub read-sound : (x : Port) → SoundMessage (c .time) (x .message) → Sound c p (read c x)
+  unfolding read
+  read-sound x s = by-checks (Sound c p) Refused _ _ (λ n. record { is = tt }) (λ _. in-checks _ _ (λ _.
+      (omega (arith, s .value), by-test (λ (n : ℕ). n ≤ numberLimit) (leb (c .time - x .message .written) (x .channel .refresh)) (λ _. omega arith) (λ _. omega arith))))
 
 -- ---------------------------------------------------------------- every call
-pub call-valid : (c : Context) (n : ℕ) (r : Request) (p : Partition) → Valid (c .frame) (c .time) p → SoundContext c p → KeptBy c (partitionCall c n r p)
-call-valid c n r p v k =
-    by-call c n r p (KeptBy c)
-    (set-mode-valid c p v k (r .a))
-    (create-process-valid c p v r)
-    (start-valid c p v k (numberOf (r .a)) (Number 0))
-    (start-valid c p v k (numberOf (r .a)) (r .b))
-    (stop-valid c p v (numberOf (r .a)))
-    (stop-self-valid c p v k)
-    (suspend-valid c p v (numberOf (r .a)))
-    (suspend-self-valid c p v k (r .a))
-    (timed-valid c p v k (r .a))
-    (periodic-valid c p v k)
-    (resume-valid c p v (numberOf (r .a)))
-    (priority-valid c p v (numberOf (r .a)) (r .b))
-    (status-valid c p v (numberOf (r .a)))
-    (create-semaphore-valid c p v r)
-    (wait-semaphore-valid c p v k (numberOf (r .a)) (r .b))
-    (signal-valid c p v (numberOf (r .a)))
-    (create-event-valid c p v (r .a))
-    (set-event-valid c p v (numberOf (r .a)))
-    (reset-valid c p v (numberOf (r .a)))
-    (wait-event-valid c p v k (numberOf (r .a)) (r .b))
-    (λ _. v)
+pub call-sound : (c : Context) (x : Port) (n : ℕ) (r : Request) (p : Partition) → Valid (c .frame) (c .time) p → SoundContext c p → SoundMessage (c .time) (x .message) → Sound c p (callDecision c x n r p)
+call-sound c x n r p v k s =
+    by-call c x n r p (Sound c p)
+    (set-mode-sound c p v k (r .a))
+    (create-process-sound c p v k r)
+    (start-sound-in c p v k (numberOf (r .a)) (Number 0))
+    (start-sound-in c p v k (numberOf (r .a)) (r .b))
+    (stop-sound c p v k (numberOf (r .a)))
+    (stop-self-sound c p v k)
+    (suspend-sound c p v k (numberOf (r .a)))
+    (suspend-self-sound c p v k (r .a))
+    (timed-sound c p v k (r .a))
+    (periodic-sound c p v k)
+    (resume-sound c p v k (numberOf (r .a)))
+    (priority-sound-in c p v k (numberOf (r .a)) (r .b))
+    (status-sound c p v k (numberOf (r .a)))
+    (create-semaphore-sound c p v k r)
+    (wait-semaphore-sound c p v k (numberOf (r .a)) (r .b))
+    (signal-sound c p v k (numberOf (r .a)))
+    (create-event-sound c p v k (r .a))
+    (set-event-sound c p v k (numberOf (r .a)))
+    (reset-sound c p v k (numberOf (r .a)))
+    (wait-event-sound c p v k (numberOf (r .a)) (r .b))
+    (λ _. write-sound c p v k x (r .b))
+    (read-sound c p v k x s)
+    (λ _. record { is = tt })

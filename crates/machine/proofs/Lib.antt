@@ -28,3 +28,5 @@ pub mod Answers
 pub mod Plain
 pub mod Taken
 pub mod Replays
+pub mod Applied
+pub mod Starts

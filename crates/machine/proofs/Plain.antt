@@ -1,5 +1,5 @@
 -- On a valid record no bound and no cap acts: the definitions are document 01's plain ones there. Assumes nothing.
-use Prim.Native.Nat.{ℕ, zero, suc, _+_, _-_, _%_, _≤_, _<_}
+use Prim.Native.Nat.{ℕ, zero, suc, _+_, _-_, _%_, _≤_, _<_, max}
 use mathlib.Core.Path.{_≡_, refl, ap, sym, _∙_}
 use mathlib.Core.Bool.{Bool, true, false, _&&_, and-false}
 use mathlib.Core.List.{List, [], _∷_, _++_}
@@ -10,6 +10,8 @@ use lib.IntN.{ℤ, pos, negsuc}
 use borrow.Author.Tests.{lt-ltb, lt-leb, leb-false, ne-eqb, not-true}
 use Rattle.machine.specs.declared.Ids.{Ids}
 use Rattle.machine.specs.declared.Process.{Process}
+use Rattle.machine.specs.declared.Semaphore.{Semaphore as SemaphoreT}
+use Rattle.machine.specs.declared.EventState.{EventState}
 use Rattle.machine.specs.declared.Partition.{Partition}
 use Rattle.machine.specs.declared.Context.{Context}
 use Rattle.machine.specs.declared.Table.{Table}
@@ -21,13 +23,13 @@ use Rattle.machine.specs.Limits.{processLimit, semaphoreLimit, eventLimi
 use Rattle.machine.specs.Fields.{field, isNumber, between, isMinusOne, isTimeout, timeOf}
 use Rattle.machine.specs.Ids.{members, idsOf, kept, other, removed, follow}
 use Rattle.machine.specs.Process.{blankProcess, later, isNever, periodic, ready, onObject}
-use Rattle.machine.specs.Partition.{noSemaphore, noEvent, process, semaphore, event, within, replaced, withProcesses, withSemaphores, withEvents, stored, arrivedLast}
-use Rattle.machine.specs.Objects.{withValue, withUp, oneMore}
+use Rattle.machine.specs.Partition.{noSemaphore, noEvent, process, semaphore, event, within, replaced, withProcesses, withSemaphores, withEvents, stored, storedSemaphore, storedEvent, arrivedLast}
+use Rattle.machine.specs.Objects.{oneMore}
 use Rattle.machine.specs.Windows.{windows, owner, lookup}
 use Rattle.machine.specs.Valid.{Between, Tracks, NotAfter, latestWake, Setting, LastingIn, SoundProcess, Numbered, ListedIn, Valid, SoundContext, SoundTable, plainLater}
 use Rattle.machine.proofs.Tests.{by-test}
 use Rattle.machine.proofs.Fields.{in-limits}
-use Rattle.machine.proofs.Bounds.{within-in, named-in, replaced-in, stored-in, value-in, up-in}
+use Rattle.machine.proofs.Bounds.{within-in, named-in, replaced-in, stored-in, semaphore-in, event-in}
 use Rattle.machine.proofs.Tracking.{tracks-room, appended-plain}
 use Rattle.machine.proofs.Lists.{members-idsOf, appended-idsOf}
 use Rattle.machine.proofs.Keeping.{process-ranged, removed-room}
@@ -78,8 +80,8 @@ module _ (frame t : ℕ) (p : Partition) (v : Valid frame t p) (k : ℕ) where
     pub semaphore-plain : semaphore k p ≡ getD (p .semaphores) (k - 1) noSemaphore
     semaphore-plain = named-in semaphoreLimit k noSemaphore (p .semaphores) in-semaphores
 
-    pub value-plain : (n : ℕ) → withValue k n p ≡ (let s = getD (p .semaphores) (k - 1) noSemaphore in withSemaphores (set (p .semaphores) (k - 1) (record { name = s .name; value = n; max = s .max })) (p .semaphoreCount) p)
-    value-plain n = value-in k p n in-semaphores
+    pub store-semaphore-plain : (s : SemaphoreT) → storedSemaphore k s p ≡ withSemaphores (set (p .semaphores) (k - 1) s) (p .semaphoreCount) p
+    store-semaphore-plain s = let e : max (p .semaphoreCount) k ≡ p .semaphoreCount = omega (arith, b .1) in semaphore-in k s p in-semaphores ∙ rw e
 
     pub one-more-plain : oneMore (semaphore k p .value) ≡ semaphore k p .value + 1
     one-more-plain = let s = v .objects .eachSemaphore k b in rw (lt-ltb (semaphore k p .value) greatestValue (omega (arith, s .value, s .max .1)))
@@ -91,8 +93,8 @@ module _ (frame t : ℕ) (p : Partition) (v : Valid frame t p) (k : ℕ) where
     pub event-plain : event k p ≡ getD (p .events) (k - 1) noEvent
     event-plain = named-in eventLimit k noEvent (p .events) in-events
 
-    pub up-plain : (up : Bool) → withUp k up p ≡ withEvents (set (p .events) (k - 1) (record { name = getD (p .events) (k - 1) noEvent .name; up = up })) (p .eventCount) p
-    up-plain up = up-in k p up in-events
+    pub store-event-plain : (s : EventState) → storedEvent k s p ≡ withEvents (set (p .events) (k - 1) s) (p .eventCount) p
+    store-event-plain s = let e : max (p .eventCount) k ≡ p .eventCount = omega (arith, b .1) in event-in k s p in-events ∙ rw e
 
 -- a READY process that goes to the end of the arrival list
 pub arrived-plain : (p : Partition) → ListedIn p → (id : ℕ) → ready (process id p) ≡ true → arrivedLast id p ≡ withProcesses (p .processes) (p .processCount) (idsOf (kept (other id) (members (p .arrival)) ++ (id ∷ []))) (p .waiting) p

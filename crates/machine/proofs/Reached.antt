@@ -16,26 +16,29 @@ use Rattle.machine.specs.declared.Message.{Message}
 use Rattle.machine.specs.declared.Partition.{Partition}
 use Rattle.machine.specs.declared.Module.{Module}
 use Rattle.machine.specs.declared.Request.{Request}
-use Rattle.machine.specs.declared.Done.{Done}
+use Rattle.machine.specs.declared.Decision.{Decision}
+use Rattle.machine.specs.declared.Decision.the-variants.{Refused, Unchanged, Ticked, Blocked, Changed, Restarted, Written}
 use Rattle.machine.specs.declared.Event.{Event as EventT}
 use Rattle.machine.specs.Limits.{durationLimit, timeLimit, partitionLimit, channelLimit, greatestTime}
 use Rattle.machine.specs.Fields.{requestOf, numberOf}
-use Rattle.machine.specs.Partition.{process, tickPartition, sooner, soonestFrom, soonestOf, withSoonest, noted, freshPartition}
-use Rattle.machine.specs.Checks.{checked}
-use Rattle.machine.specs.Services.{partitionCall}
-use Rattle.machine.specs.Module.{noPartition, noMessage, emptyTable, emptyModule, freshModule, channel, part, current, withPart, withMessage, withTime, refuse}
+use Rattle.machine.specs.Partition.{process, tickPartition, sooner, soonestFrom, soonestOf, withSoonest, noted, partitionAfter, freshPartition}
+use Rattle.machine.specs.Decisions.{checked, noMessage}
+use Rattle.machine.specs.Services.{callDecision}
+use Rattle.machine.specs.Module.{noPartition, emptyTable, emptyModule, freshModule, channel, part, current, withPart, message, withMessages, withMessage, withTime}
 use Rattle.machine.specs.Windows.{windows, flaggedFor, covers, owner, lookup, firstFlagged, releasePoint}
 use Rattle.machine.specs.Ticks.{tickTo, partitionCount, tickModule}
-use Rattle.machine.specs.Channels.{channelChecks, write, read, erasedTo}
-use Rattle.machine.specs.Step.{restarts, restarted, accepts, contextOf, callDone, done, step}
-use Rattle.machine.specs.Places.{noCaller}
+use Rattle.machine.specs.Channels.{seenAt, portOf, keptTo, erasedTo}
+use Rattle.machine.specs.Step.{contextOf, decision, moduleAfter, step}
 use Rattle.machine.specs.Table.{readTable}
 use Rattle.machine.specs.Valid.Reached.{stepped}
-use Rattle.machine.specs.Valid.{Valid, SoundContext, SoundWindows, SoundTable, SoundMessage, Noted, SoundModule, ValidModule, Reached, plainTickTo, plainTick}
-use Rattle.machine.proofs.Tests.{by-test, by-checks, Passed}
+use Rattle.machine.specs.Valid.{Valid, SoundContext, SoundDecision, SoundWindows, SoundTable, SoundMessage, Noted, SoundModule, ValidModule, Reached, plainTickTo, plainTick}
+use Rattle.machine.proofs.Tests.{by-test}
 use Rattle.machine.proofs.Fields.{in-limits}
 use Rattle.machine.proofs.Bounds.{either, same-or-not, getD-replicate-any}
-use Rattle.machine.proofs.Kept.{tick-valid, fresh-valid, call-valid}
+use Rattle.machine.proofs.Dispatch.{Calls, by-event}
+use Rattle.machine.proofs.Bodies.{Bodily, call-body}
+use Rattle.machine.proofs.Refusals.{call-in-range}
+use Rattle.machine.proofs.Kept.{tick-valid, fresh-valid, call-sound, decision-valid}
 use Rattle.machine.proofs.Quiet.{tick-to-plain}
 use Rattle.machine.proofs.Tables.{table-read}
 
@@ -181,82 +184,76 @@ module _ (m : Module) (s : SoundModule m) where
       })
 
 -- ---------------------------------------------------------------- calls
--- erasing messages leaves all else
-pub erased-around : (k n : ℕ) (m : Module) → erasedTo k n m ≡ record { table = m .table; t = m .t; messages = erasedTo k n m .messages; partitions = m .partitions }
-unfolding erasedTo
-erased-around k zero m = refl
-erased-around k (suc n) m =
-    by-test (λ (q : Module). q ≡ record { table = m .table; t = m .t; messages = q .messages; partitions = m .partitions }) (eqb (channel (m .table) n .destination) k)
-    (λ _. ap (withMessage n noMessage) (erased-around k n m))
-    (λ _. erased-around k n m)
-
 erased-sound : (k n : ℕ) (m : Module) → n ≤ channelLimit → SoundModule m → SoundModule (erasedTo k n m)
-unfolding erasedTo
+unfolding keptTo
 erased-sound k zero m h s = s
 erased-sound k (suc n) m h s =
     let e = erased-sound k n m (omega arith) s in
-    by-test SoundModule (eqb (channel (m .table) n .destination) k)
+    by-test (λ (l : List Message). SoundModule (withMessages l m)) (eqb (channel (m .table) n .destination) k)
     (λ _. message-sound (erasedTo k n m) e n (omega arith) noMessage (no-message (erasedTo k n m .t)))
     (λ _. e)
 
--- a partition stored, with the messages into it erased or not
-restarted-sound : (m : Module) → SoundModule m → (b : Bool) (k j : ℕ) → j < m .table .size → (p : Partition) → Valid (m .table .frame) (m .t) p → SoundModule (withPart j p (restarted b k m))
-restarted-sound m s b k j h p v = by-test (λ (q : Module). SoundModule (withPart j p q)) b
-    (λ _.
-    let e = erased-sound k channelLimit m (omega arith) s in
-    let same = erased-around k channelLimit m in
-    part-sound (erasedTo k channelLimit m) e j (rw same h) p (rw same v))
-    (λ _. part-sound m s j h p v)
+-- what is seen of a message is sound
+seen-sound : (m : Module) → SoundModule m → (k i : ℕ) → SoundMessage (m .t) (seenAt k (channel (m .table) i) (message m i))
+seen-sound m s k i = by-test (SoundMessage (m .t)) (eqb (channel (m .table) i .destination) k) (λ _. s .eachMessage i) (λ _. no-message (m .t))
 
-abbrev pub SoundAfter : Done → Type 0
-SoundAfter d = SoundModule (d .state)
+module _ (m : Module) (s : SoundModule m) (r : Request) (q : Calls m r) where
+  abbrev caller : ℕ
+  caller = numberOf (r .partition)
 
-module _ (m : Module) (s : SoundModule m) (k : ℕ) (some : k ≡ 0 → ⊥) (now : current m ≡ k) (calls : noCaller (part m (k - 1)) ≡ false) where
-  place : k - 1 < m .table .size
-  place = omega (arith, current-known (m .table) (s .table) (m .t))
+  place : caller - 1 < m .table .size
+  place = let some = q .some in omega (arith, current-known (m .table) (s .table) (m .t), q .now)
 
-  pub context-sound : SoundContext (contextOf m k) (part m (k - 1))
+  pub context-sound : SoundContext (contextOf m caller) (part m (caller - 1))
   context-sound =
-      let r = release-bounds (m .table) (s .table) (m .t) (s .time) k in
-      record { time = s .time; frame = s .table .frame; ahead = r .0; near = r .1; caller = refl; calls = calls }
+      let b = release-bounds (m .table) (s .table) (m .t) (s .time) caller in
+      record { time = s .time; frame = s .table .frame; ahead = b .0; near = b .1; caller = refl; calls = q .caller }
 
-  write-sound : (r : Request) → SoundAfter (write m k r)
-  unfolding write channelChecks Passed
-  write-sound r = by-checks SoundAfter (refuse m) _ _ (λ n. s) (λ h. by-checks SoundAfter (refuse m) _ _ (λ n. s) (λ g.
-      let b = in-limits 1 (m .table .channelCount) (r .a) (not-false _ (h .0)) in
-      message-sound m s (numberOf (r .a) - 1) (omega (arith, b .0, b .1, s .table .channelCount)) _ (record { value = in-limits 0 durationLimit (r .b) (not-false _ (g .0)) .1; written = omega arith })))
+  abbrev pub made : Decision
+  made = callDecision (contextOf m caller) (portOf m caller r) (numberOf (r .call)) r (part m (caller - 1))
 
-  read-sound : (r : Request) → SoundAfter (read m k r)
-  unfolding read Passed
-  read-sound r = by-checks SoundAfter (refuse m) _ _ (λ n. s) (λ _. by-checks SoundAfter (refuse m) _ _ (λ n. s) (λ _. s))
+  -- what a call decides is sound
+  pub made-sound : SoundDecision (contextOf m caller) (part m (caller - 1)) made
+  made-sound = call-sound (contextOf m caller) (portOf m caller r) (numberOf (r .call)) r (part m (caller - 1)) (s .eachPartition (caller - 1) place) context-sound (seen-sound m s caller (numberOf (r .a) - 1)) .is
 
-  call-sound : (n : ℕ) (r : Request) → SoundAfter (callDone m k n r)
-  call-sound n r =
-      by-test SoundAfter (eqb n 21) (λ _. write-sound r) (λ _.
-      by-test SoundAfter (eqb n 22) (λ _. read-sound r) (λ _.
-      by-test SoundModule (accepts (partitionCall (contextOf m k) n r (part m (k - 1)) .reply))
-      (λ _. restarted-sound m s (restarts n r) k (k - 1) place _ (call-valid (contextOf m k) n r (part m (k - 1)) (s .eachPartition (k - 1) place) context-sound))
-      (λ _. s)))
+  pub made-body : Bodily (portOf m caller r) (numberOf (r .call)) made
+  made-body = let u = call-in-range (m .table) r (q .formed) (ne-eqb caller 0 (q .some)) in call-body (portOf m caller r) (numberOf (r .call)) (contextOf m caller) r (part m (caller - 1)) (u .0) (u .1) .is
 
-pub done-sound : (m : Module) → SoundModule m → (r : Request) → SoundAfter (done m r)
-unfolding Passed
-done-sound m s r =
-    let k = numberOf (r .partition) in
-    by-checks SoundAfter (refuse m) _ _ (λ n. s) (λ h.
-    by-test SoundAfter (eqb k 0)
-    (λ _. by-checks SoundAfter (refuse m) _ _ (λ n. s) (λ g. tick-sound m s (leb-false timeLimit (m .t) (g .0))))
-    (λ z. by-checks SoundAfter (refuse m) _ _ (λ n. s) (λ g.
-    call-sound m s k (eqb-false k 0 z) (eqb-true (current m) k (not-false _ (g .0))) (g .1 .0) (numberOf (r .call)) r)))
+  valid : (d : Decision) → SoundDecision (contextOf m caller) (part m (caller - 1)) d → Valid (m .table .frame) (m .t) (partitionAfter d (part m (caller - 1)))
+  valid d h = decision-valid (contextOf m caller) (part m (caller - 1)) context-sound (s .eachPartition (caller - 1) place) d h
+
+  stores : (d : Decision) → SoundDecision (contextOf m caller) (part m (caller - 1)) d → SoundModule (withPart (caller - 1) (partitionAfter d (part m (caller - 1))) m)
+  stores d h = part-sound m s (caller - 1) place _ (valid d h)
+
+  -- a sound decision of the caller's partition, applied
+  applied-sound : (d : Decision) → SoundDecision (contextOf m caller) (part m (caller - 1)) d → Bodily (portOf m caller r) (numberOf (r .call)) d → SoundModule (moduleAfter m caller d)
+  applied-sound (Refused n) h b = s
+  applied-sound (Unchanged n e) h b = s
+  applied-sound Ticked h b = absurd b
+  applied-sound (Blocked id x) h b = stores (Blocked id x) h
+  applied-sound (Changed x y n) h b = stores (Changed x y n) h
+  applied-sound (Restarted mode) h b =
+      part-sound (erasedTo caller channelLimit m) (erased-sound caller channelLimit m (omega arith) s) (caller - 1) place _ (valid (Restarted mode) h)
+  applied-sound (Written i x) h b =
+      let c = in-limits 1 (m .table .channelCount) (r .a) (b .there) in
+      message-sound m s i (omega (arith, b .place, c .0, c .1, s .table .channelCount)) x h
+
+pub decided-sound : (m : Module) → SoundModule m → (r : Request) → SoundModule (moduleAfter m (numberOf (r .partition)) (decision m r))
+decided-sound m s r =
+    by-event m r (λ (d : Decision). SoundModule (moduleAfter m (numberOf (r .partition)) d))
+    (λ n _. s)
+    (λ _ _ room. tick-sound m s room)
+    (λ q. applied-sound m s r q (made m s r q) (made-sound m s r q) (made-body m s r q))
 
 -- ---------------------------------------------------------------- every reached record
 empty-step : (e : EventT) → step emptyModule e .state ≡ emptyModule
-unfolding step checked emptyModule emptyTable
+unfolding step decision checked emptyModule emptyTable
 empty-step e = refl
 
 pub step-valid : (m : Module) (e : EventT) → ValidModule m → ValidModule (step m e .state)
 unfolding step
 step-valid m e (inl h) = inl (rw h (empty-step e))
-step-valid m e (inr s) = inr (done-sound m s (requestOf e))
+step-valid m e (inr s) = inr (decided-sound m s (requestOf e))
 
 fresh-noted : Noted freshPartition
 unfolding freshPartition soonestFrom

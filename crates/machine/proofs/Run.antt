@@ -5,13 +5,12 @@ use mathlib.Core.Bool.{Bool, true, false, cond, not, _&&_, _||_}
 use mathlib.Core.List.{List, [], _∷_, _++_}
 use native.Mathlib.Omega.{arith}
 use lib.Dec.{eqb, leb}
-use borrow.Author.Tests.{lt-leb}
 use Rattle.machine.specs.declared.Module.{Module}
 use Rattle.machine.specs.declared.Event.{Event}
 use Rattle.machine.specs.declared.EventRecord.{EventRecord}
 use Rattle.machine.specs.Limits.{timeLimit}
 use Rattle.machine.specs.Fields.{requestOf, numberOf}
-use Rattle.machine.specs.Checks.{checked}
+use Rattle.machine.specs.declared.Decision.the-variants.{Ticked}
 use Rattle.machine.specs.Module as M
 use Rattle.machine.specs.Ticks as Ti
 use Rattle.machine.specs.Places as Pl
@@ -20,6 +19,7 @@ use Rattle.machine.specs.Table.{readTable}
 use Rattle.machine.specs.LeftRight.{after, answers, LeftRight}
 use Rattle.machine.specs.Valid.{SoundTable}
 use Rattle.machine.proofs.Tests.{by-test}
+use Rattle.machine.proofs.Dispatch.{ticks-decided}
 use Rattle.machine.proofs.Isolation.{left-right}
 use Rattle.machine.proofs.Tables.{table-read}
 
@@ -31,11 +31,11 @@ tick-time (suc n) m = by-test (λ (x : Module). x .t ≡ m .t) (leb (M.part (Ti.
 -- time rises by one with every tick below 99,999,999
 pub time-rises : (m : Module) (e : Event) → Pl.malformed (m .table) (requestOf e) ≡ false → eqb (numberOf (requestOf e .partition)) 0 ≡ true → m .t < timeLimit
     → (St.step m e .answer .code ≡ 0) × (St.step m e .state .t ≡ m .t + 1) × (St.step m e .answer .t ≡ m .t + 1)
-unfolding St.step checked
+unfolding St.step
 time-rises m e f z l =
-    let b : leb timeLimit (m .t) ≡ false = lt-leb timeLimit (m .t) l in
+    let d : St.decision m (requestOf e) ≡ Ticked = ticks-decided m (requestOf e) f z l in
     let t : Ti.tickTo (Ti.partitionCount (m .table)) (M.withTime (m .t + 1) m) .t ≡ m .t + 1 = tick-time (Ti.partitionCount (m .table)) (M.withTime (m .t + 1) m) in
-    (rw (f, z, b), rw (f, z, b) t, rw (f, z, b) t)
+    (rw d, rw d t, rw d t)
 
 -- the run over a list acts on what the event before left
 pub after-more : (m : Module) (left right : List Event) → after m (left ++ right) ≡ after (after m left) right

@@ -10,11 +10,11 @@ use Rattle.machine.specs.declared.Given.{Given}
 use Rattle.machine.specs.declared.Process.{Process}
 use Rattle.machine.specs.declared.Context.{Context}
 use Rattle.machine.specs.declared.Wait.{Wait}
-use Rattle.machine.specs.declared.Wait.the-variants.{None, Normal, Delay, Timed, Period, Semaphore, Event}
+use Rattle.machine.specs.declared.Wait.the-variants.{None}
 use Rattle.machine.specs.declared.Time.{Time}
 use Rattle.machine.specs.declared.Time.the-variants.{Never, At}
 use Rattle.machine.specs.Limits.{priorityLimit, durationLimit, timeLimit, frameLimit, greatestTime}
-use Rattle.machine.specs.Process.{createdProcess, capped, later, due, isNever, periodic, onObject, object, waitsForNothing, waitsForNormal, ready, withDeadline, waitEnded, withSuspended, withCurrent, waitingFor, suspendedUntil, woken, expired, ticked, begun, startRule, startedEarly, entered, stopped, resumed, nextRelease}
+use Rattle.machine.specs.Process.{Class, classOf, objectIn, forNothing, createdProcess, capped, later, due, isNever, periodic, onObject, object, waitsForNothing, waitsForNormal, ready, withDeadline, waitEnded, withSuspended, withCurrent, waitingFor, suspendedUntil, woken, expired, ticked, begun, startRule, startedEarly, entered, stopped, resumed, nextRelease}
 use Rattle.machine.specs.Valid.{Between, latestWake, latestDeadline, AtMost, NotAfter, Ahead, Timeout, SoundPeriod, Below, SoundCapacity, SoundGiven, Timeless, Bounded, Dormant, Early, KnownWait, SoundWake, Released, SoundRelease, Setting, setting, Going, Lasting, LastingIn, SoundCode, SoundMark, SoundProcess}
 use Rattle.machine.proofs.Tests.{by-test, not-both}
 use Rattle.machine.proofs.Bounds.{either, not-so, so, and-true-parts}
@@ -64,7 +64,7 @@ module _ (s : Setting) (x : Process) (l : LastingIn (s .frame) x) (c : SoundCode
   pub as-early : x .started ≡ true → s .normal ≡ false → Early (x .wait) (x .times) → SoundProcess s x
   as-early e n d = record { lasting = l; code = c; mark = m; dormant = λ a. not-both _ e a; early = λ _ _. d; going = λ a b. not-both _ b n }
 
-  pub as-going : x .started ≡ true → s .normal ≡ true → Going s (x .given .period) (x .suspended) (x .wait) (x .times) → SoundProcess s x
+  pub as-going : x .started ≡ true → s .normal ≡ true → Going s (x .given .period) (x .suspended) (classOf (x .wait)) (x .times) → SoundProcess s x
   as-going e n d = record { lasting = l; code = c; mark = m; dormant = λ a. not-both _ e a; early = λ a b. not-both _ n b; going = λ _ _. d }
 
 -- outside NORMAL neither the time nor the objects matter
@@ -89,7 +89,7 @@ delay-below frame delay Never h e b = not-both _ refl e
 delay-below frame delay (At n) h e b = omega (arith, h .0)
 
 -- no wait and no wake time, whatever the mark
-none-wake : (t : ℕ) (mark : Bool) (r : Time) → SoundWake t mark r None Never
+none-wake : (t : ℕ) (mark : Bool) (r : Time) → SoundWake t mark r Class.nothing Never
 none-wake t true r = tt
 none-wake t false r = refl
 
@@ -118,77 +118,63 @@ ahead-on : (t : ℕ) (w : Time) → Ahead t w → due (t + 1) w ≡ false → Ah
 ahead-on t Never h e = h
 ahead-on t (At n) h e = let l = leb-false n (t + 1) e in (l, omega (arith, h .1))
 
-wake-on : (t : ℕ) (mark : Bool) (r : Time) (v : Wait) (w : Time) → SoundWake t mark r v w → due (t + 1) w ≡ false → SoundWake (t + 1) mark r v w
-wake-on t true r None w h e = timeout-on t w h e
-wake-on t false r None w h e = h
-wake-on t mark r Normal w h e = h
-wake-on t mark r Delay w h e = ahead-on t w h e
-wake-on t mark r Timed w h e = ahead-on t w h e
-wake-on t mark r Period w h e = h
-wake-on t mark r (Semaphore k) w h e = timeout-on t w h e
-wake-on t mark r (Event k) w h e = timeout-on t w h e
+wake-on : (t : ℕ) (mark : Bool) (r : Time) (v : Class) (w : Time) → SoundWake t mark r v w → due (t + 1) w ≡ false → SoundWake (t + 1) mark r v w
+wake-on t true r Class.nothing w h e = timeout-on t w h e
+wake-on t false r Class.nothing w h e = h
+wake-on t mark r Class.normal w h e = h
+wake-on t mark r Class.timer w h e = ahead-on t w h e
+wake-on t mark r Class.release w h e = h
+wake-on t mark r (Class.onto kind k) w h e = timeout-on t w h e
 
-release-on : (t : ℕ) (p : Time) (v : Wait) (r : Time) → SoundRelease t p v r → SoundRelease (t + 1) p v r
-release-on t p None r h = released-more t p r h
-release-on t p Normal r h = h
-release-on t p Delay r h = h
-release-on t p Timed r h = released-more t p r h
-release-on t p Period r h = h
-release-on t p (Semaphore k) r h = released-more t p r h
-release-on t p (Event k) r h = released-more t p r h
+release-on : (t : ℕ) (p : Time) (v : Class) (r : Time) → SoundRelease t p v r → SoundRelease (t + 1) p v r
+release-on t p Class.nothing r h = released-more t p r h
+release-on t p Class.normal r h = h
+release-on t p Class.timer r h = released-more t p r h
+release-on t p Class.release r h = h
+release-on t p (Class.onto kind k) r h = released-more t p r h
 
 due-at-most : (t : ℕ) (w : Time) → due t w ≡ true → AtMost t w
 due-at-most t Never e = not-both _ e refl
 due-at-most t (At n) e = leb-true n t e
 
 -- one tick later, where w has come and the wait ends
-release-ended : (t : ℕ) (p : Time) (mark : Bool) (v : Wait) (r w : Time) → SoundRelease t p v r → SoundWake t mark r v w → due (t + 1) w ≡ true → Released (t + 1) p r
-release-ended t p mark None r w h k e = released-more t p r h
-release-ended t p mark Normal r w h k e = absurd h
-release-ended t p mark Delay r w h k e = released-never (t + 1) p r (h .0) (h .1)
-release-ended t p mark Timed r w h k e = released-more t p r h
-release-ended t p mark Period r w h k e = released-at-most (t + 1) p r (h .0) (due-at-most (t + 1) r (rw k at e))
-release-ended t p mark (Semaphore j) r w h k e = released-more t p r h
-release-ended t p mark (Event j) r w h k e = released-more t p r h
+release-ended : (t : ℕ) (p : Time) (mark : Bool) (v : Class) (r w : Time) → SoundRelease t p v r → SoundWake t mark r v w → due (t + 1) w ≡ true → Released (t + 1) p r
+release-ended t p mark Class.nothing r w h k e = released-more t p r h
+release-ended t p mark Class.normal r w h k e = absurd h
+release-ended t p mark Class.timer r w h k e = released-more t p r h
+release-ended t p mark Class.release r w h k e = released-at-most (t + 1) p r (h .0) (due-at-most (t + 1) r (rw k at e))
+release-ended t p mark (Class.onto kind j) r w h k e = released-more t p r h
 
 -- a wait on an object, ended before its time
-release-object : (t : ℕ) (p : Time) (v : Wait) (r : Time) → not (eqb (object v) 0) ≡ true → SoundRelease t p v r → Released t p r
-release-object t p None r e h = h
-release-object t p Normal r e h = absurd h
-release-object t p Delay r e h = not-both _ e refl
-release-object t p Timed r e h = h
-release-object t p Period r e h = not-both _ e refl
-release-object t p (Semaphore k) r e h = h
-release-object t p (Event k) r e h = h
+release-object : (t : ℕ) (p : Time) (v : Class) (r : Time) → not (eqb (objectIn v) 0) ≡ true → SoundRelease t p v r → Released t p r
+release-object t p Class.nothing r e h = h
+release-object t p Class.normal r e h = absurd h
+release-object t p Class.timer r e h = h
+release-object t p Class.release r e h = not-both _ e refl
+release-object t p (Class.onto kind k) r e h = h
 
 -- the mark set, and the mark taken away where there is a wait
-wake-suspended : (t : ℕ) (mark : Bool) (r : Time) (v : Wait) (w : Time) → SoundWake t mark r v w → SoundWake t true r v w
-wake-suspended t true r None w h = h
-wake-suspended t false r None w h = rw h tt
-wake-suspended t mark r Normal w h = h
-wake-suspended t mark r Delay w h = h
-wake-suspended t mark r Timed w h = h
-wake-suspended t mark r Period w h = h
-wake-suspended t mark r (Semaphore k) w h = h
-wake-suspended t mark r (Event k) w h = h
+wake-suspended : (t : ℕ) (mark : Bool) (r : Time) (v : Class) (w : Time) → SoundWake t mark r v w → SoundWake t true r v w
+wake-suspended t true r Class.nothing w h = h
+wake-suspended t false r Class.nothing w h = rw h tt
+wake-suspended t mark r Class.normal w h = h
+wake-suspended t mark r Class.timer w h = h
+wake-suspended t mark r Class.release w h = h
+wake-suspended t mark r (Class.onto kind k) w h = h
 
-wake-resumed : (t : ℕ) (mark : Bool) (r : Time) (v : Wait) (w : Time) → waitsForNothing v ≡ false → SoundWake t mark r v w → SoundWake t false r v w
-wake-resumed t mark r None w e h = not-both _ refl e
-wake-resumed t mark r Normal w e h = h
-wake-resumed t mark r Delay w e h = h
-wake-resumed t mark r Timed w e h = h
-wake-resumed t mark r Period w e h = h
-wake-resumed t mark r (Semaphore k) w e h = h
-wake-resumed t mark r (Event k) w e h = h
+wake-resumed : (t : ℕ) (mark : Bool) (r : Time) (v : Class) (w : Time) → forNothing v ≡ false → SoundWake t mark r v w → SoundWake t false r v w
+wake-resumed t mark r Class.nothing w e h = not-both _ refl e
+wake-resumed t mark r Class.normal w e h = h
+wake-resumed t mark r Class.timer w e h = h
+wake-resumed t mark r Class.release w e h = h
+wake-resumed t mark r (Class.onto kind k) w e h = h
 
-for-nothing : (v : Wait) → waitsForNothing v ≡ true → v ≡ None
-for-nothing None e = refl
-for-nothing Normal e = not-both _ e refl
-for-nothing Delay e = not-both _ e refl
-for-nothing Timed e = not-both _ e refl
-for-nothing Period e = not-both _ e refl
-for-nothing (Semaphore k) e = not-both _ e refl
-for-nothing (Event k) e = not-both _ e refl
+for-nothing : (v : Class) → forNothing v ≡ true → v ≡ Class.nothing
+for-nothing Class.nothing e = refl
+for-nothing Class.normal e = not-both _ e refl
+for-nothing Class.timer e = not-both _ e refl
+for-nothing Class.release e = not-both _ e refl
+for-nothing (Class.onto kind k) e = not-both _ e refl
 
 -- ---------------------------------------------------------------- creating and starting
 no-times : (delay : ℕ) → Timeless (record { release = Never; deadline = Never; wake = Never; delay = delay })
@@ -205,7 +191,7 @@ with-current : (frame : ℕ) (x : Process) → LastingIn frame x → (n : ℕ) �
 with-current frame x l n b started = record { given = l .given; current = b .1; priority = λ _. b .0; delay = l .delay; early = l .early }
 
 -- the start rule, with any mark that the process may have and any priority
-module _ (c : Context) (ends : c .time ≤ timeLimit) (frame : c .frame ≤ frameLimit) (near : c .release < c .time + c .frame + c .frame) (normal : Bool) (e : normal ≡ true) (a b : ℕ) where
+module _ (c : Context) (ends : c .time ≤ timeLimit) (frame : c .frame ≤ frameLimit) (near : c .release < c .time + c .frame + c .frame) (normal : Bool) (e : normal ≡ true) (a : ℕ → ℕ) where
   module _ (delay : ℕ) (x : Process) (l : LastingIn (c .frame) x) (none : x .times .release ≡ Never) (short : delay ≤ durationLimit) (below : Below (x .given .period) delay) where
     start-release : isNever (x .given .period) ≡ false → AtMost latestWake (later (At (c .release)) (At delay))
     start-release k = later-at-most (c .release) delay latestWake (At (c .release)) (At delay) (omega arith) (omega arith) (omega (arith, delay-below (c .frame) delay (x .given .period) (l .given .period) k below))
@@ -216,10 +202,10 @@ module _ (c : Context) (ends : c .time ≤ timeLimit) (frame : c .frame ≤ fram
     start-deadline : NotAfter latestDeadline (later (later (At (c .time)) (At delay)) (x .given .capacity))
     start-deadline = later-not-after (timeLimit + durationLimit) durationLimit latestDeadline (later (At (c .time)) (At delay)) (x .given .capacity) (later-not-after timeLimit durationLimit (timeLimit + durationLimit) (At (c .time)) (At delay) ends short (omega arith)) cap (omega arith)
 
-    pub start-any : (mark : Bool) → (periodic x && mark) ≡ false → (n : ℕ) → Between 1 priorityLimit n → SoundProcess (setting (c .frame) (c .time) normal a b) (withSuspended mark (withCurrent n (startRule c delay x)))
+    pub start-any : (mark : Bool) → (periodic x && mark) ≡ false → (n : ℕ) → Between 1 priorityLimit n → SoundProcess (setting (c .frame) (c .time) normal a) (withSuspended mark (withCurrent n (startRule c delay x)))
     unfolding startRule
     start-any mark clear n priority =
-        let s = setting (c .frame) (c .time) normal a b in
+        let s = setting (c .frame) (c .time) normal a in
         let l′ = with-current (c .frame) x l n priority true in
         by-test (λ (y : Process). SoundProcess s (withSuspended mark (withCurrent n y))) (periodic x)
         (λ k.
@@ -242,7 +228,7 @@ module _ (c : Context) (ends : c .time ≤ timeLimit) (frame : c .frame ≤ fram
         (λ k. as-going s _ l′ (inl refl) clear refl e (record {
           wait = tt;
           wake = ahead-later (c .time) delay ends (eqb-false delay 0 k) short;
-          release = (never, none);
+          release = released-never (c .time) (x .given .period) (x .times .release) never none;
           deadline = start-deadline;
         })))
 
@@ -250,14 +236,14 @@ module _ (c : Context) (ends : c .time ≤ timeLimit) (frame : c .frame ≤ fram
     unfolding startRule
     start-same = by-test (λ (y : Process). withSuspended false (withCurrent (x .given .base) y) ≡ y) (periodic x) (λ _. refl) (λ _. by-test (λ (y : Process). withSuspended false (withCurrent (x .given .base) y) ≡ y) (eqb delay 0) (λ _. refl) (λ _. refl))
 
-    pub start-sound : SoundProcess (setting (c .frame) (c .time) normal a b) (startRule c delay x)
+    pub start-sound : SoundProcess (setting (c .frame) (c .time) normal a) (startRule c delay x)
     start-sound = rw start-same at (start-any false (and-false (periodic x)) (x .given .base) (l .given .base))
 
   -- entering NORMAL
-  pub entered-sound : (t : ℕ) (before : Bool) → before ≡ false → (x : Process) → SoundProcess (setting (c .frame) t before a b) x → SoundProcess (setting (c .frame) (c .time) normal a b) (entered c x)
+  pub entered-sound : (t : ℕ) (before : Bool) → before ≡ false → (x : Process) → SoundProcess (setting (c .frame) t before a) x → SoundProcess (setting (c .frame) (c .time) normal a) (entered c x)
   unfolding entered
   entered-sound t before out x h =
-      let s = setting (c .frame) (c .time) normal a b in
+      let s = setting (c .frame) (c .time) normal a in
       by-test (SoundProcess s) (waitsForNormal (x .wait))
       (λ k.
       let begun = so (x .started) (λ d. not-both _ k (ap waitsForNormal (h .dormant d .wait))) in
@@ -293,7 +279,7 @@ module _ (s : Setting) (x : Process) where
         mark = rw k;
         dormant = λ d. not-both _ e d;
         early = h .early;
-        going = λ d n. let g = h .going d n in record { wait = g .wait; wake = wake-suspended (s .time) (x .suspended) (x .times .release) (x .wait) (x .times .wake) (g .wake); release = g .release; deadline = g .deadline };
+        going = λ d n. let g = h .going d n in record { wait = g .wait; wake = wake-suspended (s .time) (x .suspended) (x .times .release) (classOf (x .wait)) (x .times .wake) (g .wake); release = g .release; deadline = g .deadline };
       }
 
       pub priority-sound : (n : ℕ) → Between 1 priorityLimit n → SoundProcess s (withCurrent n x)
@@ -314,7 +300,7 @@ module _ (s : Setting) (x : Process) where
             mark = and-false (periodic x);
             dormant = λ d. not-both _ e d;
             early = λ d n. not-both _ k (ap waitsForNothing (h .early d n .wait));
-            going = λ d n. let g = h .going d n in record { wait = tt; wake = refl; release = rw (for-nothing (x .wait) k) at (g .release); deadline = g .deadline };
+            going = λ d n. let g = h .going d n in record { wait = tt; wake = refl; release = rw (for-nothing (classOf (x .wait)) k) at (g .release); deadline = g .deadline };
           })
           (λ k. record {
             lasting = h .lasting;
@@ -322,7 +308,7 @@ module _ (s : Setting) (x : Process) where
             mark = and-false (periodic x);
             dormant = λ d. not-both _ e d;
             early = h .early;
-            going = λ d n. let g = h .going d n in record { wait = g .wait; wake = wake-resumed (s .time) (x .suspended) (x .times .release) (x .wait) (x .times .wake) k (g .wake); release = g .release; deadline = g .deadline };
+            going = λ d n. let g = h .going d n in record { wait = g .wait; wake = wake-resumed (s .time) (x .suspended) (x .times .release) (classOf (x .wait)) (x .times .wake) k (g .wake); release = g .release; deadline = g .deadline };
           })
 
     -- a wait on an object ends before its time
@@ -333,15 +319,15 @@ module _ (s : Setting) (x : Process) where
       mark = h .mark;
       dormant = λ d. not-both _ k (ap (λ (v : Wait). not (eqb (object v) 0)) (h .dormant d .wait));
       early = λ d n. not-both _ k (ap (λ (v : Wait). not (eqb (object v) 0)) (h .early d n .wait));
-      going = λ d n. let g = h .going d n in record { wait = tt; wake = none-wake (s .time) (x .suspended) (x .times .release); release = release-object (s .time) (x .given .period) (x .wait) (x .times .release) k (g .release); deadline = g .deadline };
+      going = λ d n. let g = h .going d n in record { wait = tt; wake = none-wake (s .time) (x .suspended) (x .times .release); release = release-object (s .time) (x .given .period) (classOf (x .wait)) (x .times .release) k (g .release); deadline = g .deadline };
     }
 
 -- what is READY
-pub ready-parts : (x : Process) → ready x ≡ true → (x .started ≡ true) × (x .suspended ≡ false) × (x .wait ≡ None)
+pub ready-parts : (x : Process) → ready x ≡ true → (x .started ≡ true) × (x .suspended ≡ false) × (classOf (x .wait) ≡ Class.nothing)
 ready-parts x h =
     let a = and-true-parts (x .started) _ h in
     let b = and-true-parts (not (x .suspended)) _ (a .1) in
-    (a .0, not-true (x .suspended) (b .0), for-nothing (x .wait) (b .1))
+    (a .0, not-true (x .suspended) (b .0), for-nothing (classOf (x .wait)) (b .1))
 
 -- a READY process that begins to wait, in NORMAL
 module _ (s : Setting) (x : Process) (h : SoundProcess s x) (n : s .normal ≡ true) (k : ready x ≡ true) where
@@ -351,7 +337,7 @@ module _ (s : Setting) (x : Process) (h : SoundProcess s x) (n : s .normal ≡ t
   pub ready-released : Released (s .time) (x .given .period) (x .times .release)
   ready-released = rw (ready-parts x k .2) at (h .going started n .release)
 
-  pub waiting-sound : (v : Wait) → KnownWait (s .semaphores) (s .events) v → (until : Time) → SoundWake (s .time) (x .suspended) (x .times .release) v until → SoundRelease (s .time) (x .given .period) v (x .times .release) → SoundProcess s (waitingFor v until x)
+  pub waiting-sound : (v : Wait) → KnownWait (s .counts) (classOf v) → (until : Time) → SoundWake (s .time) (x .suspended) (x .times .release) (classOf v) until → SoundRelease (s .time) (x .given .period) (classOf v) (x .times .release) → SoundProcess s (waitingFor v until x)
   waiting-sound v known until w r = as-going s (waitingFor v until x) (h .lasting) (h .code) (h .mark) started n (record { wait = known; wake = w; release = r; deadline = h .going started n .deadline })
 
   pub suspends-sound : periodic x ≡ false → (until : Time) → Timeout (s .time) until → SoundProcess s (suspendedUntil until x)
@@ -371,16 +357,34 @@ module _ (s : Setting) (x : Process) (h : SoundProcess s x) (n : s .normal ≡ t
         deadline = later-not-after latestWake durationLimit latestDeadline at (x .given .capacity) (at-most-not-after latestWake at r) (capacity-bound (x .given .period) (x .given .capacity) (h .lasting .given .capacity)) (omega arith);
       })
 
+-- ---------------------------------------------------------------- more objects
+known-more : (f g : ℕ → ℕ) → ((kind : ℕ) → f kind ≤ g kind) → (v : Class) → KnownWait f v → KnownWait g v
+known-more f g h Class.nothing q = tt
+known-more f g h Class.normal q = q
+known-more f g h Class.timer q = tt
+known-more f g h Class.release q = tt
+known-more f g h (Class.onto kind j) q = (q .0, omega (arith, q .1, h kind))
+
+pub more-objects : (frame t : ℕ) (normal : Bool) (f g : ℕ → ℕ) → ((kind : ℕ) → f kind ≤ g kind) → (x : Process) → SoundProcess (setting frame t normal f) x → SoundProcess (setting frame t normal g) x
+more-objects frame t normal f g more x h = record {
+  lasting = h .lasting;
+  code = h .code;
+  mark = h .mark;
+  dormant = h .dormant;
+  early = h .early;
+  going = λ d n. let k = h .going d n in record { wait = known-more f g more (classOf (x .wait)) (k .wait); wake = k .wake; release = k .release; deadline = k .deadline };
+}
+
 -- ---------------------------------------------------------------- the tick
-woken-sound : (frame t a b : ℕ) (normal : Bool) → normal ≡ true → (x : Process) → SoundProcess (setting frame t normal a b) x → SoundProcess (setting frame (t + 1) normal a b) (woken (t + 1) x)
+woken-sound : (frame t : ℕ) (a : ℕ → ℕ) (normal : Bool) → normal ≡ true → (x : Process) → SoundProcess (setting frame t normal a) x → SoundProcess (setting frame (t + 1) normal a) (woken (t + 1) x)
 unfolding woken
-woken-sound frame t a b normal n x h =
-    let s = setting frame (t + 1) normal a b in
+woken-sound frame t a normal n x h =
+    let s = setting frame (t + 1) normal a in
     by-test (SoundProcess s) (due (t + 1) (x .times .wake))
     (λ k.
     let e = so (x .started) (λ d. not-both _ k (ap (due (t + 1)) (h .dormant d .times .wake))) in
     let g = h .going e n in
-    let r = release-ended t (x .given .period) (x .suspended) (x .wait) (x .times .release) (x .times .wake) (g .release) (g .wake) k in
+    let r = release-ended t (x .given .period) (x .suspended) (classOf (x .wait)) (x .times .release) (x .times .wake) (g .release) (g .wake) k in
     by-test (SoundProcess s) (waitsForNothing (x .wait))
     (λ _. as-going s _ (h .lasting) (inr refl) (and-false (periodic x)) e n (record { wait = tt; wake = refl; release = r; deadline = g .deadline }))
     (λ _. as-going s _ (h .lasting) (by-test SoundCode (onObject x) (λ _. inr refl) (λ _. inl refl)) (h .mark) e n (record { wait = tt; wake = none-wake (t + 1) (x .suspended) (x .times .release); release = r; deadline = g .deadline })))
@@ -390,7 +394,7 @@ woken-sound frame t a b normal n x h =
       mark = h .mark;
       dormant = h .dormant;
       early = h .early;
-      going = λ e _. let g = h .going e n in record { wait = g .wait; wake = wake-on t (x .suspended) (x .times .release) (x .wait) (x .times .wake) (g .wake) k; release = release-on t (x .given .period) (x .wait) (x .times .release) (g .release); deadline = g .deadline };
+      going = λ e _. let g = h .going e n in record { wait = g .wait; wake = wake-on t (x .suspended) (x .times .release) (classOf (x .wait)) (x .times .wake) (g .wake) k; release = release-on t (x .given .period) (classOf (x .wait)) (x .times .release) (g .release); deadline = g .deadline };
     })
 
 expired-sound : (s : Setting) (t : ℕ) (x : Process) → SoundProcess s x → SoundProcess s (expired t x)
@@ -410,8 +414,8 @@ expired-sound s t x h =
     no-deadline : Timeless (x .times) → Timeless (withDeadline Never (x .times))
     no-deadline d = record { release = d .release; deadline = refl; wake = d .wake }
 
-pub ticked-sound : (frame t a b : ℕ) (normal : Bool) → normal ≡ true → (x : Process) → SoundProcess (setting frame t normal a b) x → SoundProcess (setting frame (t + 1) normal a b) (ticked (t + 1) x)
-ticked-sound frame t a b normal n x h = expired-sound _ (t + 1) _ (woken-sound frame t a b normal n x h)
+pub ticked-sound : (frame t : ℕ) (a : ℕ → ℕ) (normal : Bool) → normal ≡ true → (x : Process) → SoundProcess (setting frame t normal a) x → SoundProcess (setting frame (t + 1) normal a) (ticked (t + 1) x)
+ticked-sound frame t a normal n x h = expired-sound _ (t + 1) _ (woken-sound frame t a normal n x h)
 
 -- ---------------------------------------------------------------- what follows
 ahead-bound : (t : ℕ) (w : Time) → t ≤ timeLimit → Timeout t w → NotAfter latestWake w
@@ -425,28 +429,24 @@ ahead-timeout t (At n) h = h
 never-bound : (n : ℕ) (w : Time) → w ≡ Never → NotAfter n w
 never-bound n w e = rw e tt
 
-wake-bound : (t : ℕ) (mark : Bool) (r : Time) (v : Wait) (w : Time) → t ≤ timeLimit → NotAfter latestWake r → SoundWake t mark r v w → NotAfter latestWake w
-wake-bound t true r None w ends k h = ahead-bound t w ends h
-wake-bound t false r None w ends k h = never-bound latestWake w h
-wake-bound t mark r Normal w ends k h = absurd h
-wake-bound t mark r Delay w ends k h = ahead-bound t w ends (ahead-timeout t w h)
-wake-bound t mark r Timed w ends k h = ahead-bound t w ends (ahead-timeout t w h)
-wake-bound t mark r Period w ends k h = rw h k
-wake-bound t mark r (Semaphore j) w ends k h = ahead-bound t w ends h
-wake-bound t mark r (Event j) w ends k h = ahead-bound t w ends h
+wake-bound : (t : ℕ) (mark : Bool) (r : Time) (v : Class) (w : Time) → t ≤ timeLimit → NotAfter latestWake r → SoundWake t mark r v w → NotAfter latestWake w
+wake-bound t true r Class.nothing w ends k h = ahead-bound t w ends h
+wake-bound t false r Class.nothing w ends k h = never-bound latestWake w h
+wake-bound t mark r Class.normal w ends k h = absurd h
+wake-bound t mark r Class.timer w ends k h = ahead-bound t w ends (ahead-timeout t w h)
+wake-bound t mark r Class.release w ends k h = rw h k
+wake-bound t mark r (Class.onto kind j) w ends k h = ahead-bound t w ends h
 
 released-bound : (t : ℕ) (p r : Time) → t ≤ timeLimit → Released t p r → NotAfter latestWake r
 released-bound t Never r ends h = never-bound latestWake r h
 released-bound t (At p) r ends h = at-most-not-after latestWake r (at-most-more t latestWake r h (omega arith))
 
-release-bound : (t : ℕ) (p : Time) (v : Wait) (r : Time) → t ≤ timeLimit → SoundRelease t p v r → NotAfter latestWake r
-release-bound t p None r ends h = released-bound t p r ends h
-release-bound t p Normal r ends h = absurd h
-release-bound t p Delay r ends h = never-bound latestWake r (h .1)
-release-bound t p Timed r ends h = released-bound t p r ends h
-release-bound t p Period r ends h = at-most-not-after latestWake r (h .1)
-release-bound t p (Semaphore k) r ends h = released-bound t p r ends h
-release-bound t p (Event k) r ends h = released-bound t p r ends h
+release-bound : (t : ℕ) (p : Time) (v : Class) (r : Time) → t ≤ timeLimit → SoundRelease t p v r → NotAfter latestWake r
+release-bound t p Class.nothing r ends h = released-bound t p r ends h
+release-bound t p Class.normal r ends h = absurd h
+release-bound t p Class.timer r ends h = released-bound t p r ends h
+release-bound t p Class.release r ends h = at-most-not-after latestWake r (h .1)
+release-bound t p (Class.onto kind k) r ends h = released-bound t p r ends h
 
 module _ (s : Setting) (x : Process) (h : SoundProcess s x) where
   timeless-bounded : Timeless (x .times) → Bounded (x .times)
@@ -458,8 +458,8 @@ module _ (s : Setting) (x : Process) (h : SoundProcess s x) where
       (λ e. either (s .normal)
       (λ n.
       let g = h .going e n in
-      let r = release-bound (s .time) (x .given .period) (x .wait) (x .times .release) ends (g .release) in
-      record { release = r; deadline = g .deadline; wake = wake-bound (s .time) (x .suspended) (x .times .release) (x .wait) (x .times .wake) ends r (g .wake) })
+      let r = release-bound (s .time) (x .given .period) (classOf (x .wait)) (x .times .release) ends (g .release) in
+      record { release = r; deadline = g .deadline; wake = wake-bound (s .time) (x .suspended) (x .times .release) (classOf (x .wait)) (x .times .wake) ends r (g .wake) })
       (λ n. timeless-bounded (h .early e n .times)))
       (λ e. timeless-bounded (h .dormant e .times))
 
@@ -475,4 +475,4 @@ module _ (s : Setting) (x : Process) (h : SoundProcess s x) where
   pub early-waits : s .normal ≡ false → ready x ≡ false
   early-waits n = not-so (ready x) (λ k.
       let r = ready-parts x k in
-      not-both _ (ap waitsForNothing (r .2)) (ap waitsForNothing (h .early (r .0) n .wait)))
+      not-both _ (ap forNothing (r .2)) (ap waitsForNothing (h .early (r .0) n .wait)))

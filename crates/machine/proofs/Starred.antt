@@ -15,7 +15,10 @@ use Rattle.machine.specs.declared.Partition.{Partition}
 use Rattle.machine.specs.declared.Request.{Request}
 use Rattle.machine.specs.declared.Event.{Event as EventT}
 use Rattle.machine.specs.declared.Module.{Module}
-use Rattle.machine.specs.declared.Done.{Done}
+use Rattle.machine.specs.declared.Port.{Port}
+use Rattle.machine.specs.declared.Message.{Message}
+use Rattle.machine.specs.declared.Decision.{Decision}
+use Rattle.machine.specs.declared.Decision.the-variants.{Written}
 use Rattle.machine.specs.declared.Field.{Field}
 use Rattle.machine.specs.declared.Field.the-variants.{Number, MinusOne, Other}
 use Rattle.machine.specs.declared.Wait.{Wait}
@@ -24,7 +27,8 @@ use Rattle.machine.specs.declared.Time.the-variants.{Never, At}
 use Rattle.machine.specs.Limits.{timeLimit, channelLimit}
 use Rattle.machine.specs.Fields.{requestOf, isNumber, numberOf}
 use Rattle.machine.specs.Process.{due, later, periodic, ready, onObject, waitEnded, withSuspended, woken, expired, deadlineMissed, ticked, waitsForNothing, waitsForNormal, startRule, entered}
-use Rattle.machine.specs.Services.{partitionCall}
+use Rattle.machine.specs.Services.{callDecision}
+use Rattle.machine.specs.Decisions as D
 use Rattle.machine.specs.Module as M
 use Rattle.machine.specs.Ticks as Ti
 use Rattle.machine.specs.Channels as Ch
@@ -33,9 +37,10 @@ use Rattle.machine.specs.Step as St
 use Rattle.machine.specs.Starred.{Mistakes, Starred}
 use Rattle.machine.specs.Partition.{tickPartition, noted}
 use Rattle.machine.specs.Valid.{ValidModule, plainTick}
-use Rattle.machine.proofs.Tests.{by-test, by-checks, Passed, or-left, or-right, and-left, and-right, not-both}
-use Rattle.machine.proofs.Isolation.{read-same}
-use Rattle.machine.proofs.Refusals.{refused-same, places}
+use Rattle.machine.proofs.Dispatch.{by-event, by-decision}
+use Rattle.machine.proofs.Bodies.{FromSource, Bodily, call-body}
+use Rattle.machine.proofs.Tests.{by-test, and-left, and-right, not-both}
+use Rattle.machine.proofs.Refusals.{refused-same, places, call-in-range}
 use Rattle.machine.proofs.Reached.{plain-part, tick-module-plain}
 use Rattle.machine.proofs.Worked.{worked}
 use Rattle.machine.proofs.Corners.{corners}
@@ -89,11 +94,11 @@ ticked-suspended t x h w =
 
 -- erasing messages into partition k leaves those of channels into another
 erased-other : (k n : ℕ) (m : Module) (i : ℕ) → eqb (M.channel (m .table) i .destination) k ≡ false → M.message (Ch.erasedTo k n m) i ≡ M.message m i
-unfolding Ch.erasedTo
+unfolding Ch.keptTo
 erased-other k zero m i h = refl
 erased-other k (suc n) m i h =
-    by-test (λ (x : Module). M.message x i ≡ M.message m i) (eqb (M.channel (m .table) n .destination) k)
-    (λ q. getD-set-other (Ch.erasedTo k n m .messages) n i M.noMessage M.noMessage (λ e. not-both (eqb (M.channel (m .table) n .destination) k) q (rw e at h)) ∙ erased-other k n m i h)
+    by-test (λ (l : List Message). getD l i D.noMessage ≡ M.message m i) (eqb (M.channel (m .table) n .destination) k)
+    (λ q. getD-set-other (Ch.erasedTo k n m .messages) n i D.noMessage D.noMessage (λ e. not-both (eqb (M.channel (m .table) n .destination) k) q (rw e at h)) ∙ erased-other k n m i h)
     (λ q. erased-other k n m i h)
 
 tick-messages : (n : ℕ) (m : Module) → Ti.tickTo n m .messages ≡ m .messages
@@ -107,17 +112,20 @@ unfolding St.step
 restart-keeps m e i w d =
     let r = requestOf e in
     let k = numberOf (r .partition) in
-    by-checks P (M.refuse m) _ _ (λ n. refl) λ _.
-    by-test P (eqb k 0) (λ _. by-checks P (M.refuse m) _ _ (λ n. refl) λ _. ap (λ (l : _). getD l i M.noMessage) (tick-messages (Ti.partitionCount (m .table)) (M.withTime (m .t + 1) m))) λ _.
-    by-checks P (M.refuse m) _ _ (λ n. refl) λ _.
-    by-test P (eqb (numberOf (r .call)) 21) (λ q. not-both (eqb (numberOf (r .call)) 21) q w) λ _.
-    by-test P (eqb (numberOf (r .call)) 22) (λ _. ap (λ (x : Module). M.message x i) (read-same m k r)) λ _.
-    by-test (λ (x : Module). M.message x i ≡ M.message m i) (St.accepts (partitionCall (St.contextOf m k) (numberOf (r .call)) r (M.part m (k - 1)) .reply))
-    (λ _. by-test (λ (x : Module). M.message x i ≡ M.message m i) (St.restarts (numberOf (r .call)) r) (λ _. erased-other k channelLimit m i d) (λ _. refl))
-    (λ _. refl)
+    let ticked : M.message (Ti.tickModule m) i ≡ M.message m i = ap (λ (l : _). getD l i D.noMessage) (tick-messages (Ti.partitionCount (m .table)) (M.withTime (m .t + 1) m)) in
+    by-event m r (λ (x : Decision). M.message (St.moduleAfter m k x) i ≡ M.message m i)
+    (λ n _. refl)
+    (λ _ _ _. ticked)
+    λ q.
+    let x = Ch.portOf m k r in
+    let u = call-in-range (m .table) r (q .formed) (ne-eqb k 0 (q .some)) in
+    let made = callDecision (St.contextOf m k) x (numberOf (r .call)) r (M.part m (k - 1)) in
+    let body = call-body x (numberOf (r .call)) (St.contextOf m k) r (M.part m (k - 1)) (u .0) (u .1) .is in
+    by-decision m k made (λ (y : Module). M.message y i ≡ M.message m i) refl ticked refl (erased-other k channelLimit m i d)
+    (λ j y e. absurd (eqb-false (numberOf (r .call)) 21 w (left-by x (numberOf (r .call)) made j y e body .call)))
   where
-    P : Done → Type 0
-    P x = M.message (x .state) i ≡ M.message m i
+    left-by : (x : Port) (n : ℕ) (a : Decision) (j : ℕ) (y : Message) → a ≡ Written j y → Bodily x n a → FromSource x n j
+    left-by x n a j y e b = rw e at b
 
 every-partition-ticks : (m : Module) → ValidModule m → (i : ℕ) → i < m .table .size → M.part (Ti.tickModule m) i ≡ noted (tickPartition (m .t + 1) (M.part m i))
 unfolding plainTick M.emptyModule M.emptyTable

@@ -10,7 +10,7 @@ use lib.ListN.{length, getD, take, drop, length-take, length-map, drop-of-length
 use lib.Seq.{drop-cons, getD-take}
 use Rattle.machine.specs.declared.Field.{Field}
 use Rattle.machine.specs.Fields.{isNumber}
-use Rattle.machine.specs.Calls.{nameTaken}
+use Rattle.machine.specs.Decisions.{nameTaken}
 
 -- the length of an array of structs: `search (needs, length-mapped)` finds it
 pub length-mapped : (X Y : Type 0) (f : X → Y) (l : List X) (n : ℕ) → length (map f l) ≡ n → length l ≡ n

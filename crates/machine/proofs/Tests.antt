@@ -2,10 +2,11 @@
 use Prim.Native.Nat.{ℕ, zero, suc}
 use mathlib.Core.Path.{_≡_, refl, sym, ap, _∙_}
 use mathlib.Core.Bool.{Bool, true, false, cond, not, _&&_, _||_, true≢false}
-use mathlib.Core.List.{List, [], _∷_}
+use mathlib.Core.List.{List, [], _∷_, _++_}
 use native.Mathlib.Omega.{arith}
 use lib.ListN.{length, getD, set}
-use Rattle.machine.specs.Checks.{checked}
+use lib.Dec.{leb}
+use Rattle.machine.specs.Decisions.{checked, codeOf}
 
 module _ {A : Type 0} where
   pub by-test : (P : A → Type 0) (b : Bool) {x y : A} → (b ≡ true → P x) → (b ≡ false → P y) → P (cond b x y)
@@ -53,6 +54,11 @@ unfoldable pub Passed : List (Bool × ℕ) → Type 0
 Passed [] = Unit {0}
 Passed ((test, code) ∷ l) = (test ≡ false) × Passed l
 
+pub passed-parts : (l k : List (Bool × ℕ)) → Passed (l ++ k) → Passed l × Passed k
+unfolding Passed
+passed-parts [] k h = (tt, h)
+passed-parts ((test, code) ∷ l) k h = let r = passed-parts l k (h .1) in ((h .0, r .0), r .1)
+
 module _ {A : Type 0} where
   pub by-checks : (P : A → Type 0) (refuse : ℕ → A) (l : List (Bool × ℕ)) (accepted : A) → ((n : ℕ) → P (refuse n)) → (Passed l → P accepted) → P (checked refuse l accepted)
   unfolding checked Passed
@@ -79,3 +85,17 @@ module _ {A : Type 0} where
   by-codes P f refuse [] accepted h d g = g tt
   by-codes P f refuse ((test, code) ∷ l) accepted h d g =
       by-test P test (λ e. d code (and-left (f code) (codesIn f l) h)) (λ e. by-codes P f refuse l accepted (and-right (f code) (codesIn f l) h) d (λ k. g (e, k)))
+
+module _ {A : Type 0} (refuse : ℕ → A) where
+  pub code-refuses : (l : List (Bool × ℕ)) (x : A) → (codeOf l ≡ 0 → ⊥) → refuse (codeOf l) ≡ checked refuse l x
+  unfolding checked
+  code-refuses [] x h = absurd (h refl)
+  code-refuses ((true, n) ∷ l) x h = refl
+  code-refuses ((false, n) ∷ l) x h = code-refuses l x h
+
+  -- no check has code 0
+  pub code-passes : (l : List (Bool × ℕ)) (x : A) → codesIn (leb 1) l ≡ true → codeOf l ≡ 0 → (x ≡ checked refuse l x) × Passed l
+  unfolding checked Passed
+  code-passes [] x h z = (refl, tt)
+  code-passes ((true, n) ∷ l) x h z = not-both _ (and-left (leb 1 n) (codesIn (leb 1) l) h) (ap (leb 1) z)
+  code-passes ((false, n) ∷ l) x h z = let r = code-passes l x (and-right (leb 1 n) (codesIn (leb 1) l) h) z in (r .0, (refl, r .1))

@@ -8,7 +8,10 @@ use lib.Dec.{leb, ltb, eqb}
 use Rattle.machine.specs.declared.Process.{Process}
 use Rattle.machine.specs.declared.Partition.{Partition}
 use Rattle.machine.specs.declared.Context.{Context}
-use Rattle.machine.specs.declared.Called.{Called}
+use Rattle.machine.specs.declared.Change.{Change}
+use Rattle.machine.specs.declared.Change.the-variants.{Nothing, Stored, Created, Last, Entered}
+use Rattle.machine.specs.declared.Decision.{Decision}
+use Rattle.machine.specs.declared.Decision.the-variants.{Refused, Unchanged, Changed, Restarted}
 use Rattle.machine.specs.declared.Request.{Request}
 use Rattle.machine.specs.declared.Wait.the-variants.{Timed}
 use Rattle.machine.specs.declared.Time.{Time}
@@ -17,51 +20,20 @@ use Rattle.machine.specs.declared.Field.{Field}
 use Rattle.machine.specs.Limits.{processLimit, priorityLimit, durationLimit}
 use Rattle.machine.specs.Fields.{isNumber, between, isDuration, isMinusOne, isTimeout, isName, numberOf, timeOf}
 use Rattle.machine.specs.Process.{createdProcess, later, periodic, ready, withSuspended, withCurrent, waitingFor, suspendedUntil, startRule, startedEarly, stopped, resumed, nextRelease}
-use Rattle.machine.specs.Partition.{normalMode, replaced, nothingCreated, process, withProcesses, stored, arrivedLast, enteredNormal}
-use Rattle.machine.specs.Checks.{coded, valued, checked}
-
-abbrev pub answered : ℕ → Partition → Called
-answered code p = record { partition = p; reply = coded code }
-
--- a refused call leaves the record as it is
-abbrev pub refused : Partition → ℕ → Called
-refused p code = answered code p
-
--- code 0 with value and extra
-abbrev pub answeredWith : ℕ → Time → Partition → Called
-answeredWith value extra p = record { partition = p; reply = valued value extra }
-
--- the only place that gives code 7: the process has the record x, in which it waits
-unfoldable pub blocked : ℕ → Process → Partition → Called
-blocked id x p = answered 7 (stored id x p)
-
--- an id unknown: none of that kind has been created with it
-abbrev pub unknown : ℕ → ℕ → Bool
-unknown id count = eqb id 0 || ltb count id
-
--- start modes; IDLE gets 9 before
-abbrev pub startMode : Partition → Bool
-startMode p = not (normalMode p)
-
-abbrev pub dormant : Process → Bool
-dormant x = not (x .started)
+use Rattle.machine.specs.Partition.{normalMode, process}
+use Rattle.machine.specs.Decisions.{checked, changed, unchanged, blocked, unknown, startMode, dormant, nameTaken, creationChecks}
 
 -- 1 SET_PARTITION_MODE a. 3: not 0..3. 1: 3 in NORMAL. 5: 2 in COLD_START. 5: 3 with no process. Modes 0, 1, 2: mode set; processes,
 -- semaphores, events erased (the messages by `restarted`, in Module).
-unfoldable pub setMode : Context → Field → Partition → Called
+unfoldable pub setMode : Context → Field → Partition → Decision
 setMode c a p =
-    checked (refused p)
+    checked Refused
     ((not (between 0 3 a), 3)
     ∷ (isNumber 3 a && normalMode p, 1)
     ∷ (isNumber 2 a && eqb (p .mode) 1, 5)
     ∷ (isNumber 3 a && eqb (p .processCount) 0, 5)
     ∷ [])
-    (answered 0 (cond (isNumber 3 a) (enteredNormal c p) (nothingCreated (numberOf a))))
-
--- name exists: the name is that of one of these
-unfoldable pub nameTaken : {A : Type 0} → (A → ℕ) → Field → List A → Bool
-nameTaken nameOf name [] = false
-nameTaken nameOf name (x ∷ l) = isNumber (nameOf x) name || nameTaken nameOf name l
+    (cond (isNumber 3 a) (changed (Entered c)) (Restarted (numberOf a)))
 
 abbrev pub processNamed : Field → List Process → Bool
 processNamed name l = nameTaken (λ (x : Process). x .given .name) name l
@@ -85,23 +57,14 @@ admissible c r =
     && ((isMinusOne (r .e) || between 1 durationLimit (r .e))
     && not (above (r .e) (r .c)))))
 
--- one more process, with the next id
-abbrev pub withNewProcess : Process → Partition → Partition
-withNewProcess x p = withProcesses (replaced processLimit (p .processCount + 1) x (p .processes)) (p .processCount + 1) (p .arrival) (p .waiting) p
-
 -- 2 CREATE_PROCESS name, priority, period, capacity. 4: 16 exist. 1: name exists. 3: name not 1..255, priority not 1..239, period neither
 -- −1 nor a multiple of M in 1..9,999,999, capacity neither −1 nor 1..9,999,999, or capacity above a period that isn't −1. 5: NORMAL.
 -- Value: id.
-unfoldable pub createProcess : Context → Request → Partition → Called
+unfoldable pub createProcess : Context → Request → Partition → Decision
 createProcess c r p =
-    checked (refused p)
-    ((leb processLimit (p .processCount), 4)
-    ∷ (processNamed (r .a) (take (p .processCount) (p .processes)), 1)
-    ∷ (not (admissible c r), 3)
-    ∷ (normalMode p, 5)
-    ∷ [])
-    (answeredWith (p .processCount + 1) (At 0)
-    (withNewProcess (createdProcess (record { name = numberOf (r .a); base = numberOf (r .b); period = timeOf (r .c); capacity = timeOf (r .e) })) p))
+    checked Refused
+    (creationChecks (leb processLimit (p .processCount)) (processNamed (r .a) (take (p .processCount) (p .processes))) (admissible c r) (normalMode p))
+    (Changed (Created (p .processCount + 1) (createdProcess (record { name = numberOf (r .a); base = numberOf (r .b); period = timeOf (r .c); capacity = timeOf (r .e) }))) Nothing (p .processCount + 1))
 
 -- periodic and delay ≥ period
 abbrev pub reaches : Time → ℕ → Bool
@@ -110,102 +73,101 @@ reaches (At period) delay = leb period delay
 
 -- 3 START id; 4 DELAYED_START id, delay. 3: delay not in D, or periodic and delay ≥ period. 1: not DORMANT. In NORMAL: start rule. Else
 -- priority, marks, wake code as there; waits for NORMAL; only here the delay field is set, by START to 0.
-unfoldable pub start : Context → ℕ → Field → Partition → Called
+unfoldable pub start : Context → ℕ → Field → Partition → Decision
 start c id delay p =
     let x = process id p in
-    checked (refused p)
+    checked Refused
     ((unknown id (p .processCount), 3)
     ∷ (not (isDuration delay) || reaches (x .given .period) (numberOf delay), 3)
     ∷ (not (dormant x), 1)
     ∷ [])
-    (answered 0 (stored id (cond (normalMode p) (startRule c (numberOf delay) x) (startedEarly (numberOf delay) x)) p))
+    (changed (Stored id (cond (normalMode p) (startRule c (numberOf delay) x) (startedEarly (numberOf delay) x))))
 
 -- 5 STOP id. 3: the caller. 1: DORMANT. DORMANT; it leaves its queue.
-unfoldable pub stop : Context → ℕ → Partition → Called
+unfoldable pub stop : Context → ℕ → Partition → Decision
 stop c id p =
-    checked (refused p)
+    checked Refused
     ((unknown id (p .processCount), 3)
     ∷ (eqb id (c .caller), 3)
     ∷ (dormant (process id p), 1)
     ∷ [])
-    (answered 0 (stored id (stopped (process id p)) p))
+    (changed (Stored id (stopped (process id p))))
 
 -- 6 STOP_SELF: same for the caller. 5: start mode.
-unfoldable pub stopSelf : Context → Partition → Called
+unfoldable pub stopSelf : Context → Partition → Decision
 stopSelf c p =
-    checked (refused p)
+    checked Refused
     ((startMode p, 5) ∷ [])
-    (answered 0 (stored (c .caller) (stopped (process (c .caller) p)) p))
+    (changed (Stored (c .caller) (stopped (process (c .caller) p))))
 
 -- 7 SUSPEND id. 3: the caller. 5: DORMANT or periodic. 1: suspended. Sets the mark.
-unfoldable pub suspend : Context → ℕ → Partition → Called
+unfoldable pub suspend : Context → ℕ → Partition → Decision
 suspend c id p =
-    checked (refused p)
+    checked Refused
     ((unknown id (p .processCount), 3)
     ∷ (eqb id (c .caller), 3)
     ∷ (dormant (process id p) || periodic (process id p), 5)
     ∷ (process id p .suspended, 1)
     ∷ [])
-    (answered 0 (stored id (withSuspended true (process id p)) p))
+    (changed (Stored id (withSuspended true (process id p))))
 
 -- 8 SUSPEND_SELF a. 5: start mode or periodic. 3: not in T. a = 0 changes nothing; else mark set, w = t + a or −1, code 7.
-unfoldable pub suspendSelf : Context → Field → Partition → Called
+unfoldable pub suspendSelf : Context → Field → Partition → Decision
 suspendSelf c a p =
-    checked (refused p)
+    checked Refused
     ((startMode p || periodic (process (c .caller) p), 5)
     ∷ (not (isTimeout a), 3)
     ∷ [])
     (cond (isNumber 0 a)
-    (answered 0 p)
-    (blocked (c .caller) (suspendedUntil (later (At (c .time)) (timeOf a)) (process (c .caller) p)) p))
+    unchanged
+    (blocked (c .caller) (suspendedUntil (later (At (c .time)) (timeOf a)) (process (c .caller) p))))
 
 -- 9 TIMED_WAIT a. 5: start mode. 3: not in D. a = 0: caller goes to the end of the arrival list; else waits timed, w = t + a, code 7.
-unfoldable pub timedWait : Context → Field → Partition → Called
+unfoldable pub timedWait : Context → Field → Partition → Decision
 timedWait c a p =
-    checked (refused p)
+    checked Refused
     ((startMode p, 5)
     ∷ (not (isDuration a), 3)
     ∷ [])
     (cond (isNumber 0 a)
-    (answered 0 (arrivedLast (c .caller) p))
-    (blocked (c .caller) (waitingFor Timed (later (At (c .time)) (timeOf a)) (process (c .caller) p)) p))
+    (changed (Last (c .caller)))
+    (blocked (c .caller) (waitingFor Timed (later (At (c .time)) (timeOf a)) (process (c .caller) p))))
 
 -- 10 PERIODIC_WAIT. 5: start mode or aperiodic. r rises by period; w = r, d = r + capacity or −1; waits, code 7, even if r ≤ t.
-unfoldable pub periodicWait : Context → Partition → Called
+unfoldable pub periodicWait : Context → Partition → Decision
 periodicWait c p =
-    checked (refused p)
+    checked Refused
     ((startMode p || not (periodic (process (c .caller) p)), 5) ∷ [])
-    (blocked (c .caller) (nextRelease (process (c .caller) p)) p)
+    (blocked (c .caller) (nextRelease (process (c .caller) p)))
 
 -- 11 RESUME id. 3: the caller. 5: DORMANT or periodic. 1: not suspended. Clears the mark; if no wait, w = −1, wake code 0.
-unfoldable pub resume : Context → ℕ → Partition → Called
+unfoldable pub resume : Context → ℕ → Partition → Decision
 resume c id p =
-    checked (refused p)
+    checked Refused
     ((unknown id (p .processCount), 3)
     ∷ (eqb id (c .caller), 3)
     ∷ (dormant (process id p) || periodic (process id p), 5)
     ∷ (not (process id p .suspended), 1)
     ∷ [])
-    (answered 0 (stored id (resumed (process id p)) p))
+    (changed (Stored id (resumed (process id p))))
 
 -- 12 SET_PRIORITY id, a. 3: not 1..239. 5: DORMANT. Current priority = a; a READY one goes to the arrival list's end.
-unfoldable pub setPriority : ℕ → Field → Partition → Called
+unfoldable pub setPriority : ℕ → Field → Partition → Decision
 setPriority id a p =
-    let q = stored id (withCurrent (numberOf a) (process id p)) p in
-    checked (refused p)
+    checked Refused
     ((unknown id (p .processCount), 3)
     ∷ (not (isPriority a), 3)
     ∷ (dormant (process id p), 5)
     ∷ [])
-    (answered 0 (cond (ready (process id p)) (arrivedLast id q) q))
+    (Changed (Stored id (withCurrent (numberOf a) (process id p))) (cond (ready (process id p)) (Last id) Nothing) 0)
 
 -- Value 0 DORMANT, 1 READY, 2 running, 3 else
 abbrev pub status : Context → ℕ → Process → ℕ
 status c id x = cond (dormant x) 0 (cond (eqb id (c .caller)) 2 (cond (ready x) 1 3))
 
 -- 13 GET_PROCESS_STATUS id. Value 0 DORMANT, 1 READY, 2 running, 3 else; extra d.
-unfoldable pub getStatus : Context → ℕ → Partition → Called
+unfoldable pub getStatus : Context → ℕ → Partition → Decision
 getStatus c id p =
-    checked (refused p)
+    checked Refused
     ((unknown id (p .processCount), 3) ∷ [])
-    (answeredWith (status c id (process id p)) (process id p .times .deadline) p)
+    (Unchanged (status c id (process id p)) (process id p .times .deadline))

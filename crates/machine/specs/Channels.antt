@@ -1,62 +1,75 @@
--- Sampling channels: WRITE, READ and what a restart erases.
-use Prim.Native.Nat.{ℕ, _-_, zero, suc}
+-- Sampling channels: calls 21 and 22, functions of what the call sees of the channel that it names (Port), and what a restart erases.
+use Prim.Native.Nat.{ℕ, zero, suc, _-_}
 use mathlib.Core.Bool.{Bool, true, cond, not, _&&_}
 use mathlib.Core.List.{List, [], _∷_}
+use lib.ListN.{set}
 use lib.Dec.{leb, eqb}
-use Rattle.machine.specs.declared.Request.{Request}
-use Rattle.machine.specs.declared.Time.{Time}
-use Rattle.machine.specs.declared.Time.the-variants.{At}
-use Rattle.machine.specs.Fields.{between, isDuration, numberOf}
 use Rattle.machine.specs.declared.Channel.{Channel}
-use Rattle.machine.specs.declared.Table.{Table}
 use Rattle.machine.specs.declared.Message.{Message}
 use Rattle.machine.specs.declared.Module.{Module}
-use Rattle.machine.specs.declared.Done.{Done}
-use Rattle.machine.specs.Checks.{coded, valued, checked}
-use Rattle.machine.specs.Module.{noMessage, channel, message, withMessage, refuse}
+use Rattle.machine.specs.declared.Context.{Context}
+use Rattle.machine.specs.declared.Port.{Port}
+use Rattle.machine.specs.declared.Decision.{Decision}
+use Rattle.machine.specs.declared.Decision.the-variants.{Refused, Unchanged, Written}
+use Rattle.machine.specs.declared.Request.{Request}
+use Rattle.machine.specs.declared.Table.{Table}
+use Rattle.machine.specs.declared.Time.{Time}
+use Rattle.machine.specs.declared.Time.the-variants.{At}
+use Rattle.machine.specs.declared.Field.{Field}
+use Rattle.machine.specs.Fields.{between, isDuration, numberOf}
+use Rattle.machine.specs.Decisions.{checked, noMessage}
+use Rattle.machine.specs.Module.{channel, message, withMessages}
+
+-- what is seen at partition k of a channel that holds x: the message at the destination alone
+abbrev pub seenAt : ℕ → Channel → Message → Message
+seenAt k c x = cond (eqb (c .destination) k) x noMessage
+
+-- what partition k sees of the channel that a names, on which x lies
+abbrev pub portAt : Table → ℕ → Field → Message → Port
+portAt T k a x =
+    let i = numberOf a - 1 in
+    record { own = k; place = i; exists = between 1 (T .channelCount) a; channel = channel T i; message = seenAt k (channel T i) x }
+
+abbrev pub portOf : Module → ℕ → Request → Port
+portOf m k r = portAt (m .table) k (r .a) (message m (numberOf (r .a) - 1))
 
 -- at neither end
 abbrev pub apart : ℕ → Channel → Bool
 apart k x = not (eqb (x .source) k) && not (eqb (x .destination) k)
 
--- 21 and 22 see the channel
-abbrev pub namedChannel : Table → Request → Channel
-namedChannel T r = channel T (numberOf (r .a) - 1)
-
 -- 21, 22. 3: no such channel, or the caller's partition at neither end. 5: that partition isn't the end wanted.
-unfoldable pub channelChecks : Table → ℕ → Request → ℕ → List (Bool × ℕ)
-channelChecks T k r wanted =
-    (not (between 1 (T .channelCount) (r .a)), 3)
-    ∷ (apart k (namedChannel T r), 3)
-    ∷ (not (eqb wanted k), 5)
+unfoldable pub channelChecks : Port → ℕ → List (Bool × ℕ)
+channelChecks x wanted =
+    (not (x .exists), 3)
+    ∷ (apart (x .own) (x .channel), 3)
+    ∷ (not (eqb wanted (x .own)), 5)
     ∷ []
 
 -- 21 WRITE channel, a. 5: that partition isn't its source. 3: a not in D. Stores a and t.
-unfoldable pub write : Module → ℕ → Request → Done
-write m k r =
-    checked (refuse m) (channelChecks (m .table) k r (namedChannel (m .table) r .source))
-    (checked (refuse m) ((not (isDuration (r .b)), 3) ∷ [])
-    (record {
-      state = withMessage (numberOf (r .a) - 1) (record { present = true; value = numberOf (r .b); written = m .t }) m;
-      reply = coded 0;
-    }))
+unfoldable pub write : Context → Port → Field → Decision
+write c x a =
+    checked Refused (channelChecks x (x .channel .source))
+    (checked Refused ((not (isDuration a), 3) ∷ [])
+    (Written (x .place) (record { present = true; value = numberOf a; written = c .time })))
 
 -- extra 1 if t − written ≤ refresh, else 0
 abbrev pub freshness : ℕ → Message → Channel → Time
 freshness t x c = At (cond (leb (t - x .written) (c .refresh)) 1 0)
 
 -- 22 READ channel. Same 3; 5: not its destination. 1: no message. Value a, extra 1 if t − written ≤ refresh, else 0.
-unfoldable pub read : Module → ℕ → Request → Done
-read m k r =
-    let x = message m (numberOf (r .a) - 1) in
-    checked (refuse m) (channelChecks (m .table) k r (namedChannel (m .table) r .destination))
-    (checked (refuse m) ((not (x .present), 1) ∷ [])
-    (record { state = m; reply = valued (x .value) (freshness (m .t) x (namedChannel (m .table) r)) }))
+unfoldable pub read : Context → Port → Decision
+read c x =
+    checked Refused (channelChecks x (x .channel .destination))
+    (checked Refused ((not (x .message .present), 1) ∷ [])
+    (Unchanged (x .message .value) (freshness (c .time) (x .message) (x .channel))))
 
 abbrev pub leadsInto : ℕ → Channel → Bool
 leadsInto k c = eqb (c .destination) k
 
--- the messages of the first n channels into partition k erased
-unfoldable pub erasedTo : ℕ → ℕ → Module → Module
-erasedTo k zero m = m
-erasedTo k (suc n) m = let h = erasedTo k n m in cond (leadsInto k (channel (m .table) n)) (withMessage n noMessage h) h
+-- the messages without those on the first n channels into partition k
+unfoldable pub keptTo : Table → ℕ → ℕ → List Message → List Message
+keptTo T k zero l = l
+keptTo T k (suc n) l = cond (leadsInto k (channel T n)) (set (keptTo T k n l) n noMessage) (keptTo T k n l)
+
+abbrev pub erasedTo : ℕ → ℕ → Module → Module
+erasedTo k n m = withMessages (keptTo (m .table) k n (m .messages)) m

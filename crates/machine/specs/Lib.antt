@@ -3,14 +3,14 @@ pub mod Fields
 pub mod Ids
 pub mod Process
 pub mod Partition
-pub mod Checks
+pub mod Decisions
 pub mod Calls
 pub mod Objects
-pub mod Services
 pub mod Windows
 pub mod Module
 pub mod Ticks
 pub mod Channels
+pub mod Services
 pub mod Places
 pub mod Step
 pub mod Line

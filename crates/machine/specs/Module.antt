@@ -1,7 +1,7 @@
 -- The module: records with nothing in them, reading the record, and the only three ways to change it.
 use Prim.Native.Nat.{ℕ, _-_}
 use mathlib.Core.Bool.{false, cond}
-use mathlib.Core.List.{[]}
+use mathlib.Core.List.{List, []}
 use lib.ListN.{getD, set, replicate}
 use lib.Dec.{eqb}
 use Rattle.machine.specs.declared.Partition.{Partition}
@@ -11,15 +11,11 @@ use Rattle.machine.specs.declared.Channel.{Channel}
 use Rattle.machine.specs.declared.Table.{Table}
 use Rattle.machine.specs.declared.Message.{Message}
 use Rattle.machine.specs.declared.Module.{Module}
-use Rattle.machine.specs.declared.Done.{Done}
-use Rattle.machine.specs.Checks.{coded}
+use Rattle.machine.specs.Decisions.{noMessage}
 use Rattle.machine.specs.Windows.{noWindow, lookup}
 
 abbrev pub noChannel : Channel
 noChannel = record { source = 0; destination = 0; refresh = 0 }
-
-abbrev pub noMessage : Message
-noMessage = record { present = false; value = 0; written = 0 }
 
 -- what stands past the end of a list of partitions
 abbrev pub noPartition : Partition
@@ -74,11 +70,11 @@ runningIn k m = cond (eqb k 0) 0 (running (part m (k - 1)))
 abbrev pub withPart : ℕ → Partition → Module → Module
 withPart i p m = record { table = m .table; t = m .t; messages = m .messages; partitions = set (m .partitions) i (noted p) }
 
+abbrev pub withMessages : List Message → Module → Module
+withMessages l m = record { table = m .table; t = m .t; messages = l; partitions = m .partitions }
+
 abbrev pub withMessage : ℕ → Message → Module → Module
-withMessage i x m = record { table = m .table; t = m .t; messages = set (m .messages) i x; partitions = m .partitions }
+withMessage i x m = withMessages (set (m .messages) i x) m
 
 abbrev pub withTime : ℕ → Module → Module
 withTime t m = record { table = m .table; t = t; messages = m .messages; partitions = m .partitions }
-
-abbrev pub refuse : Module → ℕ → Done
-refuse m code = record { state = m; reply = coded code }

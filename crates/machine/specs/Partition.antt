@@ -1,5 +1,5 @@
 -- A partition: its two lists follow the records of its processes.
-use Prim.Native.Nat.{ℕ, zero, suc, _+_, _-_, min}
+use Prim.Native.Nat.{ℕ, zero, suc, _+_, _-_, min, max}
 use mathlib.Core.Bool.{Bool, true, false, cond, not, _&&_, _||_}
 use mathlib.Core.List.{List, [], _∷_, _++_}
 use lib.ListN.{getD, set, replicate}
@@ -11,6 +11,10 @@ use Rattle.machine.specs.declared.EventState.{EventState}
 use Rattle.machine.specs.declared.Partition.{Partition}
 use Rattle.machine.specs.declared.Choice.{Choice}
 use Rattle.machine.specs.declared.Context.{Context}
+use Rattle.machine.specs.declared.Change.{Change}
+use Rattle.machine.specs.declared.Change.the-variants.{Nothing, Stored, Created, Last, StoredSemaphore, StoredEvent, Ended, Entered}
+use Rattle.machine.specs.declared.Decision.{Decision}
+use Rattle.machine.specs.declared.Decision.the-variants.{Refused, Unchanged, Ticked, Blocked, Changed, Restarted, Written}
 use Rattle.machine.specs.declared.Time.{Time}
 use Rattle.machine.specs.declared.Time.the-variants.{Never, At}
 use Rattle.machine.specs.Limits.{processLimit, semaphoreLimit, eventLimit, greatestTime}
@@ -147,6 +151,18 @@ stored id x p =
     (follow (onObject old) (onObject x) id (p .waiting)) p)
     p
 
+-- semaphore k has this record from now on; the next one is created by it. Bound: no such id changes nothing.
+unfoldable pub storedSemaphore : ℕ → SemaphoreT → Partition → Partition
+storedSemaphore k s p = cond (within semaphoreLimit k) (withSemaphores (replaced semaphoreLimit k s (p .semaphores)) (max (p .semaphoreCount) k) p) p
+
+-- event k, the same way
+unfoldable pub storedEvent : ℕ → EventState → Partition → Partition
+storedEvent k e p = cond (within eventLimit k) (withEvents (replaced eventLimit k e (p .events)) (max (p .eventCount) k) p) p
+
+-- process id is created with this record, which neither is READY nor waits
+unfoldable pub created : ℕ → Process → Partition → Partition
+created id x p = cond (within processLimit id) (withProcesses (replaced processLimit id x (p .processes)) (max (p .processCount) id) (p .arrival) (p .waiting) p) p
+
 -- process id goes to the end of the arrival list
 unfoldable pub arrivedLast : ℕ → Partition → Partition
 arrivedLast id p = withProcesses (p .processes) (p .processCount) (appended id (removed id (p .arrival))) (p .waiting) p
@@ -194,6 +210,27 @@ tickPartition t p = cond (normalMode p) (each (ticked t) p) p
 -- Mode 3: mode set; every process waiting for NORMAL, by id, takes the start rule with its delay
 unfoldable pub enteredNormal : Context → Partition → Partition
 enteredNormal c p = each (entered c) (withMode 3 p)
+
+-- what each change does
+abbrev pub applied : Change → Partition → Partition
+applied Nothing p = p
+applied (Stored id x) p = stored id x p
+applied (Created id x) p = created id x p
+applied (Last id) p = arrivedLast id p
+applied (StoredSemaphore k s) p = storedSemaphore k s p
+applied (StoredEvent k e) p = storedEvent k e p
+applied (Ended o) p = endedAll (waiters o p) p
+applied (Entered c) p = enteredNormal c p
+
+-- what a decision leaves of the partition; a refused call leaves the record as it is
+abbrev pub partitionAfter : Decision → Partition → Partition
+partitionAfter (Refused code) p = p
+partitionAfter (Unchanged value extra) p = p
+partitionAfter Ticked p = p
+partitionAfter (Blocked id x) p = stored id x p
+partitionAfter (Changed a b value) p = applied b (applied a p)
+partitionAfter (Restarted mode) p = nothingCreated mode
+partitionAfter (Written i x) p = p
 
 -- the least of a time and a number; −1 is no bound
 abbrev pub sooner : Time → ℕ → ℕ

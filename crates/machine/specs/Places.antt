@@ -1,21 +1,16 @@
--- What an event is refused for before the body of its call: 13 and 9.
+-- What an event is refused for before the body of its call: 13, 10, 8 and 9.
 use Prim.Native.Nat.{ℕ}
 use mathlib.Core.Bool.{Bool, cond, not, _&&_, _||_}
-use mathlib.Core.List.{List, [], _∷_}
-use lib.ListN.{getD}
-use lib.Dec.{ltb, eqb}
+use mathlib.Core.List.{List, [], _∷_, _++_}
+use lib.Dec.{leb, ltb, eqb}
 use Rattle.machine.specs.declared.Partition.{Partition}
 use Rattle.machine.specs.declared.Request.{Request}
-use Rattle.machine.specs.Fields.{isNumber, between, numberOf}
-use Rattle.machine.specs.Partition.{normalMode, idleMode, running}
 use Rattle.machine.specs.declared.Table.{Table}
-
--- how many of the fields a, b, c, e the calls 0 to 22 use, the tick first
-unfoldable pub usedFields : List ℕ
-usedFields = 0 ∷ 1 ∷ 4 ∷ 1 ∷ 2 ∷ 1 ∷ 0 ∷ 1 ∷ 1 ∷ 1 ∷ 0 ∷ 1 ∷ 2 ∷ 1 ∷ 3 ∷ 2 ∷ 1 ∷ 1 ∷ 1 ∷ 1 ∷ 2 ∷ 2 ∷ 1 ∷ []
-
-abbrev pub lastCall : ℕ
-lastCall = 22
+use Rattle.machine.specs.Limits.{timeLimit}
+use Rattle.machine.specs.Fields.{isNumber, between, numberOf}
+use Rattle.machine.specs.Partition.{running}
+use Rattle.machine.specs.Decisions.{noCallerAs}
+use Rattle.machine.specs.Services.{serviceOf, lastCall}
 
 -- an unused field not 0
 unfoldable pub strayField : ℕ → Request → Bool
@@ -36,8 +31,23 @@ malformed T r =
     || (not (between 0 (T .size) (r .partition))
     || (not (between 0 lastCall (r .call))
     || (oneZero r
-    || strayField (getD usedFields (numberOf (r .call)) 0) r)))
+    || strayField (serviceOf (numberOf (r .call)) .fields) r)))
 
--- 9: IDLE, or NORMAL and nothing runs
+-- 9
 abbrev pub noCaller : Partition → Bool
-noCaller p = idleMode p || (normalMode p && eqb (running p) 0)
+noCaller p = noCallerAs (running p) p
+
+-- Partition 0, call 0 is a tick: 13 leaves none with just one 0.
+abbrev pub ticks : Request → Bool
+ticks r = eqb (numberOf (r .partition)) 0
+
+-- the rows "event, first" 13 and "tick" 10
+abbrev pub eventChecks : Table → ℕ → Request → List (Bool × ℕ)
+eventChecks T t r =
+    (malformed T r, 13)
+    ∷ (ticks r && leb timeLimit t, 10)
+    ∷ []
+
+-- and the row "call, then" 8: now is the current partition
+abbrev pub firstChecks : Table → ℕ → ℕ → Request → List (Bool × ℕ)
+firstChecks T t now r = eventChecks T t r ++ ((not (ticks r) && not (eqb now (numberOf (r .partition))), 8) ∷ [])

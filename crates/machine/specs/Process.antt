@@ -1,5 +1,5 @@
 -- A process by itself.
-use Prim.Native.Nat.{ℕ, _+_}
+use Prim.Native.Nat.{ℕ, _+_, _*_}
 use mathlib.Core.Bool.{Bool, true, false, cond, not, _&&_, _||_}
 use lib.Dec.{leb, eqb, ltb}
 use Rattle.machine.specs.declared.Given.{Given}
@@ -52,36 +52,57 @@ isNever (At n) = false
 abbrev pub periodic : Process → Bool
 periodic x = not (isNever (x .given .period))
 
--- the object that a wait names, as a number; 0 for none. A later family of objects adds its line here.
+-- what a wait is for: nothing, NORMAL, a time, the release, or object k of a kind
+pub data Class : Type 0 where
+  nothing : Class
+  normal : Class
+  timer : Class
+  release : Class
+  onto : ℕ → ℕ → Class
+
+-- A later family of objects adds its line here, and nowhere else.
+abbrev pub classOf : Wait → Class
+classOf None = Class.nothing
+classOf Normal = Class.normal
+classOf Delay = Class.timer
+classOf Timed = Class.timer
+classOf Period = Class.release
+classOf (Semaphore k) = Class.onto 1 k
+classOf (Event k) = Class.onto 2 k
+
+-- the object that a wait names, as a number; 0 for none
+abbrev pub objectIn : Class → ℕ
+objectIn Class.nothing = 0
+objectIn Class.normal = 0
+objectIn Class.timer = 0
+objectIn Class.release = 0
+objectIn (Class.onto kind k) = 256 * kind + k
+
 abbrev pub object : Wait → ℕ
-object None = 0
-object Normal = 0
-object Delay = 0
-object Timed = 0
-object Period = 0
-object (Semaphore k) = 256 + k
-object (Event k) = 512 + k
+object w = objectIn (classOf w)
 
 abbrev pub onObject : Process → Bool
 onObject x = not (eqb (object (x .wait)) 0)
 
+abbrev pub forNothing : Class → Bool
+forNothing Class.nothing = true
+forNothing Class.normal = false
+forNothing Class.timer = false
+forNothing Class.release = false
+forNothing (Class.onto kind k) = false
+
 abbrev pub waitsForNothing : Wait → Bool
-waitsForNothing None = true
-waitsForNothing Normal = false
-waitsForNothing Delay = false
-waitsForNothing Timed = false
-waitsForNothing Period = false
-waitsForNothing (Semaphore k) = false
-waitsForNothing (Event k) = false
+waitsForNothing w = forNothing (classOf w)
+
+abbrev pub forNormal : Class → Bool
+forNormal Class.nothing = false
+forNormal Class.normal = true
+forNormal Class.timer = false
+forNormal Class.release = false
+forNormal (Class.onto kind k) = false
 
 abbrev pub waitsForNormal : Wait → Bool
-waitsForNormal None = false
-waitsForNormal Normal = true
-waitsForNormal Delay = false
-waitsForNormal Timed = false
-waitsForNormal Period = false
-waitsForNormal (Semaphore k) = false
-waitsForNormal (Event k) = false
+waitsForNormal w = forNormal (classOf w)
 
 -- It is READY if started, waiting for nothing and not suspended.
 abbrev pub ready : Process → Bool

@@ -10,6 +10,7 @@ use Rattle.machine.specs.declared.Event.{Event}
 use Rattle.machine.specs.declared.Answer.{Answer}
 use Rattle.machine.specs.declared.Numbers.{Numbers}
 use Rattle.machine.specs.declared.Reading.{Reading}
+use Rattle.machine.specs.declared.Stepped.{Stepped}
 use Rattle.machine.specs.declared.Line.{Line}
 use Rattle.machine.specs.declared.Line.the-variants.{Six, Bad}
 use Rattle.machine.specs.declared.Time.{Time}
@@ -33,22 +34,32 @@ timeNumber (At t) = pos t
 abbrev pub answerNumbers : Answer → List ℤ
 answerNumbers a = pos (a .code) ∷ pos (a .value) ∷ timeNumber (a .extra) ∷ pos (a .t) ∷ pos (a .current) ∷ pos (a .running) ∷ []
 
--- one answer line per event, 11 too (value, extra and running 0)
+-- 11 for a line that is no event: value, extra and running 0
+abbrev pub unread : Module → Answer
+unread m = record { code = lineRefusal; value = 0; extra = At 0; t = m .t; current = current m; running = 0 }
+
+-- an event is stepped; a line that is no event steps nothing
+abbrev pub lineStep : Module → Line → Stepped
+lineStep m (Six n) = step m (eventOf n)
+lineStep m Bad = record { state = m; answer = unread m }
+
+-- one answer line per event, 11 too
 abbrev pub lineAnswer : Module → Line → List ℤ
-lineAnswer m (Six n) = answerNumbers (step m (eventOf n) .answer)
-lineAnswer m Bad = pos lineRefusal ∷ pos 0 ∷ pos 0 ∷ pos (m .t) ∷ pos (current m) ∷ pos 0 ∷ []
+lineAnswer m l = answerNumbers (lineStep m l .answer)
 
 abbrev pub lineNext : Module → Line → Module
-lineNext m (Six n) = step m (eventOf n) .state
-lineNext m Bad = m
+lineNext m l = lineStep m l .state
 
 unfoldable pub texts : List (List ℤ) → List ℕ
 texts [] = []
 texts (zs ∷ l) = lineText zs ++ texts l
 
 -- A bad table prints one line: code, line number, four 0, and ends there.
+abbrev pub refusalNumbers : ℕ → ℕ → List ℤ
+refusalNumbers code value = pos code ∷ pos value ∷ pos 0 ∷ pos 0 ∷ pos 0 ∷ pos 0 ∷ []
+
 abbrev pub badTableLine : Reading → List ℕ
-badTableLine r = lineText (pos (r .code) ∷ pos (r .value) ∷ pos 0 ∷ pos 0 ∷ pos 0 ∷ pos 0 ∷ [])
+badTableLine r = lineText (refusalNumbers (r .code) (r .value))
 
 -- the event lines of an input whose table takes so many lines
 abbrev pub eventLines : Reading → List ℕ → List Line

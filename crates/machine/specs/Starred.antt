@@ -24,12 +24,13 @@ use Rattle.machine.specs.declared.Field.the-variants.{Number}
 use Rattle.machine.specs.Limits.{processLimit, semaphoreLimit, eventLimit, nameLimit, priorityLimit, valueLimit, durationLimit, timeLimit}
 use Rattle.machine.specs.Fields.{isNumber, between, isName, isMinusOne, numberOf, requestOf, isTimeout}
 use Rattle.machine.specs.Process.{later, periodic, ready, waitEnded, ticked, waitsForNothing, waitsForNormal, entered, nextRelease}
-use Rattle.machine.specs.Partition.{normalMode, process, semaphore, event, stored, arrivedLast, tickPartition, noted}
-use Rattle.machine.specs.Calls.{processNamed, above, admissible, isPriority, isMultiple, unknown, createProcess, start, setPriority, suspendSelf, timedWait, periodicWait, dormant}
+use Rattle.machine.specs.Partition.{normalMode, process, semaphore, event, stored, arrivedLast, tickPartition, noted, partitionAfter}
+use Rattle.machine.specs.Decisions.{replyOf, unknown}
+use Rattle.machine.specs.Calls.{processNamed, above, admissible, isPriority, isMultiple, createProcess, start, setPriority, suspendSelf, timedWait, periodicWait}
 use Rattle.machine.specs.Objects.{semaphoreNamed, eventNamed, createSemaphore, createEvent, waitSemaphore, waitEvent, signal}
-use Rattle.machine.specs.Step.{step, sees}
+use Rattle.machine.specs.Step.{contextOf, step, sees}
 use Rattle.machine.specs.Module.{part, message, channel}
-use Rattle.machine.specs.Channels.{namedChannel, read}
+use Rattle.machine.specs.Channels.{portOf, read}
 use Rattle.machine.specs.Ticks.{tickModule}
 use Rattle.machine.specs.Valid.{ValidModule}
 use Rattle.machine.specs.Replay.{replayed, replayedRecord}
@@ -83,44 +84,46 @@ withPeriod n r = record { partition = r .partition; call = r .call; a = r .a; b 
 pub record Corners : Type 0 where
   -- priority 239/240, in CREATE_PROCESS and in SET_PRIORITY
   pub priority : (c : Context) (r : Request) (p : Partition) → CanCreate c r p → isName (r .a) ≡ true → periodFits c r ≡ true → capacityFits r ≡ true
-      → Edge (createProcess c (withPriority priorityLimit r) p .reply .code) (createProcess c (withPriority (priorityLimit + 1) r) p .reply .code)
+      → Edge (replyOf (createProcess c (withPriority priorityLimit r) p) .code) (replyOf (createProcess c (withPriority (priorityLimit + 1) r) p) .code)
   pub setPriority : (id : ℕ) (p : Partition) → unknown id (p .processCount) ≡ false → process id p .started ≡ true
-      → Edge (setPriority id (Number priorityLimit) p .reply .code) (setPriority id (Number (priorityLimit + 1)) p .reply .code)
+      → Edge (replyOf (setPriority id (Number priorityLimit) p) .code) (replyOf (setPriority id (Number (priorityLimit + 1)) p) .code)
   -- name 255/256, of each kind
   pub processName : (c : Context) (r : Request) (p : Partition) → CanCreate c (withName nameLimit r) p → CanCreate c (withName (nameLimit + 1) r) p → isPriority (r .b) ≡ true → periodFits c r ≡ true → capacityFits r ≡ true
-      → Edge (createProcess c (withName nameLimit r) p .reply .code) (createProcess c (withName (nameLimit + 1) r) p .reply .code)
+      → Edge (replyOf (createProcess c (withName nameLimit r) p) .code) (replyOf (createProcess c (withName (nameLimit + 1) r) p) .code)
   pub semaphoreName : (r : Request) (p : Partition) → CanCreateSemaphore (withName nameLimit r) p → CanCreateSemaphore (withName (nameLimit + 1) r) p → (between 1 valueLimit (r .c) && between 0 (numberOf (r .c)) (r .b)) ≡ true
-      → Edge (createSemaphore (withName nameLimit r) p .reply .code) (createSemaphore (withName (nameLimit + 1) r) p .reply .code)
+      → Edge (replyOf (createSemaphore (withName nameLimit r) p) .code) (replyOf (createSemaphore (withName (nameLimit + 1) r) p) .code)
   pub eventName : (p : Partition) → CanCreateEvent (Number nameLimit) p → CanCreateEvent (Number (nameLimit + 1)) p
-      → Edge (createEvent (Number nameLimit) p .reply .code) (createEvent (Number (nameLimit + 1)) p .reply .code)
+      → Edge (replyOf (createEvent (Number nameLimit) p) .code) (replyOf (createEvent (Number (nameLimit + 1)) p) .code)
   -- period M/M + 1 (M above 1)
   pub period : (c : Context) (r : Request) (p : Partition) → 1 < c .frame → c .frame ≤ durationLimit → CanCreate c r p → isName (r .a) ≡ true → isPriority (r .b) ≡ true → isMinusOne (r .e) ≡ true
-      → Edge (createProcess c (withPeriod (c .frame) r) p .reply .code) (createProcess c (withPeriod (c .frame + 1) r) p .reply .code)
+      → Edge (replyOf (createProcess c (withPeriod (c .frame) r) p) .code) (replyOf (createProcess c (withPeriod (c .frame + 1) r) p) .code)
   -- delay period − 1/period
   pub delay : (c : Context) (id n : ℕ) (p : Partition) → unknown id (p .processCount) ≡ false → process id p .started ≡ false → process id p .given .period ≡ At n → 1 ≤ n → n ≤ durationLimit
-      → Edge (start c id (Number (n - 1)) p .reply .code) (start c id (Number n) p .reply .code)
+      → Edge (replyOf (start c id (Number (n - 1)) p) .code) (replyOf (start c id (Number n) p) .code)
   -- age refresh/refresh + 1
-  pub freshness : (m : Module) (k : ℕ) (r : Request) → between 1 (m .table .channelCount) (r .a) ≡ true → namedChannel (m .table) r .destination ≡ k → message m (numberOf (r .a) - 1) .present ≡ true
-      → let written = message m (numberOf (r .a) - 1) .written in
-      let refresh = namedChannel (m .table) r .refresh in
-      (read m k r .reply .code ≡ 0) × (m .t ≡ written + refresh → read m k r .reply .extra ≡ At 1) × (m .t ≡ written + refresh + 1 → read m k r .reply .extra ≡ At 0)
+  pub freshness : (m : Module) (k : ℕ) (r : Request) → let i = numberOf (r .a) - 1 in
+      between 1 (m .table .channelCount) (r .a) ≡ true → channel (m .table) i .destination ≡ k → message m i .present ≡ true
+      → let written = message m i .written in
+      let refresh = channel (m .table) i .refresh in
+      let reply = replyOf (read (contextOf m k) (portOf m k r)) in
+      (reply .code ≡ 0) × (m .t ≡ written + refresh → reply .extra ≡ At 1) × (m .t ≡ written + refresh + 1 → reply .extra ≡ At 0)
   -- timeout 0
   pub suspendSelf : (c : Context) (p : Partition) → normalMode p ≡ true → periodic (process (c .caller) p) ≡ false
-      → (suspendSelf c (Number 0) p .reply .code ≡ 0) × (suspendSelf c (Number 0) p .partition ≡ p)
+      → (replyOf (suspendSelf c (Number 0) p) .code ≡ 0) × (partitionAfter (suspendSelf c (Number 0) p) p ≡ p)
   pub timedWait : (c : Context) (p : Partition) → normalMode p ≡ true
-      → (timedWait c (Number 0) p .reply .code ≡ 0) × (timedWait c (Number 0) p .partition ≡ arrivedLast (c .caller) p)
+      → (replyOf (timedWait c (Number 0) p) .code ≡ 0) × (partitionAfter (timedWait c (Number 0) p) p ≡ arrivedLast (c .caller) p)
   pub waitSemaphore : (c : Context) (k : ℕ) (p : Partition) → normalMode p ≡ true → unknown k (p .semaphoreCount) ≡ false → semaphore k p .value ≡ 0
-      → (waitSemaphore c k (Number 0) p .reply .code ≡ 2) × (waitSemaphore c k (Number 0) p .partition ≡ p)
+      → (replyOf (waitSemaphore c k (Number 0) p) .code ≡ 2) × (partitionAfter (waitSemaphore c k (Number 0) p) p ≡ p)
   pub waitEvent : (c : Context) (k : ℕ) (p : Partition) → normalMode p ≡ true → unknown k (p .eventCount) ≡ false → event k p .up ≡ false
-      → (waitEvent c k (Number 0) p .reply .code ≡ 2) × (waitEvent c k (Number 0) p .partition ≡ p)
+      → (replyOf (waitEvent c k (Number 0) p) .code ≡ 2) × (partitionAfter (waitEvent c k (Number 0) p) p ≡ p)
   -- SIGNAL at max
   pub signal : (k : ℕ) (p : Partition) → unknown k (p .semaphoreCount) ≡ false → semaphore k p .value ≡ semaphore k p .max
-      → (signal k p .reply .code ≡ 1) × (signal k p .partition ≡ p)
+      → (replyOf (signal k p) .code ≡ 1) × (partitionAfter (signal k p) p ≡ p)
   -- PERIODIC_WAIT with r ≤ t: it waits all the same, for a release that has passed
   pub periodicWait : (c : Context) (r n : ℕ) (p : Partition) → normalMode p ≡ true → c .time ≤ timeLimit
       → process (c .caller) p .times .release ≡ At r → process (c .caller) p .given .period ≡ At n → r + n ≤ c .time
-      → (periodicWait c p .reply .code ≡ 7)
-      × (periodicWait c p .partition ≡ stored (c .caller) (nextRelease (process (c .caller) p)) p)
+      → (replyOf (periodicWait c p) .code ≡ 7)
+      × (partitionAfter (periodicWait c p) p ≡ stored (c .caller) (nextRelease (process (c .caller) p)) p)
       × (nextRelease (process (c .caller) p) .wait ≡ Period)
       × (nextRelease (process (c .caller) p) .times .release ≡ At (r + n))
       × (nextRelease (process (c .caller) p) .times .wake ≡ At (r + n))

@@ -10,7 +10,7 @@ use lib.Dec.{eqb}
 use Rattle.machine.specs.declared.Time.{Time}
 use Rattle.machine.specs.declared.Time.the-variants.{Never, At}
 use Rattle.machine.specs.declared.Wait.{Wait}
-use Rattle.machine.specs.declared.Wait.the-variants.{None, Normal, Delay, Timed, Period, Semaphore, Event}
+use Rattle.machine.specs.declared.Wait.the-variants.{None, Normal}
 use Rattle.machine.specs.declared.Ids.{Ids}
 use Rattle.machine.specs.declared.Given.{Given}
 use Rattle.machine.specs.declared.Times.{Times}
@@ -19,6 +19,10 @@ use Rattle.machine.specs.declared.Semaphore.{Semaphore as SemaphoreT}
 use Rattle.machine.specs.declared.EventState.{EventState}
 use Rattle.machine.specs.declared.Partition.{Partition}
 use Rattle.machine.specs.declared.Context.{Context}
+use Rattle.machine.specs.declared.Change.{Change}
+use Rattle.machine.specs.declared.Change.the-variants.{Nothing, Stored, Created, Last, StoredSemaphore, StoredEvent, Ended, Entered}
+use Rattle.machine.specs.declared.Decision.{Decision}
+use Rattle.machine.specs.declared.Decision.the-variants.{Refused, Unchanged, Ticked, Blocked, Changed, Restarted, Written}
 use Rattle.machine.specs.declared.Reply.{Reply}
 use Rattle.machine.specs.declared.Window.{Window}
 use Rattle.machine.specs.declared.Channel.{Channel}
@@ -29,8 +33,8 @@ use Rattle.machine.specs.declared.Event.{Event as EventT}
 use Rattle.machine.specs.declared.Answer.{Answer}
 use Rattle.machine.specs.Limits.{processLimit, semaphoreLimit, eventLimit, nameLimit, priorityLimit, valueLimit, durationLimit, timeLimit, frameLimit, partitionLimit, windowLimit, channelLimit, numberLimit}
 use Rattle.machine.specs.Ids.{members, idsOf}
-use Rattle.machine.specs.Process.{blankProcess, isNever, periodic, ready, onObject}
-use Rattle.machine.specs.Partition.{normalMode, byId, noSemaphore, noEvent, process, running, tickPartition, soonestOf}
+use Rattle.machine.specs.Process.{Class, classOf, blankProcess, createdProcess, isNever, periodic, ready, onObject}
+use Rattle.machine.specs.Partition.{normalMode, byId, noSemaphore, noEvent, process, running, tickPartition, applied, soonestOf}
 use Rattle.machine.specs.Table.{hasFlagged, readTable}
 use Rattle.machine.specs.Windows.{windows}
 use Rattle.machine.specs.Module.{channel, part, message, withPart, withTime, emptyModule}
@@ -141,25 +145,21 @@ pub record Early (v : Wait) (s : Times) : Type 0 where
   pub wait : v ≡ Normal
   pub times : Timeless s
 
--- the object of a wait, one of s semaphores and e events, has been created; in NORMAL none waits for NORMAL
-abbrev pub KnownWait : ℕ → ℕ → Wait → Type 0
-KnownWait s e None = Unit {0}
-KnownWait s e Normal = ⊥
-KnownWait s e Delay = Unit {0}
-KnownWait s e Timed = Unit {0}
-KnownWait s e Period = Unit {0}
-KnownWait s e (Semaphore k) = Between 1 s k
-KnownWait s e (Event k) = Between 1 e k
+-- the object of a wait has been created; in NORMAL none waits for NORMAL
+abbrev pub KnownWait : (ℕ → ℕ) → Class → Type 0
+KnownWait counts Class.nothing = Unit {0}
+KnownWait counts Class.normal = ⊥
+KnownWait counts Class.timer = Unit {0}
+KnownWait counts Class.release = Unit {0}
+KnownWait counts (Class.onto kind k) = Between 1 (counts kind) k
 
 -- w, by the wait, in NORMAL at t: a wake time with no wait stands only where the suspended mark does
-abbrev pub SoundWake : ℕ → Bool → Time → Wait → Time → Type 0
-SoundWake t mark r None w = cond mark (Timeout t w) (w ≡ Never)
-SoundWake t mark r Normal w = ⊥
-SoundWake t mark r Delay w = Ahead t w
-SoundWake t mark r Timed w = Ahead t w
-SoundWake t mark r Period w = w ≡ r
-SoundWake t mark r (Semaphore k) w = Timeout t w
-SoundWake t mark r (Event k) w = Timeout t w
+abbrev pub SoundWake : ℕ → Bool → Time → Class → Time → Type 0
+SoundWake t mark r Class.nothing w = cond mark (Timeout t w) (w ≡ Never)
+SoundWake t mark r Class.normal w = ⊥
+SoundWake t mark r Class.timer w = Ahead t w
+SoundWake t mark r Class.release w = w ≡ r
+SoundWake t mark r (Class.onto kind k) w = Timeout t w
 
 -- r of a process that does not wait for its period: −1 for an aperiodic one, at most t for a periodic one
 abbrev pub Released : ℕ → Time → Time → Type 0
@@ -167,29 +167,26 @@ Released t Never r = r ≡ Never
 Released t (At period) r = AtMost t r
 
 -- r, by the wait, in NORMAL at t
-abbrev pub SoundRelease : ℕ → Time → Wait → Time → Type 0
-SoundRelease t period None r = Released t period r
-SoundRelease t period Normal r = ⊥
-SoundRelease t period Delay r = (isNever period ≡ true) × (r ≡ Never)
-SoundRelease t period Timed r = Released t period r
-SoundRelease t period Period r = (isNever period ≡ false) × AtMost latestWake r
-SoundRelease t period (Semaphore k) r = Released t period r
-SoundRelease t period (Event k) r = Released t period r
+abbrev pub SoundRelease : ℕ → Time → Class → Time → Type 0
+SoundRelease t period Class.nothing r = Released t period r
+SoundRelease t period Class.normal r = ⊥
+SoundRelease t period Class.timer r = Released t period r
+SoundRelease t period Class.release r = (isNever period ≡ false) × AtMost latestWake r
+SoundRelease t period (Class.onto kind k) r = Released t period r
 
--- what a process's rules look at besides its own record: M, the time, whether the mode is NORMAL, how many semaphores and events there are
+-- what a process's rules look at besides its own record: M, the time, whether the mode is NORMAL, how many objects of a kind there are
 pub record Setting : Type 0 where
   pub frame : ℕ
   pub time : ℕ
   pub normal : Bool
-  pub semaphores : ℕ
-  pub events : ℕ
+  pub counts : ℕ → ℕ
 
-abbrev pub setting : ℕ → ℕ → Bool → ℕ → ℕ → Setting
-setting frame t normal s e = record { frame = frame; time = t; normal = normal; semaphores = s; events = e }
+abbrev pub setting : ℕ → ℕ → Bool → (ℕ → ℕ) → Setting
+setting frame t normal counts = record { frame = frame; time = t; normal = normal; counts = counts }
 
 -- started in NORMAL
-pub record Going (c : Setting) (period : Time) (mark : Bool) (v : Wait) (s : Times) : Type 0 where
-  pub wait : KnownWait (c .semaphores) (c .events) v
+pub record Going (c : Setting) (period : Time) (mark : Bool) (v : Class) (s : Times) : Type 0 where
+  pub wait : KnownWait (c .counts) v
   pub wake : SoundWake (c .time) mark (s .release) v (s .wake)
   pub release : SoundRelease (c .time) period v (s .release)
   pub deadline : NotAfter latestDeadline (s .deadline)
@@ -219,7 +216,7 @@ pub record SoundProcess (c : Setting) (x : Process) : Type 0 where
   pub mark : SoundMark x
   pub dormant : x .started ≡ false → Dormant (x .wait) (x .suspended) (x .times)
   pub early : x .started ≡ true → c .normal ≡ false → Early (x .wait) (x .times)
-  pub going : x .started ≡ true → c .normal ≡ true → Going c (x .given .period) (x .suspended) (x .wait) (x .times)
+  pub going : x .started ≡ true → c .normal ≡ true → Going c (x .given .period) (x .suspended) (classOf (x .wait)) (x .times)
 
 -- ---------------------------------------------------------------- a partition
 pub record SoundSemaphore (s : SemaphoreT) : Type 0 where
@@ -254,8 +251,12 @@ pub record Objects (l : List SemaphoreT) (n : ℕ) (l′ : List EventState) (n�
 abbrev pub ObjectsIn : Partition → Type 0
 ObjectsIn p = Objects (p .semaphores) (p .semaphoreCount) (p .events) (p .eventCount)
 
+-- how many objects of a kind there are, by the kinds of classOf
+abbrev pub counted : ℕ → ℕ → ℕ → ℕ
+counted s e kind = cond (eqb kind 1) s (cond (eqb kind 2) e 0)
+
 abbrev pub settingOf : ℕ → ℕ → Partition → Setting
-settingOf frame t p = setting frame t (normalMode p) (p .semaphoreCount) (p .eventCount)
+settingOf frame t p = setting frame t (normalMode p) (counted (p .semaphoreCount) (p .eventCount))
 
 pub record Valid (frame t : ℕ) (p : Partition) : Type 0 where
   pub mode : p .mode ≤ 3
@@ -271,6 +272,47 @@ pub record SoundContext (c : Context) (p : Partition) : Type 0 where
   pub near : c .release < c .time + c .frame + c .frame
   pub caller : c .caller ≡ running p
   pub calls : noCaller p ≡ false
+
+pub record SoundMessage (t : ℕ) (x : Message) : Type 0 where
+  pub value : x .value ≤ durationLimit
+  pub written : x .written ≤ t
+
+-- ---------------------------------------------------------------- decisions
+-- the next process, DORMANT
+pub record SoundCreated (frame : ℕ) (p : Partition) (id : ℕ) (x : Process) : Type 0 where
+  pub room : p .processCount < processLimit
+  pub next : id ≡ p .processCount + 1
+  pub given : SoundGiven frame (x .given)
+  pub dormant : x ≡ createdProcess (x .given)
+
+-- an object that is known, or the next one
+abbrev pub KnownOrNext : ℕ → ℕ → ℕ → Type 0
+KnownOrNext limit count k = Between 1 (count + 1) k × (k ≤ limit)
+
+-- a change that keeps a valid partition valid
+abbrev pub SoundChange : Context → Partition → Change → Type 0
+SoundChange c p Nothing = Unit {0}
+SoundChange c p (Stored id x) = Between 1 (p .processCount) id × SoundProcess (settingOf (c .frame) (c .time) p) x
+SoundChange c p (Created id x) = SoundCreated (c .frame) p id x
+SoundChange c p (Last id) = ready (process id p) ≡ true
+SoundChange c p (StoredSemaphore k s) = KnownOrNext semaphoreLimit (p .semaphoreCount) k × SoundSemaphore s
+SoundChange c p (StoredEvent k e) = KnownOrNext eventLimit (p .eventCount) k × SoundEvent e
+SoundChange c p (Ended o) = Unit {0}
+SoundChange c p (Entered d) = (d ≡ c) × (normalMode p ≡ false)
+
+-- value and extra are in the line writer's range
+abbrev pub SoundValue : ℕ → Time → Type 0
+SoundValue value extra = (value ≤ numberLimit) × NotAfter numberLimit extra
+
+-- a decision whose changes are sound, and whose numbers are in the line writer's range
+abbrev pub SoundDecision : Context → Partition → Decision → Type 0
+SoundDecision c p (Refused code) = Unit {0}
+SoundDecision c p (Unchanged value extra) = SoundValue value extra
+SoundDecision c p Ticked = Unit {0}
+SoundDecision c p (Blocked id x) = SoundChange c p (Stored id x)
+SoundDecision c p (Changed a b value) = SoundChange c p a × SoundChange c (applied a p) b × (value ≤ numberLimit)
+SoundDecision c p (Restarted mode) = mode ≤ 3
+SoundDecision c p (Written i x) = SoundMessage (c .time) x
 
 -- the running process id: READY, every member of the arrival list before it of smaller current priority, every one after it of none greater
 pub record Runs (p : Partition) (id : ℕ) : Type 0 where
@@ -311,10 +353,6 @@ pub record SoundTable (T : Table) : Type 0 where
   pub eachChannel : (i : ℕ) → i < T .channelCount → SoundChannel (T .size) (channel T i)
 
 -- ---------------------------------------------------------------- the module
-pub record SoundMessage (t : ℕ) (x : Message) : Type 0 where
-  pub value : x .value ≤ durationLimit
-  pub written : x .written ≤ t
-
 -- the field `soonest` of a partition says when the first of its wake times and deadlines comes
 abbrev pub Noted : Partition → Type 0
 Noted p = p .soonest ≡ soonestOf p

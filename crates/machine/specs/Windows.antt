@@ -1,5 +1,5 @@
 -- The windows of a table: the current partition, the release point and the waiting time.
-use Prim.Native.Nat.{ℕ, _+_, _%_, _*_, _/_, _≤_}
+use Prim.Native.Nat.{ℕ, _+_, _-_, _%_, _*_, _/_, _≤_}
 use mathlib.Core.Bool.{Bool, true, false, cond, not, _&&_, _||_}
 use mathlib.Core.List.{List, [], _∷_}
 use lib.ListN.{take}
@@ -8,13 +8,14 @@ use Rattle.machine.specs.declared.Field.{Field}
 use Rattle.machine.specs.Limits.{timeLimit}
 use Rattle.machine.specs.Fields.{between, numberOf, field}
 use Rattle.machine.specs.Process.{capped}
+use Rattle.machine.specs.declared.Time.{Time}
+use Rattle.machine.specs.declared.Time.the-variants.{Never, At}
 use Rattle.machine.specs.declared.Window.{Window}
 use Rattle.machine.specs.declared.Table.{Table}
 use Rattle.machine.specs.declared.Lookup.{Lookup}
 use mathlib.Core.Path.{_≡_}
 use lib.IntN.{ℤ}
 use Rattle.machine.specs.declared.Waiting.{Waiting}
-use Rattle.machine.specs.Calls.{refused}
 
 abbrev pub noWindow : Window
 noWindow = record { start = 0; duration = 0; partition = 0; flag = false }
@@ -46,6 +47,29 @@ firstFlagged k (w ∷ ws) = cond (flaggedFor k w) (w .start) (firstFlagged k ws)
 unfoldable pub releasePoint : Table → ℕ → ℕ → ℕ
 releasePoint T t k = cond (eqb (T .frame) 0) 0 (capped ((t / T .frame + 1) * T .frame + firstFlagged k (windows T)))
 
+-- ---------------------------------------------------------------- the waiting time
+-- a window of partition k, with flag 1 where it is asked for, that does not start before this place of the frame
+abbrev pub startsFrom : ℕ → Bool → ℕ → Window → Bool
+startsFrom k flagged from w = eqb (w .partition) k && ((not flagged || w .flag) && leb from (w .start))
+
+-- the start of the first window that passes a test; −1 where none does
+unfoldable pub firstStart : (Window → Bool) → List Window → Time
+firstStart f [] = Never
+firstStart f (w ∷ ws) = cond (f w) (At (w .start)) (firstStart f ws)
+
+-- how far ahead of place x the first of these starts lies: the first in this frame, or the second in the next one; M where there is none
+abbrev pub aheadOf : ℕ → ℕ → Time → Time → ℕ
+aheadOf frame x (At s) next = s - x
+aheadOf frame x Never (At s) = s + frame - x
+aheadOf frame x Never Never = frame
+
+-- the next start after t of a window of partition k, as a number of ticks. Bound: 0 where M is 0
+unfoldable pub nextStart : Table → ℕ → ℕ → Bool → ℕ
+nextStart T t k flagged =
+    let x = t % T .frame in
+    cond (eqb (T .frame) 0) 0
+    (aheadOf (T .frame) x (firstStart (startsFrom k flagged (x + 1)) (windows T)) (firstStart (startsFrom k flagged 0) (windows T)))
+
 -- a window of partition k starts at x
 unfoldable pub startsAt : ℕ → ℕ → List Window → Bool
 startsAt k x [] = false
@@ -54,6 +78,10 @@ startsAt k x (w ∷ ws) = (eqb (w .partition) k && eqb (w .start) x) || startsAt
 -- 13, with n 0, for t or partition out of range (in the empty record there is no partition)
 abbrev pub waitingRefused : Table → Field → Field → Bool
 waitingRefused T t k = not (between 0 timeLimit t) || not (between 1 (T .size) k)
+
+-- the waiting time that is given: to the next start
+unfoldable pub waitingOf : Table → ℤ → ℤ → Waiting
+waitingOf T t k = cond (waitingRefused T (field t) (field k)) (record { code = 13; n = 0 }) (record { code = 0; n = nextStart T (numberOf (field t)) (numberOf (field k)) false })
 
 -- given t and a partition, a number n in 1..M such that a window of it starts at (t + n) mod M
 pub record WaitingTime (T : Table) (t k : ℤ) (w : Waiting) : Type 0 where

@@ -206,16 +206,38 @@ pub struct Context {
     pub caller: u8,
 }
 
-// What a call makes of its partition.
-pub struct Called {
-    pub partition: Partition,
-    pub reply: Reply,
+// What a call sees of the channel that field a names: its place, whether there is such a channel, its ends and refresh; the message
+// is seen at its destination alone.
+pub struct Port {
+    pub own: u32,
+    pub place: u32,
+    pub exists: bool,
+    pub channel: Channel,
+    pub message: Message,
 }
 
-// What an event makes of the module.
-pub struct Done {
-    pub state: Module,
-    pub reply: Reply,
+// One change of a partition's record. An object with the next id is created by storing it.
+pub enum Change {
+    Nothing,
+    Stored(u32, Process),
+    Created(u32, Process),
+    Last(u8),
+    StoredSemaphore(u32, Semaphore),
+    StoredEvent(u32, EventState),
+    Ended(u16),
+    Entered(Context),
+}
+
+// What an event decides: the code of a refusal; code 0 with value and extra; a tick, code 0; code 7 with the caller's record, in which
+// it waits; code 0 with two changes in order and a value; a mode 0, 1 or 2, code 0; a message on the channel at this place, code 0.
+pub enum Decision {
+    Refused(u8),
+    Unchanged(u32, Time),
+    Ticked,
+    Blocked(u8, Process),
+    Changed(Change, Change, u32),
+    Restarted(u8),
+    Written(u32, Message),
 }
 
 pub struct Stepped {

@@ -1,15 +1,20 @@
-// Semaphores and events of a partition: calls 14 to 20.
+// Semaphores and events of a partition: calls 14 to 20. Beside each call: how many of the fields a, b, c, e it uses.
 ghost use mathlib.Core.Path.{_≡_};
-ghost use Prim.Native.Nat.{_≤_};
-ghost use mathlib.Core.Bool.{_&&_};
+ghost use Prim.Native.Nat.{_-_, _≤_};
+ghost use mathlib.Core.Bool.{cond, _&&_};
+ghost use lib.Dec.{eqb, leb};
 ghost use lib.ListN.{length, take};
 ghost use Rattle.machine.specs.Limits.{semaphoreLimit, eventLimit, valueLimit};
 ghost use Rattle.machine.specs.Fields.{isName, between, numberOf};
 ghost use Rattle.machine.specs.Ids.{members};
+ghost use Rattle.machine.specs.declared.Decision.the-variants.{Refused};
+ghost use Rattle.machine.specs.declared.Change.the-variants.{StoredSemaphore, StoredEvent};
 ghost use Rattle.machine.specs.Partition.{semaphore, event, noSemaphore, noEvent};
-ghost use Rattle.machine.specs.Objects.{semaphoreNamed, eventNamed, createSemaphore, createEvent, withValue, withUp, queued, waitSemaphore, waitEvent, oneMore, signalled, signal, setEvent, resetEvent};
-use machine::Called;
+ghost use Rattle.machine.specs.Objects.{semaphoreNamed, eventNamed, createSemaphore, createEvent, waitSemaphore, waitEvent, oneMore, signalled, signal, setEvent, resetEvent};
+ghost use Rattle.machine.specs.Decisions.{queued};
+use machine::Change;
 use machine::Context;
+use machine::Decision;
 use machine::EventState;
 use machine::Field;
 use machine::Ids;
@@ -39,10 +44,7 @@ fn no_event() -> EventState
 pub fn semaphore_at(p: Partition, k: u32) -> Semaphore
     ensures { λ r. ⌜ r ≡ semaphore k p ⌝ }
 {
-    if k == 0 {
-        return no_semaphore();
-    }
-    let i = (k - 1) as usize;
+    let i = partition::slot(k, Module::SEMAPHORES);
     if Module::SEMAPHORES <= i {
         return no_semaphore();
     }
@@ -52,48 +54,24 @@ pub fn semaphore_at(p: Partition, k: u32) -> Semaphore
 pub fn event_at(p: Partition, k: u32) -> EventState
     ensures { λ r. ⌜ r ≡ event k p ⌝ }
 {
-    if k == 0 {
-        return no_event();
-    }
-    let i = (k - 1) as usize;
+    let i = partition::slot(k, Module::EVENTS);
     if Module::EVENTS <= i {
         return no_event();
     }
     p.events[i]
 }
 
-pub fn set_value(p: Partition, k: u32, value: u16) -> Partition
-    ensures { λ r. ⌜ r ≡ withValue k value p ⌝ }
+// The semaphore with this value.
+fn with_value(k: u32, s: Semaphore, value: u16) -> Change
+    ensures { λ r. ⌜ r ≡ StoredSemaphore k (record { name = s .name; value = value; max = s .max }) ⌝ }
 {
-    if k == 0 {
-        return p;
-    }
-    let i = (k - 1) as usize;
-    if Module::SEMAPHORES <= i {
-        return p;
-    }
-    let mut s = p.semaphores[i];
-    s.value = value;
-    let mut q = p;
-    q.semaphores[i] = s;
-    q
+    Change::StoredSemaphore(k, Semaphore { value, ..s })
 }
 
-pub fn set_up(p: Partition, k: u32, up: bool) -> Partition
-    ensures { λ r. ⌜ r ≡ withUp k up p ⌝ }
+fn with_up(k: u32, e: EventState, up: bool) -> Change
+    ensures { λ r. ⌜ r ≡ StoredEvent k (record { name = e .name; up = up }) ⌝ }
 {
-    if k == 0 {
-        return p;
-    }
-    let i = (k - 1) as usize;
-    if Module::EVENTS <= i {
-        return p;
-    }
-    let mut e = p.events[i];
-    e.up = up;
-    let mut q = p;
-    q.events[i] = e;
-    q
+    Change::StoredEvent(k, EventState { up, ..e })
 }
 
 // How many semaphores and events have been created, the arrays' lengths at most.
@@ -171,115 +149,136 @@ fn is_semaphore_admitted(r: Request) -> bool
     fields::is_between(start, 0, fields::number_of(max))
 }
 
+pub const CREATE_SEMAPHORE_FIELDS: u8 = 3;
+
 // 14 CREATE_SEMAPHORE
-pub fn create_semaphore(p: Partition, r: Request) -> Called
+pub fn create_semaphore(p: Partition, r: Request) -> Decision
     ensures { λ x. ⌜ x ≡ createSemaphore r p ⌝ }
 {
-    let n = p.semaphoreCount as usize;
-    if Module::SEMAPHORES <= n {
-        return calls::answered(p, 4);
-    }
+    let n = p.semaphoreCount as u32;
     let name = r.a;
     let start = r.b;
     let max = r.c;
-    if is_semaphore_named(p, name) {
-        return calls::answered(p, 1);
-    }
-    if !is_semaphore_admitted(r) {
-        return calls::answered(p, 3);
-    }
-    if p.mode == 3 {
-        return calls::answered(p, 5);
+    let code = decisions::creation_code(
+        Module::SEMAPHORES as u32 <= n,
+        is_semaphore_named(p, name),
+        is_semaphore_admitted(r),
+        p.mode == 3,
+    );
+    if code != 0 {
+        return Decision::Refused(code);
     }
     let s = Semaphore {
         name: fields::number_of(name) as u16,
         value: fields::number_of(start) as u16,
         max: fields::number_of(max) as u16,
     };
-    let mut q = p;
-    q.semaphores[n] = s;
-    q.semaphoreCount = p.semaphoreCount + 1;
-    calls::answered_with(q, q.semaphoreCount as u32, Time::At(0))
+    let k = n + 1;
+    Decision::Changed(Change::StoredSemaphore(k, s), Change::Nothing, k)
 }
 
+pub const CREATE_EVENT_FIELDS: u8 = 1;
+
 // 17 CREATE_EVENT
-pub fn create_event(p: Partition, name: Field) -> Called
+pub fn create_event(p: Partition, name: Field) -> Decision
     ensures { λ x. ⌜ x ≡ createEvent name p ⌝ }
 {
-    let n = p.eventCount as usize;
-    if Module::EVENTS <= n {
-        return calls::answered(p, 4);
-    }
-    if is_event_named(p, name) {
-        return calls::answered(p, 1);
-    }
-    if !fields::is_name(name) {
-        return calls::answered(p, 3);
-    }
-    if p.mode == 3 {
-        return calls::answered(p, 5);
+    let n = p.eventCount as u32;
+    let code = decisions::creation_code(
+        Module::EVENTS as u32 <= n,
+        is_event_named(p, name),
+        fields::is_name(name),
+        p.mode == 3,
+    );
+    if code != 0 {
+        return Decision::Refused(code);
     }
     let e = EventState {
         name: fields::number_of(name) as u16,
         up: false,
     };
-    let mut q = p;
-    q.events[n] = e;
-    q.eventCount = p.eventCount + 1;
-    calls::answered_with(q, q.eventCount as u32, Time::At(0))
+    let k = n + 1;
+    Decision::Changed(Change::StoredEvent(k, e), Change::Nothing, k)
 }
 
 // Waits on an object, last in its queue.
-fn wait_queued(p: Partition, c: Context, a: Field, wait: Wait) -> Called
+fn wait_queued(p: Partition, c: Context, a: Field, wait: Wait) -> Decision
     ensures { λ r. ⌜ r ≡ queued c a wait p ⌝ }
 {
     if fields::is_number(a, 0) {
-        return calls::answered(p, 2);
+        return Decision::Refused(2);
     }
-    let caller = calls::caller_of(c);
-    let x = partition::process_at(p, caller);
+    let x = partition::process_at(p, decisions::caller_of(c));
     let until = process::later_time(Time::At(c.time), fields::time_of(a));
-    calls::block(p, caller, process::waiting_for(x, wait, until))
+    decisions::block(c.caller, process::waiting_for(x, wait, until))
 }
+
+// A call that waits with time-out a, by the code of its checks: where it need not wait, success.
+pub fn awaited(
+    p: Partition,
+    c: Context,
+    code: u8,
+    a: Field,
+    passes: bool,
+    success: Decision,
+    wait: Wait,
+) -> Decision
+    ensures { λ r. ⌜ r ≡ cond (eqb code 0) (cond passes success (queued c a wait p)) (Refused code) ⌝ }
+{
+    if code != 0 {
+        return Decision::Refused(code);
+    }
+    if passes {
+        return success;
+    }
+    wait_queued(p, c, a, wait)
+}
+
+// The id of an object in 8 bits; 0 for one that no object has.
+pub fn short_id(k: u32) -> u8
+    ensures { λ r. ⌜ r ≡ cond (leb k 255) k 0 ⌝ }
+{
+    if k <= 255 { k as u8 } else { 0 }
+}
+
+fn one_less(n: u16) -> u16
+    ensures { λ r. ⌜ r ≡ n - 1 ⌝ }
+{
+    if n == 0 { 0 } else { n - 1 }
+}
+
+pub const WAIT_SEMAPHORE_FIELDS: u8 = 2;
 
 // 15 WAIT_SEMAPHORE
-pub fn wait_semaphore(p: Partition, c: Context, k: u32, a: Field) -> Called
+pub fn wait_semaphore(p: Partition, c: Context, k: u32, a: Field) -> Decision
     ensures { λ r. ⌜ r ≡ waitSemaphore c k a p ⌝ }
 {
-    if calls::is_unknown(k, p.semaphoreCount) {
-        return calls::answered(p, 3);
-    }
-    if p.mode != 3 {
-        return calls::answered(p, 5);
-    }
-    if !fields::is_timeout(a) {
-        return calls::answered(p, 3);
-    }
+    let unknown = decisions::is_unknown(k, p.semaphoreCount);
+    let code = decisions::wait_code(unknown, p.mode != 3, fields::is_timeout(a));
     let s = semaphore_at(p, k);
-    if 0 < s.value {
-        return calls::answered(set_value(p, k, s.value - 1), 0);
-    }
-    wait_queued(p, c, a, Wait::Semaphore(k as u8))
+    let success = decisions::changed(with_value(k, s, one_less(s.value)));
+    awaited(
+        p,
+        c,
+        code,
+        a,
+        0 < s.value,
+        success,
+        Wait::Semaphore(short_id(k)),
+    )
 }
 
+pub const WAIT_EVENT_FIELDS: u8 = 2;
+
 // 20 WAIT_EVENT
-pub fn wait_event(p: Partition, c: Context, k: u32, a: Field) -> Called
+pub fn wait_event(p: Partition, c: Context, k: u32, a: Field) -> Decision
     ensures { λ r. ⌜ r ≡ waitEvent c k a p ⌝ }
 {
-    if calls::is_unknown(k, p.eventCount) {
-        return calls::answered(p, 3);
-    }
-    if p.mode != 3 {
-        return calls::answered(p, 5);
-    }
-    if !fields::is_timeout(a) {
-        return calls::answered(p, 3);
-    }
+    let unknown = decisions::is_unknown(k, p.eventCount);
+    let code = decisions::wait_code(unknown, p.mode != 3, fields::is_timeout(a));
     let e = event_at(p, k);
-    if e.up {
-        return calls::answered(p, 0);
-    }
-    wait_queued(p, c, a, Wait::Event(k as u8))
+    let success = Decision::Unchanged(0, Time::At(0));
+    awaited(p, c, code, a, e.up, success, Wait::Event(short_id(k)))
 }
 
 fn one_more(n: u16) -> u16
@@ -289,48 +288,58 @@ fn one_more(n: u16) -> u16
 }
 
 // The first of these waiters' wait ends; none: the value rises by one.
-fn signal_change(p: Partition, k: u32, q: Ids) -> Partition
+fn signal_change(p: Partition, k: u32, q: Ids) -> Change
     ensures { λ r. ⌜ r ≡ signalled (members q) k p ⌝ }
 {
     if q.len == 0 {
         let s = semaphore_at(p, k);
-        return set_value(p, k, one_more(s.value));
+        return with_value(k, s, one_more(s.value));
     }
-    partition::end_wait(p, q.items[0])
+    let id = q.items[0] as u32;
+    let x = partition::process_at(p, id);
+    Change::Stored(id, process::wait_ended(x, 0))
 }
 
+pub const SIGNAL_FIELDS: u8 = 1;
+
 // 16 SIGNAL
-pub fn signal_semaphore(p: Partition, k: u32) -> Called
+pub fn signal_semaphore(p: Partition, k: u32) -> Decision
     ensures { λ r. ⌜ r ≡ signal k p ⌝ }
 {
-    if calls::is_unknown(k, p.semaphoreCount) {
-        return calls::answered(p, 3);
+    if decisions::is_unknown(k, p.semaphoreCount) {
+        return Decision::Refused(3);
     }
     let s = semaphore_at(p, k);
     if s.value == s.max {
-        return calls::answered(p, 1);
+        return Decision::Refused(1);
     }
     let q = partition::queue_of(p, process::object_of(Wait::Semaphore(k as u8)));
-    calls::answered(signal_change(p, k, q), 0)
+    decisions::changed(signal_change(p, k, q))
 }
+
+pub const SET_EVENT_FIELDS: u8 = 1;
 
 // 18 SET_EVENT
-pub fn set_event(p: Partition, k: u32) -> Called
+pub fn set_event(p: Partition, k: u32) -> Decision
     ensures { λ r. ⌜ r ≡ setEvent k p ⌝ }
 {
-    if calls::is_unknown(k, p.eventCount) {
-        return calls::answered(p, 3);
+    if decisions::is_unknown(k, p.eventCount) {
+        return Decision::Refused(3);
     }
-    let q = partition::queue_of(p, process::object_of(Wait::Event(k as u8)));
-    calls::answered(partition::end_waits(set_up(p, k, true), q), 0)
+    let e = event_at(p, k);
+    let o = process::object_of(Wait::Event(k as u8));
+    Decision::Changed(with_up(k, e, true), Change::Ended(o), 0)
 }
 
+pub const RESET_EVENT_FIELDS: u8 = 1;
+
 // 19 RESET_EVENT
-pub fn reset_event(p: Partition, k: u32) -> Called
+pub fn reset_event(p: Partition, k: u32) -> Decision
     ensures { λ r. ⌜ r ≡ resetEvent k p ⌝ }
 {
-    if calls::is_unknown(k, p.eventCount) {
-        return calls::answered(p, 3);
+    if decisions::is_unknown(k, p.eventCount) {
+        return Decision::Refused(3);
     }
-    calls::answered(set_up(p, k, false), 0)
+    let e = event_at(p, k);
+    decisions::changed(with_up(k, e, false))
 }

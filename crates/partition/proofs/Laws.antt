@@ -1,18 +1,28 @@
--- Loops over the processes: from the first up, and for the soonest time from the last down. Assumes nothing.
-use Prim.Native.Nat.{ℕ, _+_, _-_, _≤_, _<_}
+-- Loops over the processes, from the first up, and for the soonest time from the last down; records at their places; two changes in order.
+-- Assumes nothing.
+use Prim.Native.Nat.{ℕ, zero, suc, _+_, _-_, _≤_, _<_, max}
 use mathlib.Core.Path.{_≡_, sym, ap, ap₂, _∙_}
-use mathlib.Core.Bool.{cond}
+use mathlib.Core.Bool.{true, false, _||_}
+use mathlib.Core.List.{List}
 use native.Mathlib.Omega.{arith}
-use lib.ListN.{getD}
+use lib.ListN.{getD, set}
 use lib.Dec.{eqb}
 use borrow.Author.Tests.{eq-eqb, ne-eqb, eqb-true, eqb-false}
-use Rattle.machine.specs.Limits.{processLimit}
-use Rattle.machine.specs.Process.{blankProcess}
-use Rattle.machine.specs.declared.Partition.{Partition}
+use Rattle.machine.specs.declared.Ids.{Ids}
 use Rattle.machine.specs.declared.Process.{Process}
-use Rattle.machine.specs.Partition.{process, eachFrom, sooner, soonestFrom}
-use Rattle.machine.proofs.Bounds.{either, inside, outside-zero, outside-high, named-in, named-out}
+use Rattle.machine.specs.declared.Semaphore.{Semaphore}
+use Rattle.machine.specs.declared.EventState.{EventState}
+use Rattle.machine.specs.declared.Partition.{Partition}
+use Rattle.machine.specs.declared.Change.{Change}
+use Rattle.machine.specs.Limits.{processLimit, semaphoreLimit, eventLimit}
+use Rattle.machine.specs.Ids.{follow}
+use Rattle.machine.specs.Process.{blankProcess, due, ticked, ready, onObject}
+use Rattle.machine.specs.Partition.{within, byId, process, withProcesses, withSemaphores, withEvents, stored, created, storedSemaphore, storedEvent, applied, eachFrom, sooner, soonestFrom}
+use Rattle.machine.proofs.Bounds.{either, inside, outside-zero, outside-high, named-in, named-out, stored-in, created-in, semaphore-in, event-in}
 use Rattle.machine.proofs.Folds.{soonest-more}
+use Rattle.machine.proofs.Quiet.{stored-same, ticked-same}
+use Rattle.machine.proofs.Tests.{or-left, or-right}
+use Rattle.partition.specs.Places.{slotOf}
 
 pub soonest-down : (n id s : ℕ) (p : Partition) → 0 < id → id ≤ n → s ≡ soonestFrom (n - id) (id + 1) p
     → sooner (process id p .times .wake) (sooner (process id p .times .deadline) s) ≡ soonestFrom (n - (id - 1)) (id - 1 + 1) p
@@ -34,22 +44,93 @@ each-start f n id p z =
     let b : id + 1 ≡ 1 = omega arith in
     ap₂ (λ (x y : ℕ). eachFrom f x y p) a b
 
--- ---------------------------------------------------------------- a process's record, read where it lies
-module _ (id k : ℕ) (p : Partition) (x : Process) (slot : k ≡ cond (eqb id 0) processLimit (id - 1)) where
-  known : k < processLimit → id ≡ 0 → ⊥
-  known h z = let e : k ≡ processLimit = rw (eq-eqb id 0 z) at slot in omega arith
+-- ---------------------------------------------------------------- the place of an id
+module _ (limit id k : ℕ) (e : k ≡ slotOf limit id) where
+  known : k < limit → id ≡ 0 → ⊥
+  known h z = let a : k ≡ limit = rw (eq-eqb id 0 z) at e in omega arith
 
   below : (id ≡ 0 → ⊥) → k ≡ id - 1
-  below some = rw (ne-eqb id 0 some) at slot
+  below some = rw (ne-eqb id 0 some) at e
 
+  pub slot-in : k < limit → within limit id ≡ true
+  slot-in h = let b : k ≡ id - 1 = below (known h) in inside limit id (known h) (omega arith)
+
+  slot-place : k < limit → id - 1 ≡ k
+  slot-place h = sym (below (known h))
+
+  slot-id : k < limit → id ≡ k + 1
+  slot-id h = let b : k ≡ id - 1 = below (known h) in let n = known h in omega arith
+
+  pub slot-out : limit ≤ k → within limit id ≡ false
+  slot-out h = either (eqb id 0)
+      (λ t. outside-zero limit id (eqb-true id 0 t))
+      (λ t. let b : k ≡ id - 1 = below (eqb-false id 0 t) in outside-high limit id (eqb-false id 0 t) (omega arith))
+
+  -- what is read there is what the id names
+  module _ {A : Type 0} (d : A) (l : List A) where
+    pub named-at : k < limit → getD l k d ≡ byId limit d id l
+    named-at h = sym (named-in limit id d l (slot-in h) ∙ ap (λ (j : ℕ). getD l j d) (slot-place h))
+
+    pub named-past : limit ≤ k → d ≡ byId limit d id l
+    named-past h = sym (named-out limit id d l (slot-out h))
+
+-- a process's record that is read, or stored, at its place
+module _ (id k : ℕ) (p : Partition) (x : Process) (e : k ≡ slotOf processLimit id) where
   pub read-in : k < processLimit → x ≡ getD (p .processes) k blankProcess → x ≡ process id p
-  read-in h e =
-      let b : k ≡ id - 1 = below (known h) in
-      (rw b at e) ∙ sym (named-in processLimit id blankProcess (p .processes) (inside processLimit id (known h) (omega arith)))
+  read-in h r = r ∙ named-at processLimit id k e blankProcess (p .processes) h
 
   pub read-out : processLimit ≤ k → x ≡ blankProcess → x ≡ process id p
-  read-out h e =
-      e
-      ∙ sym (either (eqb id 0)
-      (λ t. named-out processLimit id blankProcess (p .processes) (outside-zero processLimit id (eqb-true id 0 t)))
-      (λ t. let b : k ≡ id - 1 = below (eqb-false id 0 t) in named-out processLimit id blankProcess (p .processes) (outside-high processLimit id (eqb-false id 0 t) (omega arith))))
+  read-out h r = r ∙ named-past processLimit id k e blankProcess (p .processes) h
+
+  pub stored-at : (a w : Ids) → k < processLimit
+      → a ≡ follow (ready (getD (p .processes) k blankProcess)) (ready x) (k + 1) (p .arrival)
+      → w ≡ follow (onObject (getD (p .processes) k blankProcess)) (onObject x) (k + 1) (p .waiting)
+      → withProcesses (set (p .processes) k x) (p .processCount) a w p ≡ stored id x p
+  stored-at a w h ea ew =
+      rw (ea, ew)
+      (sym (stored-in id x p (slot-in processLimit id k e h)
+      ∙ ap₂ (λ (j n : ℕ). let old = getD (p .processes) j blankProcess in withProcesses (set (p .processes) j x) (p .processCount) (follow (ready old) (ready x) n (p .arrival)) (follow (onObject old) (onObject x) n (p .waiting)) p)
+      (slot-place processLimit id k e h) (slot-id processLimit id k e h)))
+
+  pub created-at : (n : ℕ) → k < processLimit → n ≡ max (p .processCount) (k + 1) → withProcesses (set (p .processes) k x) n (p .arrival) (p .waiting) p ≡ created id x p
+  created-at n h en =
+      rw en
+      (sym (created-in id x p (slot-in processLimit id k e h)
+      ∙ ap₂ (λ (j m : ℕ). withProcesses (set (p .processes) j x) (max (p .processCount) m) (p .arrival) (p .waiting) p) (slot-place processLimit id k e h) (slot-id processLimit id k e h)))
+
+pub semaphore-at : (id k : ℕ) (p : Partition) (s : Semaphore) (n : ℕ) → k ≡ slotOf semaphoreLimit id → k < semaphoreLimit → n ≡ max (p .semaphoreCount) (k + 1) → withSemaphores (set (p .semaphores) k s) n p ≡ storedSemaphore id s p
+semaphore-at id k p s n e h en =
+    rw en
+    (sym (semaphore-in id s p (slot-in semaphoreLimit id k e h)
+    ∙ ap₂ (λ (j m : ℕ). withSemaphores (set (p .semaphores) j s) (max (p .semaphoreCount) m) p) (slot-place semaphoreLimit id k e h) (slot-id semaphoreLimit id k e h)))
+
+pub event-at : (id k : ℕ) (p : Partition) (x : EventState) (n : ℕ) → k ≡ slotOf eventLimit id → k < eventLimit → n ≡ max (p .eventCount) (k + 1) → withEvents (set (p .events) k x) n p ≡ storedEvent id x p
+event-at id k p x n e h en =
+    rw en
+    (sym (event-in id x p (slot-in eventLimit id k e h)
+    ∙ ap₂ (λ (j m : ℕ). withEvents (set (p .events) j x) (max (p .eventCount) m) p) (slot-place eventLimit id k e h) (slot-id eventLimit id k e h)))
+
+-- ---------------------------------------------------------------- two changes
+-- what is left of two changes after n of them, where c is the next and b the second
+abbrev pub left : ℕ → Change → Change → Partition → Partition
+left zero c b q = applied b (applied c q)
+left (suc zero) c b q = applied c q
+left (suc (suc n)) c b q = q
+
+pub left-more : (n : ℕ) (c b : Change) (q r w : Partition) → n < 2 → r ≡ applied c q → left n c b q ≡ w → left (n + 1) b b r ≡ w
+left-more zero c b q r w h e s = rw e s
+left-more (suc zero) c b q r w h e s = e ∙ s
+left-more (suc (suc n)) c b q r w h e s = absurd (omega arith)
+
+pub left-done : (n : ℕ) (c b : Change) (q w : Partition) → 2 ≤ n → left n c b q ≡ w → q ≡ w
+left-done zero c b q w h s = absurd (omega arith)
+left-done (suc zero) c b q w h s = absurd (omega arith)
+left-done (suc (suc n)) c b q w h s = s
+
+-- a process of which nothing is due is as a tick leaves it
+pub untouched : (t id : ℕ) (x : Process) (p : Partition) → x ≡ process id p → (due t (x .times .wake) || due t (x .times .deadline)) ≡ false → stored id (ticked t (process id p)) p ≡ p
+untouched t id x p e h =
+    let a : (due t (process id p .times .wake) || due t (process id p .times .deadline)) ≡ false = rw e at h in
+    let w : due t (process id p .times .wake) ≡ false = or-left (due t (process id p .times .wake)) (due t (process id p .times .deadline)) a in
+    let d : due t (process id p .times .deadline) ≡ false = or-right (due t (process id p .times .wake)) (due t (process id p .times .deadline)) a in
+    rw (ticked-same t (process id p) w d) (stored-same id p)

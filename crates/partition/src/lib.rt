@@ -1,16 +1,20 @@
 // A partition's record: its processes, the lists that follow them, the running process and the tick.
 ghost use mathlib.Core.Path.{_≡_};
-ghost use Prim.Native.Nat.{_-_, _≤_};
-ghost use mathlib.Core.Bool.{cond};
+ghost use Prim.Native.Nat.{_+_, _≤_, _<_, max};
+ghost use mathlib.Core.Bool.{cond, _||_};
 ghost use lib.ListN.{length};
 ghost use lib.Dec.{eqb};
+ghost use Rattle.partition.specs.Places.{slotOf};
 ghost use Rattle.machine.specs.Limits.{processLimit};
 ghost use Rattle.machine.specs.Ids.{members, idsOf, appended, removed, follow};
 ghost use Rattle.machine.specs.Process as Pr;
-ghost use Rattle.machine.specs.Process.{ready, onObject, ticked, entered, waitEnded};
-ghost use Rattle.machine.specs.Partition.{process, stored, arrivedLast, preferred, running, waitsOn, waiters, ended, endedAll, tickPartition, enteredNormal, soonestOf, noted, sooner, nothingCreated};
+ghost use Rattle.machine.specs.Process.{due, ready, onObject, ticked, entered};
+ghost use Rattle.machine.specs.Partition.{process, stored, arrivedLast, preferred, running, waiters, ended, endedAll, tickPartition, enteredNormal, soonestOf, noted, sooner, nothingCreated, storedEvent, created, applied, partitionAfter};
+use machine::Change;
 use machine::Choice;
 use machine::Context;
+use machine::Decision;
+use machine::EventState;
 use machine::Ids;
 use machine::Module;
 use machine::Partition;
@@ -34,7 +38,7 @@ fn count(q: Ids) -> usize
     }
 }
 
-pub fn append(q: Ids, id: u8) -> Ids
+fn append(q: Ids, id: u8) -> Ids
     ensures { λ r. ⌜ r ≡ appended id q ⌝ }
 {
     let n = q.len as usize;
@@ -53,7 +57,7 @@ fn append_if(q: Ids, keep: bool, id: u8) -> Ids
     if keep { append(q, id) } else { q }
 }
 
-pub fn remove(q: Ids, id: u8) -> Ids
+fn remove(q: Ids, id: u8) -> Ids
     ensures { λ r. ⌜ r ≡ removed id q ⌝ }
 {
     let n = count(q);
@@ -81,12 +85,12 @@ fn followed(q: Ids, was: bool, now: bool, id: u8) -> Ids
     }
 }
 
-// Where a process's record lies in the array, or past the last. A loop that reads it there copies no partition.
-fn slot(id: u32) -> usize
-    ensures { λ r. ⌜ r ≡ cond (eqb id 0) processLimit (id - 1) ⌝ }
+// Where in an array of this length the record of an id lies, or past the last. A loop that reads it there copies no partition.
+pub fn slot(id: u32, limit: usize) -> usize
+    ensures { λ r. ⌜ r ≡ slotOf limit id ⌝ }
 {
     if id == 0 {
-        return Module::PROCESSES;
+        return limit;
     }
     (id - 1) as usize
 }
@@ -94,53 +98,11 @@ fn slot(id: u32) -> usize
 pub fn process_at(p: Partition, id: u32) -> Process
     ensures { λ r. ⌜ r ≡ process id p ⌝ }
 {
-    if id == 0 {
-        return Process::blank();
-    }
-    let i = (id - 1) as usize;
+    let i = slot(id, Module::PROCESSES);
     if Module::PROCESSES <= i {
         return Process::blank();
     }
     p.processes[i]
-}
-
-// Stores a process's record; both lists follow.
-pub fn store(p: Partition, id: u32, x: Process) -> Partition
-    ensures { λ r. ⌜ r ≡ stored id x p ⌝ }
-{
-    if id == 0 {
-        return p;
-    }
-    let i = (id - 1) as usize;
-    if Module::PROCESSES <= i {
-        return p;
-    }
-    let short = id as u8;
-    let old = p.processes[i];
-    let a = p.arrival;
-    let w = p.waiting;
-    let arrival = followed(a, process::is_ready(old), process::is_ready(x), short);
-    let waiting = followed(
-        w,
-        process::is_on_object(old),
-        process::is_on_object(x),
-        short,
-    );
-    let mut q = p;
-    q.processes[i] = x;
-    q.arrival = arrival;
-    q.waiting = waiting;
-    q
-}
-
-pub fn arrive_last(p: Partition, id: u8) -> Partition
-    ensures { λ r. ⌜ r ≡ arrivedLast id p ⌝ }
-{
-    let a = p.arrival;
-    let arrival = append(remove(a, id), id);
-    let mut q = p;
-    q.arrival = arrival;
-    q
 }
 
 // The process chosen so far, or a later one of greater priority.
@@ -168,7 +130,7 @@ pub fn running_process(p: Partition) -> u8
     let mut i: usize = 0;
     while i < n {
         let id = arrival.items[i];
-        let k = slot(wide(id));
+        let k = slot(wide(id), Module::PROCESSES);
         let mut x = Process::blank();
         if k < Module::PROCESSES {
             x = p.processes[k];
@@ -199,7 +161,7 @@ pub fn queue_of(p: Partition, object: u16) -> Ids
     let mut i: usize = 0;
     while i < n {
         let id = waiting.items[i];
-        let k = slot(wide(id));
+        let k = slot(wide(id), Module::PROCESSES);
         let mut x = Process::blank();
         if k < Module::PROCESSES {
             x = p.processes[k];
@@ -210,8 +172,126 @@ pub fn queue_of(p: Partition, object: u16) -> Ids
     found
 }
 
+// The sooner of a process's wake time and deadline, and a number.
+fn soonest_with(x: Process, n: u32) -> u32
+    ensures { λ r. ⌜ r ≡ sooner (x .times .wake) (sooner (x .times .deadline) n) ⌝ }
+{
+    let times = x.times;
+    let wake = times.wake;
+    let deadline = times.deadline;
+    process::sooner_of(wake, process::sooner_of(deadline, n))
+}
+
+fn soonest_of(p: Partition) -> u32
+    ensures { λ r. ⌜ r ≡ soonestOf p ⌝ }
+{
+    let n = wide(p.processCount);
+    let mut id = n;
+    let mut s = Module::LATEST;
+    while 0 < id {
+        let k = slot(id, Module::PROCESSES);
+        let mut x = Process::blank();
+        if k < Module::PROCESSES {
+            x = p.processes[k];
+        }
+        s = soonest_with(x, s);
+        id = id - 1;
+    }
+    s
+}
+
+// ---------------------------------------------------------------- one record stored
+// The arrival list and the waiting list after the process at place i, which had the record old, has the record x.
+fn arrival_with(q: Ids, old: Process, x: Process, i: usize) -> Ids
+    requires { ⌜ i < processLimit ⌝ }
+    ensures { λ r. ⌜ r ≡ follow (ready old) (ready x) (i + 1) q ⌝ }
+{
+    followed(
+        q,
+        process::is_ready(old),
+        process::is_ready(x),
+        (i + 1) as u8,
+    )
+}
+
+fn waiting_with(q: Ids, old: Process, x: Process, i: usize) -> Ids
+    requires { ⌜ i < processLimit ⌝ }
+    ensures { λ r. ⌜ r ≡ follow (onObject old) (onObject x) (i + 1) q ⌝ }
+{
+    followed(
+        q,
+        process::is_on_object(old),
+        process::is_on_object(x),
+        (i + 1) as u8,
+    )
+}
+
+// Stores a process's record; both lists follow.
+fn store(p: Partition, id: u32, x: Process) -> Partition
+    ensures { λ r. ⌜ r ≡ stored id x p ⌝ }
+{
+    let i = slot(id, Module::PROCESSES);
+    if Module::PROCESSES <= i {
+        return p;
+    }
+    let mut q = p;
+    let old = q.processes[i];
+    q.processes[i] = x;
+    q.arrival = arrival_with(q.arrival, old, x, i);
+    q.waiting = waiting_with(q.waiting, old, x, i);
+    q
+}
+
+// How many there are with the one at place i among them.
+fn counted(n: u8, i: usize) -> u8
+    requires { ⌜ i < processLimit ⌝ }
+    ensures { λ r. ⌜ r ≡ max n (i + 1) ⌝ }
+{
+    let k = (i + 1) as u8;
+    if n < k { k } else { n }
+}
+
+// Process id is created with this record.
+fn create(p: Partition, id: u32, x: Process) -> Partition
+    ensures { λ r. ⌜ r ≡ created id x p ⌝ }
+{
+    let i = slot(id, Module::PROCESSES);
+    if Module::PROCESSES <= i {
+        return p;
+    }
+    let mut q = p;
+    q.processes[i] = x;
+    q.processCount = counted(p.processCount, i);
+    q
+}
+
+fn store_event(p: Partition, k: u32, e: EventState) -> Partition
+    ensures { λ r. ⌜ r ≡ storedEvent k e p ⌝ }
+{
+    let i = slot(k, Module::EVENTS);
+    if Module::EVENTS <= i {
+        return p;
+    }
+    let mut q = p;
+    q.events[i] = e;
+    q.eventCount = counted(p.eventCount, i);
+    q
+}
+
+// Process id goes to the end of the arrival list.
+fn arrive_last(p: Partition, id: u8) -> Partition
+    ensures { λ r. ⌜ r ≡ arrivedLast id p ⌝ }
+{
+    let a = p.arrival;
+    let arrival = append(remove(a, id), id);
+    let mut q = p;
+    q.arrival = arrival;
+    q
+}
+
+// ---------------------------------------------------------------- many records stored
 // The wait of process id ends with wake code 0.
-pub fn end_wait(p: Partition, id: u8) -> Partition
+fn end_wait(p: Partition, id: u8) -> Partition
     ensures { λ r. ⌜ r ≡ ended id p ⌝ }
 {
     let n = wide(id);
@@ -219,7 +299,7 @@ pub fn end_wait(p: Partition, id: u8) -> Partition
     store(p, n, process::wait_ended(x, 0))
 }
 
-pub fn end_waits(p: Partition, ids: Ids) -> Partition
+fn end_waits(p: Partition, ids: Ids) -> Partition
     ensures { λ r. ⌜ r ≡ endedAll (members ids) p ⌝ }
 {
     let n = count(ids);
@@ -233,27 +313,42 @@ pub fn end_waits(p: Partition, ids: Ids) -> Partition
     q
 }
 
-// A tick at process id.
-fn tick_process(p: Partition, t: u32, id: u32) -> Partition
-    ensures { λ r. ⌜ r ≡ stored id (ticked t (process id p)) p ⌝ }
+// Whether a wake time or a deadline has come.
+fn is_touched(x: Process, t: u32) -> bool
+    ensures { λ r. ⌜ r ≡ (due t (x .times .wake) || due t (x .times .deadline)) ⌝ }
 {
-    let x = process_at(p, id);
-    store(p, id, process::tick(x, t))
+    let times = x.times;
+    let wake = times.wake;
+    let deadline = times.deadline;
+    if process::is_due(wake, t) {
+        true
+    } else {
+        process::is_due(deadline, t)
+    }
 }
 
-pub fn tick(p: Partition, t: u32) -> Partition
-    ensures { λ r. ⌜ r ≡ tickPartition t p ⌝ }
+// A tick of a partition; soonest is set too.
+pub fn ticked(p: Partition, t: u32) -> Partition
+    ensures { λ r. ⌜ r ≡ noted (tickPartition t p) ⌝ }
 {
     if p.mode != 3 {
-        return p;
+        return note(p);
     }
     let n = wide(p.processCount);
     let mut q = p;
     let mut id: u32 = 0;
     while id < n {
         id = id + 1;
-        q = tick_process(q, t, id);
+        let k = slot(id, Module::PROCESSES);
+        let mut x = Process::blank();
+        if k < Module::PROCESSES {
+            x = q.processes[k];
+        }
+        if is_touched(x, t) {
+            q = store(q, id, process::tick(x, t));
+        }
     }
+    q.soonest = soonest_of(q);
     q
 }
 
@@ -265,7 +360,7 @@ fn enter_process(p: Partition, c: Context, id: u32) -> Partition
     store(p, id, process::enter(x, c))
 }
 
-pub fn enter_normal(p: Partition, c: Context) -> Partition
+fn enter_normal(p: Partition, c: Context) -> Partition
     ensures { λ r. ⌜ r ≡ enteredNormal c p ⌝ }
 {
     let n = wide(p.processCount);
@@ -279,36 +374,17 @@ pub fn enter_normal(p: Partition, c: Context) -> Partition
     q
 }
 
-// The sooner of a process's wake time and deadline, and a number.
-fn soonest_with(x: Process, n: u32) -> u32
-    ensures { λ r. ⌜ r ≡ sooner (x .times .wake) (sooner (x .times .deadline) n) ⌝ }
+// A partition in this mode with nothing created.
+fn nothing_created(mode: u8) -> Partition
+    ensures { λ r. ⌜ r ≡ nothingCreated mode ⌝ }
 {
-    let times = x.times;
-    let wake = times.wake;
-    let deadline = times.deadline;
-    process::sooner_of(wake, process::sooner_of(deadline, n))
+    let p = Partition::empty();
+    Partition { mode, ..p }
 }
 
-pub fn soonest_of(p: Partition) -> u32
-    ensures { λ r. ⌜ r ≡ soonestOf p ⌝ }
-{
-    let n = wide(p.processCount);
-    let mut id = n;
-    let mut s = Module::LATEST;
-    while 0 < id {
-        let k = slot(id);
-        let mut x = Process::blank();
-        if k < Module::PROCESSES {
-            x = p.processes[k];
-        }
-        s = soonest_with(x, s);
-        id = id - 1;
-    }
-    s
-}
-
+// ---------------------------------------------------------------- decisions
 // The partition with its field soonest set.
-pub fn note(p: Partition) -> Partition
+fn note(p: Partition) -> Partition
     ensures { λ r. ⌜ r ≡ noted p ⌝ }
 {
     let mut q = p;
@@ -316,10 +392,57 @@ pub fn note(p: Partition) -> Partition
     q
 }
 
-// A partition in this mode with nothing created.
-pub fn nothing_created(mode: u8) -> Partition
-    ensures { λ r. ⌜ r ≡ nothingCreated mode ⌝ }
+// The partition after two changes; soonest is set too. The changes that come most often are made in place: a function would copy the
+// partition at its entry and at its end.
+fn change(p: Partition, a: Change, b: Change) -> Partition
+    ensures { λ r. ⌜ r ≡ noted (applied b (applied a p)) ⌝ }
 {
-    let p = Partition::empty();
-    Partition { mode, ..p }
+    let mut q = p;
+    let mut c = a;
+    let mut n: u8 = 0;
+    while n < 2 {
+        match c {
+            Change::Nothing => {}
+            Change::Stored(id, x) => {
+                let i = slot(id, Module::PROCESSES);
+                if i < Module::PROCESSES {
+                    let old = q.processes[i];
+                    q.processes[i] = x;
+                    q.arrival = arrival_with(q.arrival, old, x, i);
+                    q.waiting = waiting_with(q.waiting, old, x, i);
+                }
+            }
+            Change::Created(id, x) => q = create(q, id, x),
+            Change::Last(id) => q = arrive_last(q, id),
+            Change::StoredSemaphore(k, s) => {
+                let i = slot(k, Module::SEMAPHORES);
+                if i < Module::SEMAPHORES {
+                    q.semaphores[i] = s;
+                    q.semaphoreCount = counted(q.semaphoreCount, i);
+                }
+            }
+            Change::StoredEvent(k, e) => q = store_event(q, k, e),
+            Change::Ended(o) => q = end_waits(q, queue_of(q, o)),
+            Change::Entered(x) => q = enter_normal(q, x),
+        }
+        c = b;
+        n += 1;
+    }
+    q.soonest = soonest_of(q);
+    q
+}
+
+// The partition after a decision; soonest is set too.
+pub fn after(p: Partition, d: Decision) -> Partition
+    ensures { λ r. ⌜ r ≡ noted (partitionAfter d p) ⌝ }
+{
+    match d {
+        Decision::Refused(_) => note(p),
+        Decision::Unchanged(_, _) => note(p),
+        Decision::Ticked => note(p),
+        Decision::Blocked(id, x) => change(p, Change::Stored(wide(id), x), Change::Nothing),
+        Decision::Changed(a, b, _) => change(p, a, b),
+        Decision::Restarted(mode) => note(nothing_created(mode)),
+        Decision::Written(_, _) => note(p),
+    }
 }

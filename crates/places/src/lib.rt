@@ -1,51 +1,23 @@
-// What an event is refused for before its call: 13 and 9.
+// What an event is refused for before its partition is looked at: 13, and for a tick 10.
 ghost use mathlib.Core.Path.{_≡_};
-ghost use mathlib.Core.Bool.{not, _&&_, _||_};
-ghost use lib.Dec.{eqb, ltb};
-ghost use lib.ListN.{getD};
+ghost use mathlib.Core.Bool.{not, _&&_};
+ghost use lib.Dec.{ltb};
 ghost use Rattle.machine.specs.Fields.{isNumber};
-ghost use Rattle.machine.specs.Places.{usedFields, strayField, oneZero, malformed};
+ghost use Rattle.machine.specs.Places.{strayField, oneZero, malformed};
+ghost use Rattle.places.specs.Placed.{placedAt};
 use machine::Field;
+use machine::Module;
 use machine::Request;
 use machine::Table;
 
-// How many of the fields a, b, c, e the calls 0 to 22 use, the tick first.
-const USED: [u8; 23] = [
-    0,
-    1,
-    4,
-    1,
-    2,
-    1,
-    0,
-    1,
-    1,
-    1,
-    0,
-    1,
-    2,
-    1,
-    3,
-    2,
-    1,
-    1,
-    1,
-    1,
-    2,
-    2,
-    1,
-];
-
-const LAST_CALL: u32 = 22;
-
-fn used_fields(call: u32) -> u8
-    ensures { λ n. ⌜ n ≡ getD usedFields call 0 ⌝ }
-{
-    if call <= LAST_CALL {
-        return USED[call as usize];
-    }
-    0
+// An event before its partition is looked at: 13, 10 or 0, and the time after it.
+pub struct Placed {
+    pub code: u8,
+    pub time: u32,
 }
+
+// The greatest number of a call.
+const LAST_CALL: u32 = 22;
 
 // Whether a field that is not among the used ones is not 0.
 fn is_stray_at(used: u8, place: u8, f: Field) -> bool
@@ -91,7 +63,7 @@ fn has_one_zero(r: Request) -> bool
 }
 
 // 13.
-pub fn is_malformed(table: Table, r: Request) -> bool
+fn is_malformed(table: Table, r: Request) -> bool
     ensures { λ b. ⌜ b ≡ malformed table r ⌝ }
 {
     let partition = r.partition;
@@ -109,18 +81,25 @@ pub fn is_malformed(table: Table, r: Request) -> bool
     if has_one_zero(r) {
         return true;
     }
-    has_stray(used_fields(fields::number_of(call)), r)
+    has_stray(services::fields_of(fields::number_of(call)), r)
 }
 
-// 9: whether a partition in this mode whose running process is this one makes no call.
-pub fn has_no_caller(mode: u8, running: u8) -> bool
-    ensures { λ b. ⌜ b ≡ (eqb mode 0 || (eqb mode 3 && eqb running 0)) ⌝ }
+// 13, and for a tick 10; a tick that is taken lets t rise by one.
+pub fn place_event(table: Table, t: u32, r: Request) -> Placed
+    ensures { λ x. ⌜ x ≡ placedAt table t r ⌝ }
 {
-    if mode == 0 {
-        return true;
+    if is_malformed(table, r) {
+        return Placed { code: 13, time: t };
     }
-    if mode == 3 {
-        return running == 0;
+    let partition = r.partition;
+    if fields::number_of(partition) == 0 {
+        if Module::END <= t {
+            return Placed { code: 10, time: t };
+        }
+        return Placed {
+            code: 0,
+            time: t + 1,
+        };
     }
-    false
+    Placed { code: 0, time: t }
 }

@@ -135,7 +135,11 @@ pub fn is_ready(x: Process) -> bool
 {
     let w = x.wait;
     if x.started {
-        if x.suspended { false } else { waits_for_nothing(w) }
+        if x.suspended {
+            false
+        } else {
+            waits_for_nothing(w)
+        }
     } else {
         false
     }

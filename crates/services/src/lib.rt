@@ -1,16 +1,51 @@
-// Calls 1 to 20 by number.
+// Calls 1 to 22 by number: the fields that each uses, and what it decides.
 ghost use mathlib.Core.Path.{_≡_};
-ghost use Rattle.machine.specs.Services.{partitionCall};
-use machine::Called;
+ghost use Rattle.machine.specs.Services.{serviceOf, called};
 use machine::Context;
+use machine::Decision;
 use machine::Field;
 use machine::Partition;
+use machine::Port;
 use machine::Request;
 
-// What call n makes of its partition's record, and its answer; another number leaves the record as it is.
-pub fn call(p: Partition, c: Context, n: u32, r: Request) -> Called
-    ensures { λ x. ⌜ x ≡ partitionCall c n r p ⌝ }
+// How many of the fields a, b, c, e call n uses; the tick and another number use none.
+pub fn fields_of(n: u32) -> u8
+    ensures { λ k. ⌜ k ≡ serviceOf n .fields ⌝ }
 {
+    match n {
+        1 => calls::SET_MODE_FIELDS,
+        2 => calls::CREATE_PROCESS_FIELDS,
+        3 => calls::START_FIELDS,
+        4 => calls::DELAYED_START_FIELDS,
+        5 => calls::STOP_FIELDS,
+        6 => calls::STOP_SELF_FIELDS,
+        7 => calls::SUSPEND_FIELDS,
+        8 => calls::SUSPEND_SELF_FIELDS,
+        9 => calls::TIMED_WAIT_FIELDS,
+        10 => calls::PERIODIC_WAIT_FIELDS,
+        11 => calls::RESUME_FIELDS,
+        12 => calls::SET_PRIORITY_FIELDS,
+        13 => calls::GET_STATUS_FIELDS,
+        14 => objects::CREATE_SEMAPHORE_FIELDS,
+        15 => objects::WAIT_SEMAPHORE_FIELDS,
+        16 => objects::SIGNAL_FIELDS,
+        17 => objects::CREATE_EVENT_FIELDS,
+        18 => objects::SET_EVENT_FIELDS,
+        19 => objects::RESET_EVENT_FIELDS,
+        20 => objects::WAIT_EVENT_FIELDS,
+        21 => channels::WRITE_FIELDS,
+        22 => channels::READ_FIELDS,
+        _ => 0,
+    }
+}
+
+// 9, then what call n decides of its partition's record; another number decides nothing.
+pub fn call(p: Partition, c: Context, x: Port, n: u32, r: Request) -> Decision
+    ensures { λ d. ⌜ d ≡ called c x n r p ⌝ }
+{
+    if decisions::has_no_caller(p.mode, c.caller) {
+        return Decision::Refused(9);
+    }
     let a = r.a;
     let b = r.b;
     let id = fields::number_of(a);
@@ -35,6 +70,8 @@ pub fn call(p: Partition, c: Context, n: u32, r: Request) -> Called
         18 => objects::set_event(p, id),
         19 => objects::reset_event(p, id),
         20 => objects::wait_event(p, c, id, b),
-        _ => calls::answered(p, 13),
+        21 => channels::write_channel(c, x, b),
+        22 => channels::read_channel(c, x),
+        _ => Decision::Refused(13),
     }
 }

@@ -9,7 +9,8 @@ use Rattle.machine.specs.Limits.{lineLength}
 use Rattle.executive.specs.declared.Executive.{Executive}
 use Rattle.stream.specs.declared.Stream.{Stream}
 use Rattle.stream.specs.declared.Advance.{Advance}
-use Rattle.stream.specs.Stream.{begun, run, over, advanceOf, closed, finished, fedAll}
+use Rattle.event_lines.specs.Blocks.{over}
+use Rattle.stream.specs.Stream.{begun, run, advanceOf, closed, finished, fedAll}
 use Rattle.stream.proofs.Chunks.{finished-closed}
 use Rattle.stream.proofs.Pieces.{run-within, run-some, run-room, fed-rest, fed-on}
 use Rattle.stream.proofs.Whole.{stream-record}

@@ -1,24 +1,24 @@
 -- What a loop over the bytes of a chunk keeps, and the last line. Assumes nothing.
-use Prim.Native.Nat.{ℕ, suc, _+_, _-_, _≤_, _<_, min}
+use Prim.Native.Nat.{ℕ, _+_, _-_, _≤_, _<_, min}
 use native.Mathlib.Nat.{min-eq-left, min-eq-right}
 use mathlib.Core.Path.{_≡_, refl, sym, ap, _∙_}
-use mathlib.Core.Bool.{Bool, true, false, cond, _&&_}
-use mathlib.Core.List.{List, [], _∷_, _++_, append-assoc}
+use mathlib.Core.Bool.{Bool, true, false, cond}
+use mathlib.Core.List.{List, [], _∷_, _++_}
 use native.Mathlib.Omega.{arith}
 use native.Mathlib.Numerals.{add-one}
-use lib.ListN.{length, getD, take, drop, set, length-append, length-drop, length-set, take-append-drop, drop-of-length-le}
-use lib.Seq.{take-all, drop-cons, drop-drop, take-at, drop-at, length-take-le, set-out}
+use lib.ListN.{length, getD, take, drop, set, length-append, length-set, take-append-drop, drop-of-length-le}
+use lib.Seq.{take-all, drop-cons, length-take-le, set-out}
 use lib.Dec.{leb, ltb}
 use borrow.Author.Tests.{le-leb, leb-true, leb-false, ltb-false}
 use Rattle.machine.specs.declared.Numbers.{Numbers}
 use Rattle.machine.specs.Limits.{lineLength}
-use Rattle.machine.specs.Line.{numberList, allInRange}
 use Rattle.machine.proofs.Bounds.{either}
 use Rattle.machine.proofs.Tests.{by-test}
-use Rattle.machine.proofs.TextLine.{six-length}
+use Rattle.event_lines.specs.Blocks.{over, overAt}
+use Rattle.event_lines.proofs.Blocks.{over-length, over-more, line-short}
 use Rattle.stream.specs.declared.Printout.{Printout}
 use Rattle.stream.specs.declared.Stream.{Stream}
-use Rattle.stream.specs.Stream.{heldLimit, at, turn, textOf, said, oneMore, put, due, Fed, feed, Run, run, over, advanceOf, closed, finished}
+use Rattle.stream.specs.Stream.{heldLimit, at, turn, textOf, said, oneMore, put, due, Fed, feed, Run, run, advanceOf, closed, finished}
 use Rattle.stream.proofs.Turns.{Prints}
 
 -- ---------------------------------------------------------------- what is held
@@ -69,7 +69,7 @@ module _ (s : Stream) (b : ℕ) where
         ∙ ap (said p) (ap (turn false (p .place)) (sym (take-held (p .held) (p .place .count) n h m)) ∙ sym t)
 
 text-short : (b : Bool) (n : Numbers) → length (textOf b n) ≤ lineLength
-text-short b n = by-test (λ (l : List ℕ). length l ≤ lineLength) (b && allInRange (numberList n)) (λ t. omega (arith, six-length n)) (λ t. omega arith)
+text-short b n = by-test (λ (l : List ℕ). length l ≤ lineLength) b (λ t. line-short n) (λ t. omega arith)
 
 pub feed-short : (s : Stream) (b : ℕ) → length (feed s b .text) ≤ lineLength
 unfolding feed
@@ -85,6 +85,10 @@ feed-length s b h =
     by-test (λ (f : Fed). length (f .stream .held) ≡ heldLimit) (due (put s b .place .stage) (put s b .place .count) b) (λ t. e) (λ t. e)
 
 -- ---------------------------------------------------------------- the loop
+-- a run that has taken so many bytes more, for which a text is printed
+abbrev pub further : ℕ → List ℕ → Run → Run
+further n t r = record { stream = r .stream; taken = r .taken + n; text = t ++ r .text }
+
 module _ (s₀ : Stream) (chunk out₀ : List ℕ) where
   abbrev whole : Run
   whole = run s₀ (length out₀) chunk
@@ -132,62 +136,38 @@ module _ (s₀ : Stream) (chunk out₀ : List ℕ) (s : Stream) (i to : ℕ) (ou
   pub no-room : length out - to < lineLength → (record { stream = s; taken = i; printed = to } ≡ advanceOf (run s₀ (length out₀) chunk)) × (out ≡ over (run s₀ (length out₀) chunk .text) out₀)
   no-room h = ended (λ t. absurd (let q = leb-true lineLength (length out - to) t in omega arith))
 
-  -- one more byte
-  module _ (b : ℕ) (here : b ≡ getD chunk i 0) (more : i < length chunk) (fits : lineLength ≤ length out - to) where
-    abbrev f : Fed
-    f = feed s b
-
+  -- so many bytes more, for which a text is printed
+  module _ (more : ℕ) (t : List ℕ) (p : Stream) (inside : i + more ≤ length chunk) (fits : to + length t ≤ length out) (long : length (p .held) ≡ heldLimit)
+      (does : left s₀ chunk out₀ s i to out ≡ further more t (run p (length out - to - length t) (drop (i + more) chunk))) where
     abbrev rest : Run
-    rest = run (f .stream) (length out - to - length (f .text)) (drop (suc i) chunk)
+    rest = run p (length out - to - length t) (drop (i + more) chunk)
 
-    unfolded : left s₀ chunk out₀ s i to out ≡ record { stream = rest .stream; taken = suc (rest .taken); text = f .text ++ rest .text }
-    unfolding run
-    unfolded = rw (drop-cons chunk i 0 more, ← here, le-leb lineLength (length out - to) fits)
+    left-after : length (overAt to t out) - (to + length t) ≡ length out - to - length t
+    left-after = omega (arith, over-length out to t fits)
 
-    abbrev after : List ℕ
-    after = take to out ++ over (f .text) (drop to out)
-
-    front : length (take to out) ≡ to
-    front = length-take-le to out (k .room)
-
-    printed : length (take to out ++ f .text) ≡ to + length (f .text)
-    printed = length-append (take to out) (f .text) ∙ omega (arith, front)
-
-    after-is : after ≡ (take to out ++ f .text) ++ drop (length (f .text)) (drop to out)
-    after-is = sym (append-assoc (take to out) (f .text) (drop (length (f .text)) (drop to out)))
-
-    after-size : length after ≡ length out
-    after-size = ap length after-is ∙ length-append (take to out ++ f .text) _ ∙ omega (arith, printed, length-drop (length (f .text)) (drop to out), length-drop to out, feed-short s b, fits, k .room)
-
-    after-take : take (to + length (f .text)) after ≡ take to out ++ f .text
-    after-take = rw after-is (take-at (take to out ++ f .text) (drop (length (f .text)) (drop to out)) (to + length (f .text)) printed)
-
-    after-drop : drop (to + length (f .text)) after ≡ drop (length (f .text)) (drop to out)
-    after-drop = rw after-is (drop-at (take to out ++ f .text) (drop (length (f .text)) (drop to out)) (to + length (f .text)) printed)
-
-    left-after : length after - (to + length (f .text)) ≡ length out - to - length (f .text)
-    left-after = omega (arith, after-size)
-
-    joined : (take to out ++ f .text) ++ over (rest .text) (drop (length (f .text)) (drop to out)) ≡ take to out ++ over (f .text ++ rest .text) (drop to out)
-    joined =
-        append-assoc (take to out) (f .text) (over (rest .text) (drop (length (f .text)) (drop to out)))
-        ∙ ap (λ (l : List ℕ). take to out ++ l)
-        (rw (length-append (f .text) (rest .text), ← drop-drop (length (rest .text)) (length (f .text)) (drop to out)) (sym (append-assoc (f .text) (rest .text) (drop (length (rest .text)) (drop (length (f .text)) (drop to out))))))
-
-    next : Advancing s₀ chunk out₀ (f .stream) (suc i) (to + length (f .text)) after
-    next = record {
-      held = feed-length s b (k .held);
-      inside = omega arith;
-      room = omega (arith, after-size, feed-short s b, fits, k .room);
-      size = after-size ∙ k .size;
-      stream = rw (left-after) (rw unfolded at (k .stream));
-      taken = rw (left-after) (omega (arith, rw unfolded at (k .taken)));
-      count = rw (left-after) (omega (arith, rw unfolded at (k .count), length-append (f .text) (rest .text)));
-      text = rw (left-after, after-take, after-drop) (joined ∙ (rw unfolded at (k .text)));
+    pub goes-further : Advancing s₀ chunk out₀ p (i + more) (to + length t) (overAt to t out)
+    goes-further = record {
+      held = long;
+      inside = inside;
+      room = omega (arith, over-length out to t fits);
+      size = over-length out to t fits ∙ k .size;
+      stream = rw left-after (rw does at (k .stream));
+      taken = rw left-after (omega (arith, rw does at (k .taken)));
+      count = rw left-after (omega (arith, rw does at (k .count), length-append t (rest .text)));
+      text = rw left-after (over-more out to t fits (rest .text) ∙ (rw does at (k .text)));
     }
 
-    pub goes-on : (p : Stream) (t : List ℕ) → feed s b ≡ record { stream = p; text = t } → (to′ : ℕ) → to′ ≡ to + length t → (out′ : List ℕ) → out′ ≡ take to out ++ over t (drop to out) → Advancing s₀ chunk out₀ p (i + 1) to′ out′
-    goes-on p t e to′ c out′ o = rw (c, o, add-one) (rw e at next)
+  -- one more byte
+  module _ (b : ℕ) (here : b ≡ getD chunk i 0) (more : i < length chunk) (fits : lineLength ≤ length out - to) where
+    unfolded : left s₀ chunk out₀ s i to out ≡ further 1 (feed s b .text) (run (feed s b .stream) (length out - to - length (feed s b .text)) (drop (i + 1) chunk))
+    unfolding run
+    unfolded = rw (drop-cons chunk i 0 more, ← here, le-leb lineLength (length out - to) fits, add-one, add-one)
+
+    pub goes-on : (p : Stream) (t : List ℕ) → feed s b ≡ record { stream = p; text = t } → (to′ : ℕ) → to′ ≡ to + length t → (out′ : List ℕ) → out′ ≡ overAt to t out → Advancing s₀ chunk out₀ p (i + 1) to′ out′
+    goes-on p t e to′ c out′ o =
+        rw (c, o)
+        (rw e at
+        (goes-further 1 (feed s b .text) (feed s b .stream) (omega arith) (omega (arith, feed-short s b, k .room)) (feed-length s b (k .held)) unfolded))
 
 -- ---------------------------------------------------------------- the last line
 pub finish-done : (s : Stream) (out after : List ℕ) (r k : ℕ) (y : Printout) → length (s .held) ≡ heldLimit → r ≡ min (s .place .count) heldLimit → y ≡ turn true (s .place) (take r (s .held)) → lineLength ≤ length out

@@ -4,3 +4,4 @@ pub mod Whole
 pub mod Turns
 pub mod Chunks
 pub mod Pieces
+pub mod Blocks

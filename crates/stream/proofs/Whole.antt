@@ -19,7 +19,7 @@ use Rattle.machine.specs.Line.{lineEnd, lineFeed, lineText, readLine, lines, li
 use Rattle.machine.specs.Module.{emptyModule}
 use Rattle.machine.specs.Table.{refusedTable, tableOf, readTable}
 use Rattle.machine.specs.TwoRuns.{final, replies}
-use Rattle.machine.specs.Replay.{answerNumbers, lineAnswer, lineNext, texts, badTableLine, replayed, replayedRecord}
+use Rattle.machine.specs.Replay.{lineAnswer, lineNext, texts, badTableLine, replayed, replayedRecord}
 use Rattle.machine.specs.Valid.{ValidModule, Reached}
 use Rattle.machine.proofs.Bounds.{either}
 use Rattle.machine.proofs.Reached.{reached-valid}
@@ -27,8 +27,7 @@ use Rattle.machine.proofs.Replays.{line-valid, line-in-range}
 use Rattle.machine.proofs.Tables.{table-read}
 use Rattle.machine.proofs.TextLine.{read-six, six-length}
 use Rattle.machine.proofs.TextInput.{noFeed, unfed-bad, line-at}
-use Rattle.event_lines.specs.EventLines.{lineStepped}
-use Rattle.event_lines.proofs.Laws.{heard-next, refusal-in-range}
+use Rattle.event_lines.proofs.Laws.{refusal-in-range}
 use Rattle.stream.specs.declared.Stage.the-variants.{Table, Events, Ended}
 use Rattle.stream.specs.declared.Stream.{Stream}
 use Rattle.stream.specs.Stream.{heldLimit, begun, at, missing, eventTurn, turn, textOf, Fed, said, put, due, feed, fedAll, closed, streamed, streamEnd}
@@ -66,9 +65,8 @@ ended-gives (b ∷ bs) s m h e =
     (λ t. gives-more s b bs [] m (endedAs (put s b)) (rw t) (ended-gives bs (put s b) m h e))
 
 -- ---------------------------------------------------------------- events
-heard-text : (m : Module) (l : Line) → ValidModule m → textOf true (numbersOf (answerNumbers (lineStepped m l .answer))) ≡ lineText (lineAnswer m l)
-heard-text m (Six n) v = rw (line-in-range m (Six n) v)
-heard-text m Bad v = rw (line-in-range m Bad v)
+heard-text : (m : Module) (l : Line) → ValidModule m → textOf true (numbersOf (lineAnswer m l)) ≡ lineText (lineAnswer m l)
+heard-text m l v = rw (line-in-range m l v)
 
 -- an event line with what is held of it
 abbrev lineDone : Stream → Module → List ℕ → Fed
@@ -79,7 +77,7 @@ lineDone s m p = record {
 
 line-done : (s : Stream) (m : Module) (p : List ℕ) → s .place .executive .inner ≡ m → ValidModule m → Holds s p
     → said s (eventTurn (s .place) (take (s .place .count) (s .held))) ≡ lineDone s m p
-line-done s m p own v h = rw (h .bytes, read-held p, own, heard-next m (readLine p), heard-text m (readLine p) v)
+line-done s m p own v h = rw (h .bytes, read-held p, own, heard-text m (readLine p) v)
 
 event-feed : (s : Stream) (m : Module) (p : List ℕ) (b : ℕ) → s .place .stage ≡ Events → s .place .executive .inner ≡ m → ValidModule m → Holds s p
     → eqb b lineFeed ≡ true → feed s b ≡ lineDone (put s b) m (p ++ b ∷ [])

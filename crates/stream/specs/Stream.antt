@@ -2,19 +2,17 @@
 use Prim.Native.Nat.{ℕ, suc, _+_, _-_, _*_}
 use mathlib.Core.Bool.{Bool, true, false, cond, not, _&&_, _||_}
 use mathlib.Core.List.{List, [], _∷_, _++_}
-use lib.ListN.{length, take, drop, set, replicate}
+use lib.ListN.{length, take, set, replicate}
 use lib.Dec.{eqb, leb, ltb}
 use Rattle.machine.specs.declared.Module.{Module}
 use Rattle.machine.specs.declared.Numbers.{Numbers}
-use Rattle.machine.specs.declared.Line.{Line}
-use Rattle.machine.specs.declared.Line.the-variants.{Six, Bad}
 use Rattle.machine.specs.Limits.{windowLimit, channelLimit, lineLength}
-use Rattle.machine.specs.Line.{lineFeed, lineText, numberList, numbersOf, readLine, allInRange, lineRefusal}
+use Rattle.machine.specs.Line.{lineFeed, numberList, numbersOf, readLine, lineRefusal}
 use Rattle.machine.specs.Module.{emptyModule}
 use Rattle.machine.specs.Table.{readTable}
-use Rattle.machine.specs.Replay.{answerNumbers}
+use Rattle.machine.specs.Replay.{lineAnswer, lineNext, refusalNumbers}
 use Rattle.executive.specs.declared.Executive.{Executive}
-use Rattle.event_lines.specs.EventLines.{lineStepped, refusalNumbers}
+use Rattle.event_lines.specs.Blocks.{printedLine}
 use Rattle.stream.specs.declared.Stage.{Stage}
 use Rattle.stream.specs.declared.Stage.the-variants.{Table, Events, Ended}
 use Rattle.stream.specs.declared.Place.{Place}
@@ -62,14 +60,9 @@ tableTurn ended x text =
 -- one answer line per event, 11 too
 abbrev pub eventTurn : Place → List ℕ → Printout
 eventTurn x text =
-    let h = lineStepped (x .executive .inner) (readLine text) in
-    record { place = at Events (h .executive) 0; prints = true; numbers = numbersOf (answerNumbers (h .answer)) }
-
--- what a line reads as where it belongs to the events; no event elsewhere
-abbrev pub eventLine : Stage → List ℕ → Line
-eventLine Table text = Bad
-eventLine Events text = readLine text
-eventLine Ended text = Bad
+    let m = x .executive .inner in
+    let l = readLine text in
+    record { place = at Events (record { inner = lineNext m l }) 0; prints = true; numbers = numbersOf (lineAnswer m l) }
 
 -- bytes after the last LF are a line; nothing after it is none
 abbrev pub eventsTurn : Bool → Place → List ℕ → Printout
@@ -90,9 +83,9 @@ pub record Fed : Type 0 where
   pub stream : Stream
   pub text : List ℕ
 
--- what is printed; of every record that a run reaches the numbers are in range
+-- what is printed
 abbrev pub textOf : Bool → Numbers → List ℕ
-textOf prints n = cond (prints && allInRange (numberList n)) (lineText (numberList n)) []
+textOf prints n = cond prints (printedLine (numberList n)) []
 
 abbrev pub said : Stream → Printout → Fed
 said s y = record { stream = record { place = y .place; held = s .held }; text = textOf (y .prints) (y .numbers) }
@@ -108,6 +101,12 @@ abbrev pub isTable : Stage → Bool
 isTable Table = true
 isTable Events = false
 isTable Ended = false
+
+-- at the events, and nothing is held
+abbrev pub isBetween : Stage → ℕ → Bool
+isBetween Table n = false
+isBetween Events n = eqb n 0
+isBetween Ended n = false
 
 -- A bad table ends the replay.
 abbrev pub isEnded : Stage → Bool
@@ -137,10 +136,6 @@ run s room (b ∷ bs) =
     let f = feed s b in
     let r = run (f .stream) (room - length (f .text)) bs in
     cond (leb lineLength room) (record { stream = r .stream; taken = suc (r .taken); text = f .text ++ r .text }) (record { stream = s; taken = 0; text = [] })
-
--- the output after: what is printed, and what stood past it
-abbrev pub over : List ℕ → List ℕ → List ℕ
-over text out = text ++ drop (length text) out
 
 abbrev pub advanceOf : Run → Advance
 advanceOf r = record { stream = r .stream; taken = r .taken; printed = length (r .text) }

@@ -2,16 +2,16 @@
 ghost use mathlib.Core.Path.{_≡_};
 ghost use mathlib.Core.Bool.{cond, not, _&&_};
 ghost use mathlib.Core.List.{[], _++_};
-ghost use Prim.Native.Nat.{_+_, _≤_, min};
+ghost use Prim.Native.Nat.{_+_, _-_, _≤_, min};
 ghost use lib.ListN.{length, take, drop, set};
 ghost use lib.Dec.{ltb};
 ghost use Rattle.machine.specs.declared.Numbers.{Numbers};
 ghost use Rattle.machine.specs.Limits.{lineLength};
-ghost use Rattle.machine.specs.Line.{numbersOf, numberList};
-ghost use Rattle.stream.specs.Stream.{heldLimit, begun, nothingPrinted, refusal, missing, accepted, tableTurn, eventTurn, eventsTurn, turn, textOf, oneMore, eventLine, due, isEnded, run, over, advanceOf, finished};
+ghost use Rattle.machine.specs.Line.{numbersOf};
+ghost use Rattle.stream.specs.Stream.{heldLimit, begun, nothingPrinted, refusal, missing, accepted, tableTurn, eventTurn, eventsTurn, turn, textOf, oneMore, due, isBetween, isEnded, run, advanceOf, finished};
+ghost use Rattle.event_lines.specs.Blocks.{over};
 use executive::Executive;
 use executive::Opening;
-use machine::Line;
 use machine::Module;
 use machine::Numbers;
 
@@ -214,14 +214,27 @@ fn hold(held: &mut [u8; HELD], n: usize, b: u8) -> usize
     n
 }
 
-// What a line reads as where it belongs to the events; no event elsewhere.
-fn event_line(stage: Stage, text: &[u8]) -> Line
-    ensures { λ l. ⌜ l ≡ eventLine stage (now (text .entry)) ⌝ }
+// Whether the stream is at the events, and holds nothing.
+fn is_between(stage: Stage, n: usize) -> bool
+    ensures { λ b. ⌜ b ≡ isBetween stage n ⌝ }
 {
     match stage {
-        Stage::Table => Line::Bad,
-        Stage::Events => line::read(text),
-        Stage::Ended => Line::Bad,
+        Stage::Table => false,
+        Stage::Events => n == 0,
+        Stage::Ended => false,
+    }
+}
+
+// Holds the bytes of the line that ends at a position, as if they had come one by one.
+fn hold_line(held: &mut [u8; HELD], chunk: &[u8], end: usize)
+    requires { ⌜ (length (now held) ≡ heldLimit) × (lineLength ≤ end) × (end ≤ length (now chunk)) ⌝ }
+    ensures { λ _. ⌜ now (held .exit) ≡ over (take lineLength (drop (end - lineLength) (now (chunk .entry)))) (now (held .entry)) ⌝ }
+{
+    let from = end - Module::LINE;
+    let mut i: usize = 0;
+    while i < Module::LINE {
+        held[i] = chunk[from + i];
+        i += 1;
     }
 }
 
@@ -234,10 +247,7 @@ fn print(out: &mut [u8], to: usize, prints: bool, numbers: Numbers) -> usize
     if !prints {
         return 0;
     }
-    if line::write_at(out, to, numbers) == 0 {
-        return Module::LINE;
-    }
-    0
+    event_lines::print_line(out, to, numbers)
 }
 
 impl Stream {
@@ -258,7 +268,8 @@ impl Stream {
         }
     }
 
-    // Takes bytes of a chunk, as long as the output has room for a line, and prints at the front of the output.
+    // Takes bytes of a chunk, as long as the output has room for a line, and prints at the front of the output. Between two lines a
+    // block of good ones is taken out of the chunk as it lies; a byte at a time elsewhere.
     pub fn advance(self, chunk: &[u8], out: &mut [u8]) -> Advance
         ensures { λ r. ⌜ (r ≡ advanceOf (run self (length (now (out .entry))) (now (chunk .entry)))) × (now (out .exit) ≡ over (run self (length (now (out .entry))) (now (chunk .entry)) .text) (now (out .entry))) ⌝ }
     {
@@ -270,26 +281,27 @@ impl Stream {
             if out.len() - to < Module::LINE {
                 break;
             }
+            let stage = x.stage;
+            if is_between(stage, x.count) {
+                let r = event_lines::run_lines(x.executive, chunk, at, out, to);
+                if 0 < r.lines {
+                    let next = r.executive;
+                    x.executive = next;
+                    at += r.lines * Module::LINE;
+                    to += r.printed;
+                    hold_line(&mut held, chunk, at);
+                    continue;
+                }
+            }
             let b = chunk[at];
             at += 1;
             x.count = hold(&mut held, x.count, b);
-            let stage = x.stage;
             if is_due(stage, x.count, b) {
                 let n = held_count(x.count);
-                let l = event_line(stage, &held[..n]);
-                // An event is stepped here and not by turn_of: each function that it passed through would copy the executive.
-                if let Line::Six(q) = l {
-                    let h = x.executive.step(event_lines::event_of(q));
-                    to += print(out, to, true, event_lines::numbers_of(h.answer));
-                    let next = h.executive;
-                    x.executive = next;
-                    x.count = 0;
-                } else {
-                    let y = turn_of(false, x, &held[..n]);
-                    to += print(out, to, y.prints, y.numbers);
-                    let next = y.place;
-                    x = next;
-                }
+                let y = turn_of(false, x, &held[..n]);
+                to += print(out, to, y.prints, y.numbers);
+                let next = y.place;
+                x = next;
             }
         }
         Advance {

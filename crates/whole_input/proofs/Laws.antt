@@ -1,34 +1,42 @@
 -- What the loops over the lines of an input keep, and what a replay gives back. Assumes nothing.
-use Prim.Native.Nat.{ℕ, _+_, _*_, _/_, _≤_, _<_}
+use Prim.Native.Nat.{ℕ, zero, suc, _+_, _-_, _*_, _/_, _≤_, _<_}
 use mathlib.Core.Path.{_≡_, refl, sym, ap, _∙_}
 use mathlib.Core.Bool.{true}
 use mathlib.Core.List.{List, [], _∷_, _++_, append-assoc, append-nil}
 use native.Mathlib.Omega.{arith}
+use native.Mathlib.Nat.{add-zero}
 use lib.ListN.{length, take, drop, length-append, length-drop, length-map, take-append-drop}
-use lib.Seq.{drop-drop, take-at, drop-at, length-take-le}
+use lib.Seq.{drop-drop, length-take-le}
 use lib.Dec.{leb}
 use lib.IntN.{ℤ}
 use borrow.Author.Tests.{eq-eqb, ne-eqb, le-leb, lt-leb}
 use Rattle.machine.specs.declared.Module.{Module}
+use Rattle.machine.specs.declared.Event.{Event}
 use Rattle.machine.specs.declared.Line.{Line}
+use Rattle.machine.specs.declared.Line.the-variants.{Six, Bad}
+use Rattle.machine.specs.declared.Numbers.{Numbers}
+use Rattle.machine.specs.LeftRight.{after}
+use Rattle.machine.specs.Step.{step}
 use Rattle.machine.specs.Limits.{lineLength}
 use Rattle.machine.specs.Line.{lineText, readLine, lines, lineEnd, readAt, allInRange, canWrite, writeCode, written, writtenAt}
 use Rattle.machine.specs.Table.{readTable}
 use Rattle.machine.specs.TwoRuns.{replies}
-use Rattle.machine.specs.Replay.{lineAnswer, lineNext, texts, badTableLine, replayed, replayedInto}
+use Rattle.machine.specs.Replay.{eventOf, answerNumbers, lineAnswer, lineNext, texts, refusalNumbers, badTableLine, replayed, replayedInto}
 use Rattle.machine.specs.Valid.{ValidModule, Reached}
 use Rattle.machine.proofs.Bounds.{either}
 use Rattle.machine.proofs.Reached.{reached-valid}
 use Rattle.machine.proofs.Replays.{answer-length, texts-length, line-valid, line-in-range}
-use Rattle.machine.proofs.TextInput.{line-at, lines-end}
+use Rattle.machine.proofs.TextInput.{line-at, lines-end, six-end}
 use Rattle.machine.proofs.TextLine.{line-length}
 use Rattle.executive.specs.Executive.{opened}
 use Rattle.executive.specs.declared.Opening.{Opening}
+use Rattle.event_lines.specs.declared.Block.{Block}
+use Rattle.event_lines.specs.Blocks.{goodThen, goodEvents, lineCount, printedLine, printedAnswers, overAt, blockEvents, blockText, blockOf}
 use Rattle.event_lines.proofs.Laws.{refusal-in-range}
+use Rattle.event_lines.proofs.Blocks.{over-length, over-take, over-drop, over-more, six-inside, good-inside, block-fits, block-empty}
 use Rattle.table.proofs.Laws.{linesFrom, none-left, one-left}
 use Rattle.table.proofs.Ends.{table-end}
 use Rattle.whole_input.specs.declared.Printed.{Printed}
-use Rattle.event_lines.specs.EventLines.{refusalNumbers}
 use Rattle.whole_input.specs.WholeInput.{done, noRoom, refusalPrinted, printed}
 
 -- ---------------------------------------------------------------- the lines from a position on
@@ -66,12 +74,9 @@ module _ (input : List ℕ) (m : Module) (at : ℕ) where
   one-answer h = rw (one-left input at h)
 
 -- a line in range that has room, written into the middle of an output
-line-written : (out : List ℕ) (to : ℕ) (ns : List ℤ) → allInRange ns ≡ true → to + length (lineText ns) ≤ length out
-    → writtenAt to out ns ≡ (take to out ++ lineText ns) ++ drop (to + length (lineText ns)) out
+line-written : (out : List ℕ) (to : ℕ) (ns : List ℤ) → allInRange ns ≡ true → to + length (lineText ns) ≤ length out → writtenAt to out ns ≡ overAt to (lineText ns) out
 unfolding written
-line-written out to ns range fits =
-    rw (le-leb (length (lineText ns)) (length (drop to out)) (omega (arith, length-drop to out)), range, drop-drop)
-    (sym (append-assoc (take to out) (lineText ns) (drop (to + length (lineText ns)) out)))
+line-written out to ns range fits = rw (le-leb (length (lineText ns)) (length (drop to out)) (omega (arith, length-drop to out)), range)
 
 -- the lines before a position are answered, and so many bytes are printed
 pub record Replaying (input out₀ : List ℕ) (m : Module) (at to : ℕ) (out : List ℕ) : Type 0 where
@@ -161,32 +166,80 @@ module _ (input out₀ : List ℕ) (m : Module) (at to : ℕ) (out : List ℕ) (
     abbrev rest : List ℕ
     rest = answersFrom input (lineNext m l) (lineEnd input at)
 
-    abbrev after : List ℕ
-    after = (take to out ++ text) ++ drop (to + length text) out
-
     answer-fits : to + length text ≤ length out
     answer-fits = omega (arith, printed-length, ap length (one-answer input m at more), length-append text rest, k .room, k .size)
 
     pub line-fits : to + lineLength ≤ length out₀
     line-fits = omega (arith, answer-fits, answer-length m l, k .size)
 
-    printed-next : length (take to out ++ text) ≡ to + length text
-    printed-next = length-append (take to out) text ∙ omega (arith, length-take-le to out (k .inside))
-
-    after-size : length after ≡ length out
-    after-size = length-append (take to out ++ text) (drop (to + length text) out) ∙ omega (arith, printed-next, length-drop (to + length text) out, answer-fits)
-
-    next : Replaying input out₀ (lineNext m l) (lineEnd input at) (to + length text) after
+    next : Replaying input out₀ (lineNext m l) (lineEnd input at) (to + length text) (overAt to text out)
     next = record {
       valid = line-valid m l (k .valid);
       room = k .room;
-      size = after-size ∙ k .size;
-      inside = omega (arith, after-size, answer-fits);
-      front = rw (take-at (take to out ++ text) (drop (to + length text) out) (to + length text) printed-next) (append-assoc (take to out) text rest ∙ ap (λ (x : List ℕ). take to out ++ x) (sym (one-answer input m at more)) ∙ k .front);
-      back = drop-at (take to out ++ text) (drop (to + length text) out) (to + length text) printed-next ∙ sym (drop-drop (length text) to out) ∙ ap (drop (length text)) (k .back) ∙ drop-drop (length text) to out₀;
+      size = over-length out to text answer-fits ∙ k .size;
+      inside = omega (arith, over-length out to text answer-fits, answer-fits);
+      front = rw (over-take out to text answer-fits) (append-assoc (take to out) text rest ∙ ap (λ (x : List ℕ). take to out ++ x) (sym (one-answer input m at more)) ∙ k .front);
+      back = over-drop out to text answer-fits ∙ ap (drop (length text)) (k .back) ∙ drop-drop (length text) to out₀;
     }
 
     pub goes-on : (m′ : Module) → m′ ≡ lineNext m l → (out′ : List ℕ) → out′ ≡ writtenAt to out (lineAnswer m l) → (at′ : ℕ) → at′ ≡ lineEnd input at → Replaying input out₀ m′ at′ (to + lineLength) out′
     goes-on m′ e out′ f at′ g =
         let n : to + lineLength ≡ to + length text = omega (arith, answer-length m l) in
         rw (e, g, f, line-written out to (lineAnswer m l) (line-in-range m l (k .valid)) answer-fits, n) next
+
+  -- an event line
+  event-next : (q : Numbers) → readAt input at ≡ Six q → let x = step m (eventOf q) in
+      Replaying input out₀ (x .state) (at + lineLength) (to + length (printedLine (answerNumbers (x .answer)))) (overAt to (printedLine (answerNumbers (x .answer))) out)
+  event-next q e = rw (line-in-range m (Six q) (k .valid)) (rw (six-end input at q e) at (rw e at (next (omega (arith, six-inside input at q e)))))
+
+-- ---------------------------------------------------------------- a block of event lines
+abbrev BlockDone : List ℕ → List ℕ → Module → ℕ → ℕ → List ℕ → List Event → Type 0
+BlockDone input out₀ m at to out es = Replaying input out₀ (after m es) (at + length es * lineLength) (to + length (blockText m es)) (overAt to (blockText m es) out)
+
+module _ (input out₀ : List ℕ) where
+  block-none : (m : Module) (at to : ℕ) (out : List ℕ) → Replaying input out₀ m at to out → BlockDone input out₀ m at to out []
+  unfolding printedAnswers
+  block-none m at to out k = rw (take-append-drop to out, add-zero, add-zero) k
+
+  block-more : (m : Module) (at to : ℕ) (out : List ℕ) (q : Numbers) (es : List Event) → Replaying input out₀ m at to out
+      → (let x = step m (eventOf q) in let t = printedLine (answerNumbers (x .answer)) in (to + length t ≤ length out) × BlockDone input out₀ (x .state) (at + lineLength) (to + length t) (overAt to t out) es)
+      → BlockDone input out₀ m at to out (eventOf q ∷ es)
+  unfolding printedAnswers
+  block-more m at to out q es k b =
+      let x = step m (eventOf q) in
+      let t = printedLine (answerNumbers (x .answer)) in
+      let u = blockText (x .state) es in
+      let place : at + lineLength + length es * lineLength ≡ at + suc (length es) * lineLength = omega arith in
+      let size : to + length t + length u ≡ to + length (t ++ u) = omega (arith, length-append t u) in
+      rw (place, size, over-more out to t (b .0) u) at (b .1)
+
+  block-done : (n : ℕ) (m : Module) (at to : ℕ) (out : List ℕ) → Replaying input out₀ m at to out → BlockDone input out₀ m at to out (goodEvents n (drop at input))
+  unfolding goodEvents
+  block-done zero m at to out k = block-none m at to out k
+  block-done (suc n) m at to out k = one (readAt input at) refl (λ m to out. block-done n m (at + lineLength) to out)
+    where
+      one : (l : Line) → readAt input at ≡ l
+          → ((m : Module) (to : ℕ) (out : List ℕ) → Replaying input out₀ m (at + lineLength) to out → BlockDone input out₀ m (at + lineLength) to out (goodEvents n (drop (at + lineLength) input)))
+          → BlockDone input out₀ m at to out (goodThen l (goodEvents n (drop lineLength (drop at input))))
+      one Bad e f = block-none m at to out k
+      one (Six q) e f =
+          let x = step m (eventOf q) in
+          let t = printedLine (answerNumbers (x .answer)) in
+          let r = event-next input out₀ m at to out k q e in
+          rw (drop-drop lineLength at input)
+          (block-more m at to out q (goodEvents n (drop (at + lineLength) input)) k
+          (omega (arith, r .inside, r .size, k .size), f (x .state) (to + length t) (overAt to t out) r))
+
+module _ (input out₀ : List ℕ) (m : Module) (at to : ℕ) (out : List ℕ) (k : Replaying input out₀ m at to out) (r : Block) (did : r ≡ blockOf m (blockEvents input at out to)) where
+  pub block-inside : at ≤ length input → at + r .lines * lineLength ≤ length input
+  block-inside h = omega (arith, ap (λ (b : Block). b .lines) did, good-inside (lineCount (length out - to)) (drop at input), length-drop at input)
+
+  pub block-room : to + r .printed ≤ length out
+  block-room = omega (arith, ap (λ (b : Block). b .printed) did, block-fits m input out at to (k .inside))
+
+  pub block-goes-on : (out′ : List ℕ) → out′ ≡ overAt to (blockText m (blockEvents input at out to)) out → Replaying input out₀ (r .executive .inner) (at + r .lines * lineLength) (to + r .printed) out′
+  block-goes-on out′ e = rw (e, did) (block-done input out₀ (lineCount (length out - to)) m at to out k)
+
+  -- no line is taken
+  pub block-skipped : (out′ : List ℕ) → out′ ≡ overAt to (blockText m (blockEvents input at out to)) out → r .lines ≤ 0 → Replaying input out₀ m at to out′
+  block-skipped out′ e h = rw (e, block-empty m input out at to r did h) k

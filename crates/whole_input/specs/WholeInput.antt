@@ -6,8 +6,7 @@ use lib.ListN.{length}
 use lib.Dec.{leb}
 use Rattle.machine.specs.Limits.{lineLength}
 use Rattle.machine.specs.Line.{lineRefusal, canWrite}
-use Rattle.machine.specs.Replay.{replayed, replayCode}
-use Rattle.event_lines.specs.EventLines.{refusalNumbers}
+use Rattle.machine.specs.Replay.{refusalNumbers, replayed, replayCode}
 use Rattle.whole_input.specs.declared.Printed.{Printed}
 
 abbrev pub done : ℕ → Printed

@@ -2,8 +2,7 @@
 ghost use mathlib.Core.Path.{_≡_};
 ghost use lib.ListN.{length, drop};
 ghost use Rattle.machine.specs.Line.{lines, readAt, written, writtenAt};
-ghost use Rattle.machine.specs.Replay.{lineNext, lineAnswer, replayedInto};
-ghost use Rattle.event_lines.specs.EventLines.{refusalNumbers};
+ghost use Rattle.machine.specs.Replay.{lineNext, lineAnswer, refusalNumbers, replayedInto};
 ghost use Rattle.whole_input.specs.WholeInput.{done, noRoom, refusalPrinted, printed};
 use executive::Executive;
 use machine::Module;
@@ -88,6 +87,14 @@ pub fn replay(input: &[u8], out: &mut [u8]) -> Printed
     let mut executive = o.executive;
     let mut to: usize = 0;
     while at < input.len() {
+        let r = event_lines::run_lines(executive, input, at, out, to);
+        if 0 < r.lines {
+            let next = r.executive;
+            executive = next;
+            at += r.lines * Module::LINE;
+            to += r.printed;
+            continue;
+        }
         executive = answer_line(executive, input, at, out, to);
         at = line::next_line(input, at);
         to += Module::LINE;

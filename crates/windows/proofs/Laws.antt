@@ -1,20 +1,23 @@
 -- Loops over the windows of a table: what is left from window i on. Assumes nothing.
-use Prim.Native.Nat.{ℕ, _+_, _-_, _*_, _/_, _≤_, _<_}
+use Prim.Native.Nat.{ℕ, _+_, _-_, _*_, _/_, _%_, _≤_, _<_}
 use mathlib.Core.Bool.{Bool, true, false, not}
 use mathlib.Core.List.{[], _∷_}
-use mathlib.Core.Path.{_≡_, ap, sym, _∙_}
-use native.Mathlib.Nat.{div-mul-le-self, div-le-self}
+use mathlib.Core.Path.{_≡_, sym}
+use native.Mathlib.Nat.{div-mul-le-self, div-le-self, mod-lt}
 use native.Mathlib.Omega.{arith}
 use lib.IntN.{ℤ}
 use lib.ListN.{length, getD, drop}
-use borrow.Author.Tests.{not-true, not-false}
+use borrow.Author.Tests.{ne-eqb, not-true, not-false}
 use Rattle.machine.specs.Fields.{field, between, numberOf}
 use Rattle.machine.specs.Limits.{timeLimit}
-use Rattle.machine.specs.Windows.{noWindow, windows, covers, owner, flaggedFor, firstFlagged}
+use Rattle.machine.specs.Windows.{noWindow, windows, covers, owner, startsFrom, firstStart, aheadOf, nextStart, waitingOf}
 use Rattle.machine.specs.declared.Field.{Field}
 use Rattle.machine.specs.declared.Table.{Table}
+use Rattle.machine.specs.declared.Time.{Time}
+use Rattle.machine.specs.declared.Time.the-variants.{Never, At}
+use Rattle.machine.specs.declared.Window.{Window}
+use Rattle.machine.proofs.Starts.{found-from, found-before}
 use Rattle.machine.proofs.Taken.{taken-more, taken-done}
-use Rattle.windows.specs.Nearest.{nearer, nearest, nearestStart, waitingOf}
 
 module _ (T : Table) (i : ℕ) where
   next-window : i < length (windows T) → drop i (windows T) ≡ getD (T .windows) i noWindow ∷ drop (i + 1) (windows T)
@@ -37,35 +40,19 @@ module _ (T : Table) (i : ℕ) where
     unfolding owner
     owner-done h = rw (no-window h)
 
-  -- it is the first with flag 1 of partition k, or the later ones decide, or none is left
-  module _ (k : ℕ) where
-    pub flagged-here : i < length (windows T) → flaggedFor k (getD (T .windows) i noWindow) ≡ true → firstFlagged k (drop i (windows T)) ≡ getD (T .windows) i noWindow .start
-    unfolding firstFlagged
-    flagged-here h e = rw (next-window h, firstFlagged, e)
+  -- it is the first that passes a test, or the later ones decide, or none is left
+  module _ (f : Window → Bool) where
+    pub start-here : i < length (windows T) → f (getD (T .windows) i noWindow) ≡ true → firstStart f (drop i (windows T)) ≡ At (getD (T .windows) i noWindow .start)
+    unfolding firstStart
+    start-here h e = rw (next-window h, firstStart, e)
 
-    pub flagged-more : i < length (windows T) → flaggedFor k (getD (T .windows) i noWindow) ≡ false → firstFlagged k (drop i (windows T)) ≡ firstFlagged k (drop (i + 1) (windows T))
-    unfolding firstFlagged
-    flagged-more h e = rw (next-window h, firstFlagged, e)
+    pub start-more : i < length (windows T) → f (getD (T .windows) i noWindow) ≡ false → firstStart f (drop i (windows T)) ≡ firstStart f (drop (i + 1) (windows T))
+    unfolding firstStart
+    start-more h e = rw (next-window h, firstStart, e)
 
-    pub flagged-done : length (windows T) ≤ i → firstFlagged k (drop i (windows T)) ≡ 0
-    unfolding firstFlagged
-    flagged-done h = rw (no-window h)
-
-  module _ (k frame x : ℕ) where
-    nearest-here : i < length (windows T) → nearest k frame x (drop i (windows T)) ≡ nearer k frame x (getD (T .windows) i noWindow) (nearest k frame x (drop (i + 1) (windows T)))
-    unfolding nearest
-    nearest-here h = rw (next-window h)
-
-    pub nearest-done : length (windows T) ≤ i → frame ≡ nearest k frame x (drop i (windows T))
-    unfolding nearest
-    nearest-done h = rw (no-window h)
-
--- a loop from the last window down
-pub nearest-down : (T : Table) (i k frame x n : ℕ) → 0 < i → i ≤ length (windows T) → n ≡ nearest k frame x (drop i (windows T))
-    → nearer k frame x (getD (T .windows) (i - 1) noWindow) n ≡ nearest k frame x (drop (i - 1) (windows T))
-nearest-down T i k frame x n lo hi e =
-    let s : i - 1 + 1 ≡ i = omega arith in
-    rw e (sym (nearest-here T (i - 1) k frame x (omega arith) ∙ ap (λ (j : ℕ). nearer k frame x (getD (T .windows) (i - 1) noWindow) (nearest k frame x (drop j (windows T)))) s))
+    pub start-done : length (windows T) ≤ i → firstStart f (drop i (windows T)) ≡ Never
+    unfolding firstStart
+    start-done h = rw (no-window h)
 
 -- ---------------------------------------------------------------- the next release point
 pub frames : (t frame : ℕ) → t / frame ≤ t
@@ -74,6 +61,23 @@ frames t frame = div-le-self t frame
 -- the next frame begins less than a frame after t
 pub next-frame : (t frame : ℕ) → (t / frame + 1) * frame ≤ t + frame
 next-frame t frame = let h = div-mul-le-self t frame in omega arith
+
+-- ---------------------------------------------------------------- the next start
+pub place : (T : Table) (t : ℕ) → (T .frame ≡ 0 → ⊥) → t % T .frame < T .frame
+place T t some = mod-lt t (omega arith)
+
+module _ (T : Table) (t k : ℕ) (flagged : Bool) where
+  -- a start that is found in this frame lies ahead, and one that is found in the next frame only does not
+  pub start-ahead : (s : ℕ) → At s ≡ firstStart (startsFrom k flagged (t % T .frame + 1)) (windows T) → t % T .frame ≤ s
+  start-ahead s e = let h : t % T .frame + 1 ≤ s = rw (← e) at (found-from k flagged (t % T .frame + 1) (windows T)) in omega arith
+
+  pub start-behind : (s : ℕ) → Never ≡ firstStart (startsFrom k flagged (t % T .frame + 1)) (windows T) → At s ≡ firstStart (startsFrom k flagged 0) (windows T) → s ≤ t % T .frame
+  start-behind s n e = let h : s < t % T .frame + 1 = rw (← e) at (found-before k flagged (t % T .frame + 1) (windows T) (sym n)) in omega arith
+
+  pub next-found : (T .frame ≡ 0 → ⊥) → (r r′ : Time) → r ≡ firstStart (startsFrom k flagged (t % T .frame + 1)) (windows T) → r′ ≡ firstStart (startsFrom k flagged 0) (windows T)
+      → aheadOf (T .frame) (t % T .frame) r r′ ≡ nextStart T t k flagged
+  unfolding nextStart
+  next-found some r r′ e e′ = rw (e, e′, ne-eqb (T .frame) 0 some)
 
 -- ---------------------------------------------------------------- the waiting time
 -- the answers, by the two fields and their tests
@@ -86,6 +90,6 @@ module _ (T : Table) (t k : ℤ) (f g : Field) (b b′ : Bool) (at : f ≡ field
   unfolding waitingOf
   waiting-stranger e e′ = rw (← at, ← own, ← first, ← second, not-false b e, not-true b′ e′)
 
-  pub waiting-given : (x y n : ℕ) → x ≡ numberOf f → y ≡ numberOf g → n ≡ nearestStart T x y → not b ≡ false → not b′ ≡ false → record { code = 0; n = n } ≡ waitingOf T t k
+  pub waiting-given : (x y n : ℕ) → x ≡ numberOf f → y ≡ numberOf g → n ≡ nextStart T x y false → not b ≡ false → not b′ ≡ false → record { code = 0; n = n } ≡ waitingOf T t k
   unfolding waitingOf
   waiting-given x y n p q r e e′ = rw (r, p, q, ← at, ← own, ← first, ← second, not-false b e, not-false b′ e′)

@@ -1,13 +1,13 @@
 // The windows of a table: the current partition, the next release point and the waiting time.
 ghost use mathlib.Core.Path.{_≡_};
-ghost use Prim.Native.Nat.{_≤_, _<_};
+ghost use Prim.Native.Nat.{_≤_};
 ghost use lib.ListN.{length};
 ghost use Rattle.machine.specs.Limits.{windowLimit};
-ghost use Rattle.machine.specs.Windows.{windows, covers, owner, lookup, flaggedFor, firstFlagged, releasePoint};
-ghost use Rattle.windows.specs.Nearest.{ahead, nearer, nearestStart, waitingOf};
+ghost use Rattle.machine.specs.Windows.{windows, covers, owner, lookup, flaggedFor, releasePoint, startsFrom, firstStart, nextStart, waitingOf};
 use machine::Lookup;
 use machine::Module;
 use machine::Table;
+use machine::Time;
 use machine::Waiting;
 use machine::Window;
 
@@ -75,77 +75,67 @@ pub fn is_flagged(w: Window, k: u32) -> bool
     }
 }
 
-// The start of the partition's first window with flag 1.
-fn first_flagged(table: Table, k: u32) -> u16
-    ensures { λ r. ⌜ r ≡ firstFlagged k (windows table) ⌝ }
+// Whether the window is the partition's, with flag 1 where it is asked for, and does not start before a place of the frame.
+fn does_start_from(w: Window, k: u32, flagged: bool, from: u32) -> bool
+    ensures { λ r. ⌜ r ≡ startsFrom k flagged from w ⌝ }
+{
+    if w.partition as u32 != k {
+        return false;
+    }
+    if flagged && !w.flag {
+        return false;
+    }
+    from <= w.start as u32
+}
+
+// The start of the first such window.
+fn first_start(table: Table, k: u32, flagged: bool, from: u32) -> Time
+    ensures { λ r. ⌜ r ≡ firstStart (startsFrom k flagged from) (windows table) ⌝ }
 {
     let n = count(table);
     let mut i: usize = 0;
     while i < n {
         let w = table.windows[i];
-        if is_flagged(w, k) {
-            return w.start;
+        if does_start_from(w, k, flagged, from) {
+            return Time::At(w.start as u32);
         }
         i = i + 1;
     }
-    0
+    Time::Never
 }
 
 // The next release point of partition k at t.
 pub fn release_point(table: Table, t: u32, k: u32) -> u32
     ensures { λ r. ⌜ r ≡ releasePoint table t k ⌝ }
 {
-    let frame = table.frame as u64;
+    let frame = table.frame as u32;
     if frame == 0 {
         return 0;
     }
-    let first = first_flagged(table, k) as u64;
-    process::capped_time((t as u64 / frame + 1) * frame + first)
+    let first = match first_start(table, k, true, 0) {
+        Time::Never => 0,
+        Time::At(s) => s,
+    };
+    let past = t / frame;
+    process::capped_time((past as u64 + 1) * frame as u64 + first as u64)
 }
 
-// How far ahead of place x a window starts, in the next frame where it does not in this one.
-fn distance(w: Window, frame: u16, x: u32) -> u32
-    requires { ⌜ x < frame ⌝ }
-    ensures { λ r. ⌜ r ≡ ahead frame x w ⌝ }
+// The next start after t of a window of partition k, as a number of ticks.
+pub fn next_start(table: Table, t: u32, k: u32, flagged: bool) -> u32
+    ensures { λ r. ⌜ r ≡ nextStart table t k flagged ⌝ }
 {
-    let start = w.start as u32;
-    if x < start {
-        start - x
-    } else {
-        start + frame as u32 - x
-    }
-}
-
-// The lesser of a number and the distance of a window of partition k.
-fn or_nearer(n: u32, w: Window, k: u32, frame: u16, x: u32) -> u32
-    requires { ⌜ x < frame ⌝ }
-    ensures { λ r. ⌜ r ≡ nearer k frame x w n ⌝ }
-{
-    if w.partition as u32 == k {
-        let d = distance(w, frame, x);
-        if d <= n { d } else { n }
-    } else {
-        n
-    }
-}
-
-// The least distance of the windows of partition k from t on.
-fn nearest_start(table: Table, t: u32, k: u32) -> u32
-    ensures { λ r. ⌜ r ≡ nearestStart table t k ⌝ }
-{
-    let frame = table.frame;
+    let frame = table.frame as u32;
     if frame == 0 {
         return 0;
     }
-    let x = t % frame as u32;
-    let mut best = frame as u32;
-    let mut i = count(table);
-    while 0 < i {
-        i = i - 1;
-        let w = table.windows[i];
-        best = or_nearer(best, w, k, frame, x);
+    let x = t % frame;
+    match first_start(table, k, flagged, x + 1) {
+        Time::At(s) => s - x,
+        Time::Never => match first_start(table, k, flagged, 0) {
+            Time::At(s) => s + frame - x,
+            Time::Never => frame,
+        },
     }
-    best
 }
 
 // The waiting time: 13 where t or the partition is out of range.
@@ -162,6 +152,6 @@ pub fn waiting_time(table: Table, t: i64, k: i64) -> Waiting
     }
     Waiting {
         code: 0,
-        n: nearest_start(table, fields::number_of(at), fields::number_of(own)),
+        n: next_start(table, fields::number_of(at), fields::number_of(own), false),
     }
 }

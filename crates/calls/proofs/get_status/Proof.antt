@@ -1,24 +1,17 @@
-use Rattle.machine.specs.Checks.{checked}
+use Rattle.machine.specs.Decisions.{checked}
 use Rattle.machine.specs.Calls.{getStatus}
 use Rattle.calls.proofs.get_status.Statement.{statement}
 use Rattle.calls.proofs.get_status.Tie as tie
 
 returns : tie.Need-returns
 unfolding getStatus checked
-returns c = rw (c .answered .ensures, ← c .before .before .is-unknown .ensures, c .before .if1 .taken)
+returns c = rw (← c .before .is-unknown .ensures, c .if1 .taken)
 
 returns-2 : tie.Need-returns-2
 unfolding getStatus checked
-returns-2 c = rw (c .answered-with .ensures, ← c .before .before .before .before .before .is-unknown .ensures, c .before .before .before .before .if1 .left, c .before .status-of .ensures, c .before .before .before .process-at .ensures)
+returns-2 c = rw (← c .before .before .before .before .is-unknown .ensures, c .before .before .before .if1 .left, c .status-of .ensures, c .before .before .process-at .ensures)
 
 pub get-status-spec : {M : Type 1} → statement M
 get-status-spec =
     tie.close
-    (tie.spec
-    (λ _ _. tt)
-    (λ _ _. tt)
-    returns
-    (λ _ _. tt)
-    (λ _ _. tt)
-    (λ _ _. tt)
-    returns-2)
+    (tie.spec (λ _ _. tt) returns (λ _ _. tt) (λ _ _. tt) returns-2)

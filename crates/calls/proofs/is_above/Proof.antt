@@ -2,12 +2,6 @@ use borrow.Author.Needs.{needs}
 use Rattle.calls.proofs.is_above.Statement.{statement}
 use Rattle.calls.proofs.is_above.Tie as tie
 
-returns : tie.Need-returns
-returns c = search needs
-
-returns-2 : tie.Need-returns-2
-returns-2 c = search needs
-
 returns-3 : tie.Need-returns-3
 returns-3 c = rw (← c .before .before .before .before .before .is-minus-one .ensures, c .before .before .before .before .if1 .left, ← c .before .before .before .is-minus-one2 .ensures, c .before .before .if2 .left, c .before .number-of .ensures, c .number-of2 .ensures)
 
@@ -16,9 +10,9 @@ is-above-spec =
     tie.close
     (tie.spec
     (λ _ _. tt)
-    returns
+    (λ c. search needs)
     (λ _ _. tt)
-    returns-2
+    (λ c. search needs)
     (λ _ _. tt)
     (λ _ _. tt)
     returns-3)

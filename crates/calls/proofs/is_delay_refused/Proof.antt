@@ -5,10 +5,7 @@ use Rattle.calls.proofs.is_delay_refused.Tie as tie
 returns : tie.Need-returns
 returns c = rw (← c .before .before .before .is-duration .ensures, c .before .before .if1 .taken, ← c .before .number-of .ensures) (c .does-reach .ensures)
 
-returns-2 : tie.Need-returns-2
-returns-2 c = search needs
-
 pub is-delay-refused-spec : {M : Type 1} → statement M
 is-delay-refused-spec =
     tie.close
-    (tie.spec (λ _ _. tt) (λ _ _. tt) (λ _ _. tt) returns returns-2)
+    (tie.spec (λ _ _. tt) (λ _ _. tt) (λ _ _. tt) returns (λ c. search needs))

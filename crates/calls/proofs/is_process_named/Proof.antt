@@ -25,17 +25,11 @@ mul-x c = omega (arith, c .before .before .created .ensures .1)
 element-copy-out-x : tie.Need-element-copy-out-x Inv-loop μ-loop
 element-copy-out-x c = omega (arith, c .before .before .created .ensures .1)
 
-cast-is-number : tie.Need-cast-is-number Inv-loop μ-loop
-cast-is-number c = search needs
-
 returns : tie.Need-returns Inv-loop μ-loop
 returns c = let a = c .before .before .before .before .before .before .before .before .args in sym (name-found (a .t1 .processes) (a .t1 .processCount) (c .before .before .before .before .before .before .loop .i) blankProcess (λ (x : Process). x .given .name) (a .name) (omega (arith, c .before .before .before .before .before .before .before .created .ensures .0)) (sym (c .before .is-number .ensures) ∙ c .if1 .taken)) ∙ c .before .before .before .before .before .before .loop .inv .1
 
 add-i : tie.Need-add-i Inv-loop μ-loop
 add-i c = omega (arith, c .before .before .before .before .before .before .before .created .ensures .1)
-
-loop-less : tie.Need-loop-less Inv-loop μ-loop
-loop-less c = omega arith
 
 loop-again : tie.Need-loop-again Inv-loop μ-loop
 loop-again c = let a = c .before .before .before .before .before .before .before .before .args in (omega arith, sym (name-more (a .t1 .processes) (a .t1 .processCount) (c .before .before .before .before .before .before .loop .i) blankProcess (λ (x : Process). x .given .name) (a .name) (omega (arith, c .before .before .before .before .before .before .before .created .ensures .0)) (sym (c .before .is-number .ensures) ∙ c .if1 .left)) ∙ c .before .before .before .before .before .before .loop .inv .1)
@@ -53,10 +47,10 @@ is-process-named-spec =
     loop-holds
     mul-x
     element-copy-out-x
-    cast-is-number
+    (λ c. search needs)
     (λ _ _. tt)
     returns
     add-i
-    loop-less
+    (λ c. omega arith)
     loop-again
     returns-2)

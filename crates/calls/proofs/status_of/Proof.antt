@@ -3,9 +3,6 @@ use borrow.Author.Needs.{needs}
 use Rattle.calls.proofs.status_of.Statement.{statement}
 use Rattle.calls.proofs.status_of.Tie as tie
 
-returns : tie.Need-returns
-returns c = search needs
-
 returns-2 : tie.Need-returns-2
 returns-2 c = rw (c .before .before .if1 .left, ← c .before .caller-of .ensures, eq-eqb _ _ (c .if2 .taken))
 
@@ -17,4 +14,4 @@ returns-4 c = rw (c .before .before .before .before .if1 .left, ← c .before .b
 
 pub status-of-spec : {M : Type 1} → statement M
 status-of-spec =
-    tie.close (tie.spec returns (λ _ _. tt) returns-2 (λ _ _. tt) returns-3 returns-4)
+    tie.close (tie.spec (λ c. search needs) (λ _ _. tt) returns-2 (λ _ _. tt) returns-3 returns-4)

@@ -1,24 +1,22 @@
 use borrow.Author.Tests.{eq-eqb, ne-eqb}
-use Rattle.machine.specs.Checks.{checked}
+use Rattle.machine.specs.Decisions.{checked}
 use Rattle.machine.specs.Calls.{stopSelf}
 use Rattle.calls.proofs.stop_self.Statement.{statement}
 use Rattle.calls.proofs.stop_self.Tie as tie
 
 returns : tie.Need-returns
 unfolding stopSelf checked
-returns c = rw (c .answered .ensures, ne-eqb _ _ (c .before .if1 .taken))
+returns c = rw (ne-eqb _ _ (c .if1 .taken))
 
 returns-2 : tie.Need-returns-2
 unfolding stopSelf checked
-returns-2 c = rw (c .answered2 .ensures, c .before .store .ensures, c .before .before .stop .ensures, eq-eqb _ _ (c .before .before .before .before .before .if1 .left), c .before .before .before .process-at .ensures, c .before .before .before .before .caller-of .ensures)
+returns-2 c = rw (c .changed .ensures, c .before .stop .ensures, eq-eqb _ _ (c .before .before .before .before .if1 .left), c .before .before .process-at .ensures, c .before .before .before .caller-of .ensures)
 
 pub stop-self-spec : {M : Type 1} → statement M
 stop-self-spec =
     tie.close
     (tie.spec
-    (λ _ _. tt)
     returns
-    (λ _ _. tt)
     (λ _ _. tt)
     (λ _ _. tt)
     (λ _ _. tt)

@@ -1,24 +1,24 @@
 use borrow.Author.Tests.{eq-eqb, ne-eqb}
-use Rattle.machine.specs.Checks.{checked}
+use Rattle.machine.specs.Decisions.{checked}
 use Rattle.machine.specs.Calls.{suspendSelf}
 use Rattle.calls.proofs.suspend_self.Statement.{statement}
 use Rattle.calls.proofs.suspend_self.Tie as tie
 
 returns : tie.Need-returns
 unfolding suspendSelf checked
-returns c = rw (c .answered .ensures, ne-eqb _ _ (c .before .if1 .taken))
+returns c = rw (ne-eqb _ _ (c .if1 .taken))
 
 returns-2 : tie.Need-returns-2
 unfolding suspendSelf checked
-returns-2 c = rw (c .answered2 .ensures, eq-eqb _ _ (c .before .before .before .before .before .if1 .left), ← c .before .before .before .before .caller-of .ensures, ← c .before .before .before .process-at .ensures, ← c .before .before .is-periodic .ensures, c .before .if2 .taken)
+returns-2 c = rw (eq-eqb _ _ (c .before .before .before .before .if1 .left), ← c .before .before .before .caller-of .ensures, ← c .before .before .process-at .ensures, ← c .before .is-periodic .ensures, c .if2 .taken)
 
 returns-3 : tie.Need-returns-3
 unfolding suspendSelf checked
-returns-3 c = rw (c .answered3 .ensures, eq-eqb _ _ (c .before .before .before .before .before .before .before .if1 .left), ← c .before .before .before .before .before .before .caller-of .ensures, ← c .before .before .before .before .before .process-at .ensures, ← c .before .before .before .before .is-periodic .ensures, c .before .before .before .if2 .left, ← c .before .before .is-timeout .ensures, c .before .if3 .taken)
+returns-3 c = rw (eq-eqb _ _ (c .before .before .before .before .before .before .if1 .left), ← c .before .before .before .before .before .caller-of .ensures, ← c .before .before .before .before .process-at .ensures, ← c .before .before .before .is-periodic .ensures, c .before .before .if2 .left, ← c .before .is-timeout .ensures, c .if3 .taken)
 
 returns-4 : tie.Need-returns-4
 unfolding suspendSelf checked
-returns-4 c = rw (c .answered4 .ensures, eq-eqb _ _ (c .before .before .before .before .before .before .before .before .before .if1 .left), ← c .before .before .before .before .before .before .before .before .caller-of .ensures, ← c .before .before .before .before .before .before .before .process-at .ensures, ← c .before .before .before .before .before .before .is-periodic .ensures, c .before .before .before .before .before .if2 .left, ← c .before .before .before .before .is-timeout .ensures, c .before .before .before .if3 .left, ← c .before .before .is-number .ensures, c .before .if4 .taken)
+returns-4 c = rw (eq-eqb _ _ (c .before .before .before .before .before .before .before .before .if1 .left), ← c .before .before .before .before .before .before .before .caller-of .ensures, ← c .before .before .before .before .before .before .process-at .ensures, ← c .before .before .before .before .before .is-periodic .ensures, c .before .before .before .before .if2 .left, ← c .before .before .before .is-timeout .ensures, c .before .before .if3 .left, ← c .before .is-number .ensures, c .if4 .taken)
 
 returns-5 : tie.Need-returns-5
 unfolding suspendSelf checked
@@ -28,17 +28,13 @@ pub suspend-self-spec : {M : Type 1} → statement M
 suspend-self-spec =
     tie.close
     (tie.spec
-    (λ _ _. tt)
     returns
-    (λ _ _. tt)
     (λ _ _. tt)
     (λ _ _. tt)
     (λ _ _. tt)
     returns-2
     (λ _ _. tt)
-    (λ _ _. tt)
     returns-3
-    (λ _ _. tt)
     (λ _ _. tt)
     returns-4
     (λ _ _. tt)

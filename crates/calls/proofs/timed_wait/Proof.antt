@@ -1,20 +1,20 @@
 use borrow.Author.Tests.{eq-eqb, ne-eqb}
-use Rattle.machine.specs.Checks.{checked}
+use Rattle.machine.specs.Decisions.{checked}
 use Rattle.machine.specs.Calls.{timedWait}
 use Rattle.calls.proofs.timed_wait.Statement.{statement}
 use Rattle.calls.proofs.timed_wait.Tie as tie
 
 returns : tie.Need-returns
 unfolding timedWait checked
-returns c = rw (c .answered .ensures, ne-eqb _ _ (c .before .if1 .taken))
+returns c = rw (ne-eqb _ _ (c .if1 .taken))
 
 returns-2 : tie.Need-returns-2
 unfolding timedWait checked
-returns-2 c = rw (c .answered2 .ensures, eq-eqb _ _ (c .before .before .before .if1 .left), ← c .before .before .is-duration .ensures, c .before .if2 .taken)
+returns-2 c = rw (eq-eqb _ _ (c .before .before .if1 .left), ← c .before .is-duration .ensures, c .if2 .taken)
 
 returns-3 : tie.Need-returns-3
 unfolding timedWait checked
-returns-3 c = rw (c .answered3 .ensures, c .before .arrive-last .ensures, eq-eqb _ _ (c .before .before .before .before .before .before .if1 .left), ← c .before .before .before .before .before .is-duration .ensures, c .before .before .before .before .if2 .left, ← c .before .before .before .is-number .ensures, c .before .before .if3 .taken)
+returns-3 c = rw (c .changed .ensures, eq-eqb _ _ (c .before .before .before .before .before .if1 .left), ← c .before .before .before .before .is-duration .ensures, c .before .before .before .if2 .left, ← c .before .before .is-number .ensures, c .before .if3 .taken)
 
 returns-4 : tie.Need-returns-4
 unfolding timedWait checked
@@ -24,12 +24,9 @@ pub timed-wait-spec : {M : Type 1} → statement M
 timed-wait-spec =
     tie.close
     (tie.spec
-    (λ _ _. tt)
     returns
     (λ _ _. tt)
-    (λ _ _. tt)
     returns-2
-    (λ _ _. tt)
     (λ _ _. tt)
     (λ _ _. tt)
     returns-3

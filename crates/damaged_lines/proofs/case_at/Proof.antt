@@ -4,12 +4,6 @@ use borrow.Author.Needs.{needs}
 use Rattle.damaged_lines.proofs.case_at.Statement.{statement}
 use Rattle.damaged_lines.proofs.case_at.Tie as tie
 
-find-requires : tie.Need-find-requires
-find-requires c κs = search needs
-
-find-requires-2 : tie.Need-find-requires-2
-find-requires-2 c κs = search needs
-
 returns : tie.Need-returns
 returns c =
     let start = c .before .before .before .before in
@@ -23,27 +17,6 @@ returns-2 c =
     no-end (start .args .input .now) (start .args .at) _ _ (find .ensures) (c .before .before .find2 .ensures)
     (c .before .if1 .left) (c .if2 .taken)
 
-add-digits : tie.Need-add-digits
-add-digits c = search needs
-
-add-body : tie.Need-add-body
-add-body c = search needs
-
-sub-size-of : tie.Need-sub-size-of
-sub-size-of c = search needs
-
-part-size-of-start : tie.Need-part-size-of-start
-part-size-of-start c = search needs
-
-part-size-of-end : tie.Need-part-size-of-end
-part-size-of-end c = search needs
-
-size-of-requires : tie.Need-size-of-requires
-size-of-requires c κs = search needs
-
-sub-if3 : tie.Need-sub-if3
-sub-if3 c = search needs
-
 returns-3 : tie.Need-returns-3
 returns-3 c =
     let start = c .before .before .before .before .before .before .before .before in
@@ -52,9 +25,6 @@ returns-3 c =
     let if1 = c .before .before .before .before .if1 in
     cut-short (start .args .input .now) (start .args .at) _ _ (find .ensures) (find2 .ensures) (if1 .left)
     (c .before .before .before .if2 .left) _ (c .before .size-of .ensures) (c .if3 .taken)
-
-add-t9 : tie.Need-add-t9
-add-t9 c = search needs
 
 returns-4 : tie.Need-returns-4
 returns-4 c =
@@ -69,17 +39,17 @@ pub case-at-spec : {M : Type 1} → statement M
 case-at-spec =
     tie.close
     (tie.spec
-    find-requires
-    find-requires-2
+    (λ c κs. search needs)
+    (λ c κs. search needs)
     returns
     returns-2
-    add-digits
-    add-body
-    sub-size-of
-    part-size-of-start
-    part-size-of-end
-    size-of-requires
-    sub-if3
+    (λ c. search needs)
+    (λ c. search needs)
+    (λ c. search needs)
+    (λ c. search needs)
+    (λ c. search needs)
+    (λ c κs. search needs)
+    (λ c. search needs)
     returns-3
-    add-t9
+    (λ c. search needs)
     returns-4)

@@ -21,9 +21,6 @@ loop-holds c = refl
 shared-slice-read-with-digit : tie.Need-shared-slice-read-with-digit Inv-loop μ-loop
 shared-slice-read-with-digit c = omega arith
 
-with-digit-requires : tie.Need-with-digit-requires Inv-loop μ-loop
-with-digit-requires c κs = search needs
-
 add-i : tie.Need-add-i Inv-loop μ-loop
 add-i c = omega arith
 
@@ -47,7 +44,7 @@ size-of-spec =
     μ-loop
     loop-holds
     shared-slice-read-with-digit
-    with-digit-requires
+    (λ c κs. search needs)
     add-i
     loop-less
     loop-again

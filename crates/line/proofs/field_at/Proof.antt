@@ -9,21 +9,6 @@ use borrow.Author.Needs.{needs}
 use Rattle.line.proofs.field_at.Statement.{statement}
 use Rattle.line.proofs.field_at.Tie as tie
 
-add-end : tie.Need-add-end
-add-end c = search needs
-
-sub-field : tie.Need-sub-field
-sub-field c = search needs
-
-part-field-start : tie.Need-part-field-start
-part-field-start c = search needs
-
-part-field-end : tie.Need-part-field-end
-part-field-end c = search needs
-
-field-requires : tie.Need-field-requires
-field-requires c κs = search needs
-
 returns : tie.Need-returns
 returns c =
     let start = c .before .before .before in
@@ -32,4 +17,4 @@ returns c =
 
 pub field-at-spec : {M : Type 1} → statement M
 field-at-spec =
-    tie.close (tie.spec add-end sub-field part-field-start part-field-end field-requires returns)
+    tie.close (tie.spec (λ c. search needs) (λ c. search needs) (λ c. search needs) (λ c. search needs) (λ c κs. search needs) returns)

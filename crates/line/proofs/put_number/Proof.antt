@@ -1,4 +1,4 @@
--- `put_number` meets its contract. The loop: the columns left of j are left to store.
+-- `put_number` meets its contract. The loop: the columns left of j are left to store, and have spaces.
 use Prim.Native.Nat.{_≤_, _+_, _-_}
 use mathlib.Core.Path.{_≡_, refl, _∙_}
 use native.Mathlib.Omega.{arith}
@@ -6,70 +6,51 @@ use borrow.Author.Needs.{needs}
 use lib.ListN.{length, length-set}
 use lib.Seq.{sets}
 use Rattle.machine.specs.Line.{fieldWidth, columns}
-use Rattle.line.proofs.Writing.{number-stored, column-stored, columns-stored}
+use Rattle.line.specs.Blank.{Blank}
+use Rattle.line.proofs.Writing.{number-stored, digit-stored, mark-stored, columns-stored, blank-less}
 use Rattle.line.proofs.put_number.Statement.{statement}
 use Rattle.line.proofs.put_number.Tie as tie
 
 abbrev Inv-loop : tie.InvT-loop
-Inv-loop out₀ at magnitude sign j₀ rest₀ mark₀ out j rest mark =
+Inv-loop out₀ at magnitude sign j₀ rest₀ out j rest =
     (j ≤ fieldWidth - 1)
     × (at + fieldWidth ≤ length out)
     × (length out ≡ length out₀)
-    × (sets out at (columns j rest mark) ≡ sets out₀ at (columns j₀ rest₀ mark₀))
+    × Blank out at (at + j)
+    × (sets out at (columns j rest sign) ≡ sets out₀ at (columns j₀ rest₀ sign))
 
 abbrev μ-loop : tie.MeasureT-loop
-μ-loop out₀ at magnitude sign j₀ rest₀ mark₀ out j rest mark = j
-
-sub-j : tie.Need-sub-j Inv-loop μ-loop
-sub-j c = search needs
-
-last-digit-requires : tie.Need-last-digit-requires Inv-loop μ-loop
-last-digit-requires c κs = search needs
-
-add-out : tie.Need-add-out Inv-loop μ-loop
-add-out c = search needs
-
-slice-write-out : tie.Need-slice-write-out Inv-loop μ-loop
-slice-write-out c = search needs
+μ-loop out₀ at magnitude sign j₀ rest₀ out j rest = j
 
 loop-holds : tie.Need-loop-holds Inv-loop μ-loop
-loop-holds c = (omega arith, simp length-set (omega arith), refl, refl)
+loop-holds c = (omega arith, simp length-set (omega arith), refl, blank-less (c .before .before .args .out .now) (c .before .before .args .at) fieldWidth _ (c .before .before .pre .1), refl)
 
-sub-j-2 : tie.Need-sub-j-2 Inv-loop μ-loop
-sub-j-2 c = search needs
+same-length : tie.Need-same-length Inv-loop μ-loop
+same-length c = c .before .before .loop .inv .2 ∙ simp length-set
 
-column-of-requires : tie.Need-column-of-requires Inv-loop μ-loop
-column-of-requires c κs = search needs
-
-add-out-2 : tie.Need-add-out-2 Inv-loop μ-loop
-add-out-2 c = search needs
+returns : tie.Need-returns Inv-loop μ-loop
+returns c = columns-stored _ _ _ _ _ _ (omega arith) (c .before .before .loop .inv .4 ∙ number-stored _ _ _ _ _ (c .before .before .before .last-digit .ensures))
 
 slice-write-out-2 : tie.Need-slice-write-out-2 Inv-loop μ-loop
 slice-write-out-2 c = omega arith
 
-mark-after-requires : tie.Need-mark-after-requires Inv-loop μ-loop
-mark-after-requires c κs = search needs
-
-loop-less : tie.Need-loop-less Inv-loop μ-loop
-loop-less c = search needs
-
 loop-again : tie.Need-loop-again Inv-loop μ-loop
-loop-again c =
-    let loop = c .before .before .before .loop in (
-      omega arith,
-      simp length-set (omega arith),
-      length-set (loop .out) _ _ ∙ loop .inv .2,
-      column-stored _ _ _ _ _ _ _ _ (c .before .before .loop-test .taken) (c .before .column-of .ensures)
-          (c .mark-after .ensures) (loop .inv .3),
-    )
+loop-again c = let loop = c .before .before .before .loop in (omega arith, simp length-set (omega arith), length-set (loop .out) _ _ ∙ loop .inv .2, blank-less (loop .out) _ _ _ (loop .inv .3), digit-stored (loop .out) _ _ _ _ _ (omega arith) (loop .inv .4) _ (c .before .before .loop-test .taken) (c .last-digit2 .ensures))
 
-same-length : tie.Need-same-length Inv-loop μ-loop
-same-length c = c .before .loop .inv .2 ∙ simp length-set
+same-length-2 : tie.Need-same-length-2 Inv-loop μ-loop
+same-length-2 c = c .before .before .loop .inv .2 ∙ simp length-set
 
-returns : tie.Need-returns Inv-loop μ-loop
-returns c =
-    columns-stored _ _ _ _ _ _ (c .loop-test .left)
-    (c .before .loop .inv .3 ∙ number-stored _ _ _ _ _ (c .before .before .last-digit .ensures))
+returns-2 : tie.Need-returns-2 Inv-loop μ-loop
+returns-2 c = columns-stored _ _ _ _ _ _ (omega arith) (c .before .before .loop .inv .4 ∙ number-stored _ _ _ _ _ (c .before .before .before .last-digit .ensures))
+
+slice-write-out-3 : tie.Need-slice-write-out-3 Inv-loop μ-loop
+slice-write-out-3 c = omega arith
+
+same-length-3 : tie.Need-same-length-3 Inv-loop μ-loop
+same-length-3 c = let loop = c .before .before .loop in length-set (loop .out) _ _ ∙ loop .inv .2 ∙ simp length-set
+
+returns-3 : tie.Need-returns-3 Inv-loop μ-loop
+returns-3 c = let loop = c .before .before .loop in mark-stored (loop .out) _ (loop .j) _ _ _ (omega arith) (loop .inv .4 ∙ number-stored _ _ _ _ _ (c .before .before .before .last-digit .ensures)) (c .before .loop-test .left) (loop .inv .3)
 
 pub put-number-spec : {M : Type 1} → statement M
 put-number-spec =
@@ -77,17 +58,23 @@ put-number-spec =
     (tie.spec
     Inv-loop
     μ-loop
-    sub-j
-    last-digit-requires
-    add-out
-    slice-write-out
+    (λ c. search needs)
+    (λ c κs. search needs)
+    (λ c. search needs)
+    (λ c. search needs)
     loop-holds
-    sub-j-2
-    column-of-requires
-    add-out-2
-    slice-write-out-2
-    mark-after-requires
-    loop-less
-    loop-again
     same-length
-    returns)
+    returns
+    (λ c. search needs)
+    (λ c κs. search needs)
+    (λ c. search needs)
+    slice-write-out-2
+    (λ c. search needs)
+    loop-again
+    same-length-2
+    returns-2
+    (λ c. search needs)
+    (λ c. search needs)
+    slice-write-out-3
+    same-length-3
+    returns-3)

@@ -25,18 +25,6 @@ returns c = read-other (c .before .before .args .s .now) (λ e. omega arith)
 loop-holds : tie.Need-loop-holds Inv-loop μ-loop
 loop-holds c = (omega arith, refl, ahead-nil _)
 
-mul-field-at : tie.Need-mul-field-at Inv-loop μ-loop
-mul-field-at c = search needs
-
-field-at-requires : tie.Need-field-at-requires Inv-loop μ-loop
-field-at-requires c κs = search needs
-
-enum-known-x : tie.Need-enum-known-x Inv-loop μ-loop
-enum-known-x c = search needs
-
-enum-told : tie.Need-enum-told Inv-loop μ-loop
-enum-told c = search needs
-
 returns-2 : tie.Need-returns-2 Inv-loop μ-loop
 returns-2 c =
     let start = c .before .before .before .before .before .before .before in
@@ -44,18 +32,6 @@ returns-2 c =
     let loop-test = c .before .before .before .loop-test in
     number-none (start .args .s .now) (loop .ns) (loop .i) (loop .inv .1) (loop .inv .2) (loop-test .taken) _
     (c .before .before .field-at .ensures) (c .enum-told .given .1)
-
-mul-ns : tie.Need-mul-ns Inv-loop μ-loop
-mul-ns c = search needs
-
-array-set-from-ns : tie.Need-array-set-from-ns Inv-loop μ-loop
-array-set-from-ns c = search needs
-
-add-i : tie.Need-add-i Inv-loop μ-loop
-add-i c = search needs
-
-loop-less : tie.Need-loop-less Inv-loop μ-loop
-loop-less c = search needs
 
 loop-again : tie.Need-loop-again Inv-loop μ-loop
 loop-again c =
@@ -69,36 +45,12 @@ loop-again c =
           (field-at .ensures) _ (c .before .x .given .1),
     )
 
-sub-if2 : tie.Need-sub-if2 Inv-loop μ-loop
-sub-if2 c = search needs
-
-shared-slice-read-if2 : tie.Need-shared-slice-read-if2 Inv-loop μ-loop
-shared-slice-read-if2 c = search needs
-
 returns-3 : tie.Need-returns-3 Inv-loop μ-loop
 returns-3 c =
     let start = c .before .before .before .before .before .before in
     let loop = c .before .before .before .loop in
     feed-none (start .args .s .now) (loop .ns) (loop .i) (loop .inv .1) (loop .inv .2) (c .before .before .loop-test .left)
     (loop .inv .0) (omega arith) (c .if2 .taken)
-
-array-copy-out-t16 : tie.Need-array-copy-out-t16 Inv-loop μ-loop
-array-copy-out-t16 c = search needs
-
-array-copy-out-t19 : tie.Need-array-copy-out-t19 Inv-loop μ-loop
-array-copy-out-t19 c = search needs
-
-array-copy-out-t22 : tie.Need-array-copy-out-t22 Inv-loop μ-loop
-array-copy-out-t22 c = search needs
-
-array-copy-out-t25 : tie.Need-array-copy-out-t25 Inv-loop μ-loop
-array-copy-out-t25 c = search needs
-
-array-copy-out-t28 : tie.Need-array-copy-out-t28 Inv-loop μ-loop
-array-copy-out-t28 c = search needs
-
-array-copy-out-t31 : tie.Need-array-copy-out-t31 Inv-loop μ-loop
-array-copy-out-t31 c = search needs
 
 returns-4 : tie.Need-returns-4 Inv-loop μ-loop
 returns-4 c =
@@ -117,23 +69,23 @@ read-spec =
     μ-loop
     returns
     loop-holds
-    mul-field-at
-    field-at-requires
-    enum-known-x
-    enum-told
+    (λ c. search needs)
+    (λ c κs. search needs)
+    (λ c. search needs)
+    (λ c. search needs)
     returns-2
-    mul-ns
-    array-set-from-ns
-    add-i
-    loop-less
+    (λ c. search needs)
+    (λ c. search needs)
+    (λ c. search needs)
+    (λ c. search needs)
     loop-again
-    sub-if2
-    shared-slice-read-if2
+    (λ c. search needs)
+    (λ c. search needs)
     returns-3
-    array-copy-out-t16
-    array-copy-out-t19
-    array-copy-out-t22
-    array-copy-out-t25
-    array-copy-out-t28
-    array-copy-out-t31
+    (λ c. search needs)
+    (λ c. search needs)
+    (λ c. search needs)
+    (λ c. search needs)
+    (λ c. search needs)
+    (λ c. search needs)
     returns-4)

@@ -10,9 +10,6 @@ use Rattle.line.proofs.write.Tie as tie
 returns : tie.Need-returns
 returns c = short-refused (c .before .before .args .out .now) (c .before .before .args .n) (omega arith)
 
-all-in-range-requires : tie.Need-all-in-range-requires
-all-in-range-requires c κs = search needs
-
 returns-2 : tie.Need-returns-2
 returns-2 c =
     let start = c .before .before .before .before in
@@ -20,9 +17,6 @@ returns-2 c =
 
 put-line-requires : tie.Need-put-line-requires
 put-line-requires c κs = (omega arith, sym (c .before .before .all-in-range .ensures) ∙ not-false _ (c .before .if2 .left))
-
-same-length : tie.Need-same-length
-same-length c = search needs
 
 returns-3 : tie.Need-returns-3
 returns-3 c =
@@ -35,4 +29,4 @@ returns-3 c =
 pub write-spec : {M : Type 1} → statement M
 write-spec =
     tie.close
-    (tie.spec returns all-in-range-requires returns-2 put-line-requires same-length returns-3)
+    (tie.spec returns (λ c κs. search needs) returns-2 put-line-requires (λ c. search needs) returns-3)

@@ -5,29 +5,17 @@ use Rattle.places.proofs.Laws.{or-on, or-next}
 use Rattle.places.proofs.has_stray.Statement.{statement}
 use Rattle.places.proofs.has_stray.Tie as tie
 
-is-stray-at-requires : tie.Need-is-stray-at-requires
-is-stray-at-requires c κs = search needs
-
 returns : tie.Need-returns
 unfolding strayField
 returns c = or-on _ _ (sym (c .before .is-stray-at .ensures) ∙ c .if1 .taken)
-
-is-stray-at-requires-2 : tie.Need-is-stray-at-requires-2
-is-stray-at-requires-2 c κs = search needs
 
 returns-2 : tie.Need-returns-2
 unfolding strayField
 returns-2 c = or-next _ _ _ (sym (c .before .before .before .is-stray-at .ensures) ∙ c .before .before .if1 .left) (or-on _ _ (sym (c .before .is-stray-at2 .ensures) ∙ c .if2 .taken))
 
-is-stray-at-requires-3 : tie.Need-is-stray-at-requires-3
-is-stray-at-requires-3 c κs = search needs
-
 returns-3 : tie.Need-returns-3
 unfolding strayField
 returns-3 c = or-next _ _ _ (sym (c .before .before .before .before .before .is-stray-at .ensures) ∙ c .before .before .before .before .if1 .left) (or-next _ _ _ (sym (c .before .before .before .is-stray-at2 .ensures) ∙ c .before .before .if2 .left) (or-on _ _ (sym (c .before .is-stray-at3 .ensures) ∙ c .if3 .taken)))
-
-is-stray-at-requires-4 : tie.Need-is-stray-at-requires-4
-is-stray-at-requires-4 c κs = search needs
 
 returns-4 : tie.Need-returns-4
 unfolding strayField
@@ -37,11 +25,11 @@ pub has-stray-spec : {M : Type 1} → statement M
 has-stray-spec =
     tie.close
     (tie.spec
-    is-stray-at-requires
+    (λ c κs. search needs)
     returns
-    is-stray-at-requires-2
+    (λ c κs. search needs)
     returns-2
-    is-stray-at-requires-3
+    (λ c κs. search needs)
     returns-3
-    is-stray-at-requires-4
+    (λ c κs. search needs)
     returns-4)

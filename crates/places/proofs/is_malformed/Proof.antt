@@ -6,55 +6,34 @@ use Rattle.places.proofs.Laws.{or-on, or-next}
 use Rattle.places.proofs.is_malformed.Statement.{statement}
 use Rattle.places.proofs.is_malformed.Tie as tie
 
-cast-size : tie.Need-cast-size
-cast-size c = search needs
-
 returns : tie.Need-returns
 returns c = or-on _ _ (eq-eqb _ _ (c .if1 .taken))
-
-is-between-requires : tie.Need-is-between-requires
-is-between-requires c κs = search needs
 
 returns-2 : tie.Need-returns-2
 returns-2 c = or-next _ _ _ (ne-eqb _ _ (c .before .before .if1 .left)) (or-on _ _ (ap not (sym (c .before .is-between .ensures)) ∙ c .if2 .taken))
 
-is-between-requires-2 : tie.Need-is-between-requires-2
-is-between-requires-2 c κs = search needs
-
 returns-3 : tie.Need-returns-3
 returns-3 c = or-next _ _ _ (ne-eqb _ _ (c .before .before .before .before .if1 .left)) (or-next _ _ _ (ap not (sym (c .before .before .before .is-between .ensures)) ∙ c .before .before .if2 .left) (or-on _ _ (ap not (sym (c .before .is-between2 .ensures)) ∙ c .if3 .taken)))
-
-has-one-zero-requires : tie.Need-has-one-zero-requires
-has-one-zero-requires c κs = search needs
 
 returns-4 : tie.Need-returns-4
 returns-4 c = or-next _ _ _ (ne-eqb _ _ (c .before .before .before .before .before .before .if1 .left)) (or-next _ _ _ (ap not (sym (c .before .before .before .before .before .is-between .ensures)) ∙ c .before .before .before .before .if2 .left) (or-next _ _ _ (ap not (sym (c .before .before .before .is-between2 .ensures)) ∙ c .before .before .if3 .left) (or-on _ _ (sym (c .before .has-one-zero .ensures) ∙ c .if4 .taken))))
 
-number-of-requires : tie.Need-number-of-requires
-number-of-requires c κs = search needs
-
-used-fields-requires : tie.Need-used-fields-requires
-used-fields-requires c κs = search needs
-
-has-stray-requires : tie.Need-has-stray-requires
-has-stray-requires c κs = search needs
-
 returns-5 : tie.Need-returns-5
-returns-5 c = or-next _ _ _ (ne-eqb _ _ (c .before .before .before .before .before .before .before .before .before .if1 .left)) (or-next _ _ _ (ap not (sym (c .before .before .before .before .before .before .before .before .is-between .ensures)) ∙ c .before .before .before .before .before .before .before .if2 .left) (or-next _ _ _ (ap not (sym (c .before .before .before .before .before .before .is-between2 .ensures)) ∙ c .before .before .before .before .before .if3 .left) (or-next _ _ _ (sym (c .before .before .before .before .has-one-zero .ensures) ∙ c .before .before .before .if4 .left) (rw (c .has-stray .ensures, c .before .used-fields .ensures, c .before .before .number-of .ensures)))))
+returns-5 c = or-next _ _ _ (ne-eqb _ _ (c .before .before .before .before .before .before .before .before .before .if1 .left)) (or-next _ _ _ (ap not (sym (c .before .before .before .before .before .before .before .before .is-between .ensures)) ∙ c .before .before .before .before .before .before .before .if2 .left) (or-next _ _ _ (ap not (sym (c .before .before .before .before .before .before .is-between2 .ensures)) ∙ c .before .before .before .before .before .if3 .left) (or-next _ _ _ (sym (c .before .before .before .before .has-one-zero .ensures) ∙ c .before .before .before .if4 .left) (rw (c .has-stray .ensures, c .before .fields-of .ensures, c .before .before .number-of .ensures)))))
 
 pub is-malformed-spec : {M : Type 1} → statement M
 is-malformed-spec =
     tie.close
     (tie.spec
-    cast-size
+    (λ c. search needs)
     returns
-    is-between-requires
+    (λ c κs. search needs)
     returns-2
-    is-between-requires-2
+    (λ c κs. search needs)
     returns-3
-    has-one-zero-requires
+    (λ c κs. search needs)
     returns-4
-    number-of-requires
-    used-fields-requires
-    has-stray-requires
+    (λ c κs. search needs)
+    (λ c κs. search needs)
+    (λ c κs. search needs)
     returns-5)

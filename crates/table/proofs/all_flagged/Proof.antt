@@ -23,12 +23,6 @@ Inv-partitions t size n k₀ k = flaggedFrom (size + 1 - k) k (windows t) ≡ fl
 abbrev μ-partitions : tie.MeasureT-partitions
 μ-partitions t size n k₀ k = size + 1 - k
 
-cast-size : tie.Need-cast-size Inv-loop μ-loop Inv-partitions μ-partitions
-cast-size c = search needs
-
-count-requires : tie.Need-count-requires Inv-loop μ-loop Inv-partitions μ-partitions
-count-requires c κs = search needs
-
 partitions-holds : tie.Need-partitions-holds Inv-loop μ-loop Inv-partitions μ-partitions
 partitions-holds c = partitions-start _ _
 
@@ -40,9 +34,6 @@ mul-w c = omega (arith, c .before .before .before .before .count .ensures .1)
 
 element-copy-out-w : tie.Need-element-copy-out-w Inv-loop μ-loop Inv-partitions μ-partitions
 element-copy-out-w c = omega (arith, c .before .before .before .before .count .ensures .1)
-
-is-flagged-requires : tie.Need-is-flagged-requires Inv-loop μ-loop Inv-partitions μ-partitions
-is-flagged-requires c κs = search needs
 
 add-k : tie.Need-add-k Inv-loop μ-loop Inv-partitions μ-partitions
 add-k c =
@@ -127,13 +118,13 @@ all-flagged-spec =
     μ-loop
     Inv-partitions
     μ-partitions
-    cast-size
-    count-requires
+    (λ c. search needs)
+    (λ c κs. search needs)
     partitions-holds
     loop-holds
     mul-w
     element-copy-out-w
-    is-flagged-requires
+    (λ c κs. search needs)
     add-k
     partitions-less
     partitions-again

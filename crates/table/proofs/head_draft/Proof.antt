@@ -6,36 +6,21 @@ use borrow.Author.Needs.{needs}
 use Rattle.table.proofs.head_draft.Statement.{statement}
 use Rattle.table.proofs.head_draft.Tie as tie
 
-number-of-requires : tie.Need-number-of-requires
-number-of-requires c κs = search needs
-
 cast-frame : tie.Need-cast-frame
 cast-frame c = omega (arith, head-draft (c .before .args .r) (c .before .pre) .frame .1, c .number-of .ensures)
 
-number-of-requires-2 : tie.Need-number-of-requires-2
-number-of-requires-2 c κs = search needs
-
 cast-size : tie.Need-cast-size
 cast-size c = omega (arith, head-draft (c .before .before .args .r) (c .before .before .pre) .size .1, c .number-of2 .ensures)
-
-number-of-requires-3 : tie.Need-number-of-requires-3
-number-of-requires-3 c κs = search needs
 
 cast-windows : tie.Need-cast-windows
 cast-windows c =
     let start = c .before .before .before in
     omega (arith, head-draft (start .args .r) (start .pre) .announced .1, c .number-of3 .ensures)
 
-number-of-requires-4 : tie.Need-number-of-requires-4
-number-of-requires-4 c κs = search needs
-
 cast-channels : tie.Need-cast-channels
 cast-channels c =
     let start = c .before .before .before .before in
     omega (arith, head-draft (start .args .r) (start .pre) .announcedChannels, c .number-of4 .ensures)
-
-empty-requires : tie.Need-empty-requires
-empty-requires c κs = search needs
 
 returns : tie.Need-returns
 unfolding emptyTable
@@ -50,13 +35,13 @@ pub head-draft-spec : {M : Type 1} → statement M
 head-draft-spec =
     tie.close
     (tie.spec
-    number-of-requires
+    (λ c κs. search needs)
     cast-frame
-    number-of-requires-2
+    (λ c κs. search needs)
     cast-size
-    number-of-requires-3
+    (λ c κs. search needs)
     cast-windows
-    number-of-requires-4
+    (λ c κs. search needs)
     cast-channels
-    empty-requires
+    (λ c κs. search needs)
     returns)

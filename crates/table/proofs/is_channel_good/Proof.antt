@@ -4,30 +4,6 @@ use borrow.Author.Needs.{needs}
 use Rattle.table.proofs.is_channel_good.Statement.{statement}
 use Rattle.table.proofs.is_channel_good.Tie as tie
 
-cast-size : tie.Need-cast-size
-cast-size c = search needs
-
-is-between-requires : tie.Need-is-between-requires
-is-between-requires c κs = search needs
-
-is-between-requires-2 : tie.Need-is-between-requires-2
-is-between-requires-2 c κs = search needs
-
-number-of-requires : tie.Need-number-of-requires
-number-of-requires c κs = search needs
-
-number-of-requires-2 : tie.Need-number-of-requires-2
-number-of-requires-2 c κs = search needs
-
-is-between-requires-3 : tie.Need-is-between-requires-3
-is-between-requires-3 c κs = search needs
-
-is-number-requires : tie.Need-is-number-requires
-is-number-requires c κs = search needs
-
-is-last-two-zero-requires : tie.Need-is-last-two-zero-requires
-is-last-two-zero-requires c κs = search needs
-
 returns : tie.Need-returns
 returns c =
     let is-between = c .before .before .before .before .before .before .before .before .before .before .before .is-between in
@@ -89,14 +65,14 @@ pub is-channel-good-spec : {M : Type 1} → statement M
 is-channel-good-spec =
     tie.close
     (tie.spec
-    cast-size
-    is-between-requires
-    is-between-requires-2
-    number-of-requires
-    number-of-requires-2
-    is-between-requires-3
-    is-number-requires
-    is-last-two-zero-requires
+    (λ c. search needs)
+    (λ c κs. search needs)
+    (λ c κs. search needs)
+    (λ c κs. search needs)
+    (λ c κs. search needs)
+    (λ c κs. search needs)
+    (λ c κs. search needs)
+    (λ c κs. search needs)
     returns
     returns-2
     returns-3

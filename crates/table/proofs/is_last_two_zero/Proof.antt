@@ -4,12 +4,6 @@ use borrow.Author.Needs.{needs}
 use Rattle.table.proofs.is_last_two_zero.Statement.{statement}
 use Rattle.table.proofs.is_last_two_zero.Tie as tie
 
-is-number-requires : tie.Need-is-number-requires
-is-number-requires c κs = search needs
-
-is-number-requires-2 : tie.Need-is-number-requires-2
-is-number-requires-2 c κs = search needs
-
 returns : tie.Need-returns
 returns c = and-yes _ (c .before .before .is-number .ensures) (c .before .if1 .taken) (c .is-number2 .ensures)
 
@@ -18,4 +12,4 @@ returns-2 c = and-no _ (c .before .is-number .ensures) (c .if1 .left)
 
 pub is-last-two-zero-spec : {M : Type 1} → statement M
 is-last-two-zero-spec =
-    tie.close (tie.spec is-number-requires is-number-requires-2 returns returns-2)
+    tie.close (tie.spec (λ c κs. search needs) (λ c κs. search needs) returns returns-2)

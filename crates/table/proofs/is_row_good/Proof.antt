@@ -4,15 +4,6 @@ use borrow.Author.Needs.{needs}
 use Rattle.table.proofs.is_row_good.Statement.{statement}
 use Rattle.table.proofs.is_row_good.Tie as tie
 
-is-window-next-requires : tie.Need-is-window-next-requires
-is-window-next-requires c κs = search needs
-
-is-window-good-requires : tie.Need-is-window-good-requires
-is-window-good-requires c κs = search needs
-
-is-channel-good-requires : tie.Need-is-channel-good-requires
-is-channel-good-requires c κs = search needs
-
 returns : tie.Need-returns
 returns c = rw (sym (c .before .before .is-window-next .ensures) ∙ c .before .if1 .taken) (c .is-window-good .ensures)
 
@@ -23,8 +14,8 @@ pub is-row-good-spec : {M : Type 1} → statement M
 is-row-good-spec =
     tie.close
     (tie.spec
-    is-window-next-requires
-    is-window-good-requires
-    is-channel-good-requires
+    (λ c κs. search needs)
+    (λ c κs. search needs)
+    (λ c κs. search needs)
     returns
     returns-2)

@@ -4,36 +4,6 @@ use borrow.Author.Needs.{needs}
 use Rattle.table.proofs.is_window_good.Statement.{statement}
 use Rattle.table.proofs.is_window_good.Tie as tie
 
-cast-is-between : tie.Need-cast-is-between
-cast-is-between c = search needs
-
-cast-is-between-2 : tie.Need-cast-is-between-2
-cast-is-between-2 c = search needs
-
-is-between-requires : tie.Need-is-between-requires
-is-between-requires c κs = search needs
-
-cast-is-between-3 : tie.Need-cast-is-between-3
-cast-is-between-3 c = search needs
-
-is-between-requires-2 : tie.Need-is-between-requires-2
-is-between-requires-2 c κs = search needs
-
-ends-within-requires : tie.Need-ends-within-requires
-ends-within-requires c κs = search needs
-
-cast-is-between-4 : tie.Need-cast-is-between-4
-cast-is-between-4 c = search needs
-
-is-between-requires-3 : tie.Need-is-between-requires-3
-is-between-requires-3 c κs = search needs
-
-is-between-requires-4 : tie.Need-is-between-requires-4
-is-between-requires-4 c κs = search needs
-
-is-last-two-zero-requires : tie.Need-is-last-two-zero-requires
-is-last-two-zero-requires c κs = search needs
-
 returns : tie.Need-returns
 returns c =
     let is-between = c .before .before .before .before .before .before .before .before .before .before .before .is-between in
@@ -90,16 +60,16 @@ pub is-window-good-spec : {M : Type 1} → statement M
 is-window-good-spec =
     tie.close
     (tie.spec
-    cast-is-between
-    cast-is-between-2
-    is-between-requires
-    cast-is-between-3
-    is-between-requires-2
-    ends-within-requires
-    cast-is-between-4
-    is-between-requires-3
-    is-between-requires-4
-    is-last-two-zero-requires
+    (λ c. search needs)
+    (λ c. search needs)
+    (λ c κs. search needs)
+    (λ c. search needs)
+    (λ c κs. search needs)
+    (λ c κs. search needs)
+    (λ c. search needs)
+    (λ c κs. search needs)
+    (λ c κs. search needs)
+    (λ c κs. search needs)
     returns
     returns-2
     returns-3

@@ -23,17 +23,8 @@ Inv-loop input d₀ total line₀ at₀ d line at =
 abbrev μ-loop : tie.MeasureT-loop
 μ-loop input d₀ total line₀ at₀ d line at = total - line
 
-head-draft-requires : tie.Need-head-draft-requires Inv-loop μ-loop
-head-draft-requires c κs = search needs
-
-cast-total : tie.Need-cast-total Inv-loop μ-loop
-cast-total c = search needs
-
 add-total : tie.Need-add-total Inv-loop μ-loop
 add-total c = omega arith
-
-cast-total-2 : tie.Need-cast-total-2 Inv-loop μ-loop
-cast-total-2 c = search needs
 
 add-total-2 : tie.Need-add-total-2 Inv-loop μ-loop
 add-total-2 c = omega arith
@@ -52,9 +43,6 @@ sub-if1 c = omega arith
 
 add-refused : tie.Need-add-refused Inv-loop μ-loop
 add-refused c = omega arith
-
-refused-requires : tie.Need-refused-requires Inv-loop μ-loop
-refused-requires c κs = search needs
 
 returns : tie.Need-returns Inv-loop μ-loop
 returns c =
@@ -77,20 +65,8 @@ part-read-start c = omega arith
 part-read-end : tie.Need-part-read-end Inv-loop μ-loop
 part-read-end c = omega arith
 
-read-requires : tie.Need-read-requires Inv-loop μ-loop
-read-requires c κs = search needs
-
-enum-known-n : tie.Need-enum-known-n Inv-loop μ-loop
-enum-known-n c = search needs
-
-enum-told : tie.Need-enum-told Inv-loop μ-loop
-enum-told c = search needs
-
 add-refused-2 : tie.Need-add-refused-2 Inv-loop μ-loop
 add-refused-2 c = omega arith
-
-refused-requires-2 : tie.Need-refused-requires-2 Inv-loop μ-loop
-refused-requires-2 c κs = search needs
 
 returns-2 : tie.Need-returns-2 Inv-loop μ-loop
 returns-2 c =
@@ -103,21 +79,12 @@ returns-2 c =
     (start .args .input .now) (loop .at) _ (loop .line) (loop .d) (loop-test .taken) _ (loop .inv .3)
     (part-read (start .args .input .now) (loop .at) _ (read .ensures) _ (c .before .enum-told .given .1)))
 
-row-of-requires : tie.Need-row-of-requires Inv-loop μ-loop
-row-of-requires c κs = search needs
-
-is-row-good-requires : tie.Need-is-row-good-requires Inv-loop μ-loop
-is-row-good-requires c κs = search needs
-
 add-refused-3 : tie.Need-add-refused-3 Inv-loop μ-loop
 add-refused-3 c =
     let struct-known = c .before .before .before .before .before .before .before .before .before .before .before .before .struct-known in
     let struct-known2 = c .before .before .before .before .before .before .before .before .before .before .before .struct-known2 in
     let loop-test = c .before .before .before .before .before .before .before .before .before .loop-test in
     omega (arith, loop-test .taken, struct-known .given, struct-known2 .given)
-
-refused-requires-3 : tie.Need-refused-requires-3 Inv-loop μ-loop
-refused-requires-3 c κs = search needs
 
 returns-3 : tie.Need-returns-3 Inv-loop μ-loop
 returns-3 c =
@@ -170,9 +137,6 @@ loop-again c =
     in
     (omega (arith, loop-test .taken), omega (arith, if1 .left, loop .inv .1), s .0, s .1)
 
-checked-requires : tie.Need-checked-requires Inv-loop μ-loop
-checked-requires c κs = search needs
-
 returns-4 : tie.Need-returns-4 Inv-loop μ-loop
 returns-4 c =
     let start = c .before .before .before .before .before .before .before .before in
@@ -187,34 +151,34 @@ rest-spec =
     (tie.spec
     Inv-loop
     μ-loop
-    head-draft-requires
-    cast-total
+    (λ c κs. search needs)
+    (λ c. search needs)
     add-total
-    cast-total-2
+    (λ c. search needs)
     add-total-2
     loop-holds
     sub-if1
     add-refused
-    refused-requires
+    (λ c κs. search needs)
     returns
     add-end
     sub-read
     part-read-start
     part-read-end
-    read-requires
-    enum-known-n
-    enum-told
+    (λ c κs. search needs)
+    (λ c. search needs)
+    (λ c. search needs)
     add-refused-2
-    refused-requires-2
+    (λ c κs. search needs)
     returns-2
-    row-of-requires
-    is-row-good-requires
+    (λ c κs. search needs)
+    (λ c κs. search needs)
     add-refused-3
-    refused-requires-3
+    (λ c κs. search needs)
     returns-3
     with-row-requires
     add-line
     loop-less
     loop-again
-    checked-requires
+    (λ c κs. search needs)
     returns-4)

@@ -6,9 +6,6 @@ use borrow.Author.Needs.{needs}
 use Rattle.table.proofs.with_row.Statement.{statement}
 use Rattle.table.proofs.with_row.Tie as tie
 
-is-window-next-requires : tie.Need-is-window-next-requires
-is-window-next-requires c κs = search needs
-
 with-window-requires : tie.Need-with-window-requires
 with-window-requires c κs =
     let start = c .before .before in
@@ -30,4 +27,4 @@ returns-2 c = rw (sym (c .before .before .is-window-next .ensures) ∙ c .before
 pub with-row-spec : {M : Type 1} → statement M
 with-row-spec =
     tie.close
-    (tie.spec is-window-next-requires with-window-requires with-channel-requires returns returns-2)
+    (tie.spec (λ c κs. search needs) with-window-requires with-channel-requires returns returns-2)

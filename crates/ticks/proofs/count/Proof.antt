@@ -4,9 +4,6 @@ use borrow.Author.Tests.{le-leb, lt-leb}
 use Rattle.ticks.proofs.count.Statement.{statement}
 use Rattle.ticks.proofs.count.Tie as tie
 
-cast-n : tie.Need-cast-n
-cast-n c = search needs
-
 returns : tie.Need-returns
 returns c = (rw (le-leb _ _ (c .if1 .taken)), omega arith)
 
@@ -14,4 +11,4 @@ returns-2 : tie.Need-returns-2
 returns-2 c = (rw (lt-leb _ _ (c .if1 .left)), omega arith)
 
 pub count-spec : {M : Type 1} → statement M
-count-spec = tie.close (tie.spec cast-n returns returns-2)
+count-spec = tie.close (tie.spec (λ c. search needs) returns returns-2)

@@ -1,18 +1,16 @@
 -- `answer_line` meets its contract.
 use mathlib.Core.Path.{_∙_}
 use borrow.Author.Needs.{needs}
-use Rattle.event_lines.proofs.Laws.{heard-next, heard-answer}
 use Rattle.whole_input.proofs.answer_line.Statement.{statement}
 use Rattle.whole_input.proofs.answer_line.Tie as tie
 
 returns : tie.Need-returns
 returns c =
-    let m = c .before .before .before .before .before .before .before .before .before .before .before .args .e .inner in
     let read-at = c .before .before .before .before .before .before .before .before .read-at in
     let step-line = c .before .before .before .before .before .before .before .step-line in
     let numbers-of = c .before .before .before .before .numbers-of in (
-      rw (step-line .ensures, heard-next m (read-at .result), read-at .ensures),
-      c .before .before .before .write-at .ensures .1 ∙ rw (numbers-of .ensures, step-line .ensures, heard-answer m (read-at .result), read-at .ensures),
+      rw (step-line .ensures, read-at .ensures),
+      c .before .before .before .write-at .ensures .1 ∙ rw (numbers-of .ensures, step-line .ensures, read-at .ensures),
     )
 
 pub answer-line-spec : {M : Type 1} → statement M

@@ -6,7 +6,7 @@ use native.Mathlib.Omega.{arith}
 use lib.ListN.{length}
 use borrow.Author.Needs.{needs}
 use Rattle.machine.proofs.TextInput.{line-at}
-use Rattle.whole_input.proofs.Laws.{Replaying, refusal-gives, too-many, begins, ends, line-fits, goes-on}
+use Rattle.whole_input.proofs.Laws.{Replaying, refusal-gives, too-many, begins, ends, line-fits, goes-on, block-inside, block-room, block-goes-on, block-skipped}
 use Rattle.whole_input.proofs.replay.Statement.{statement}
 use Rattle.whole_input.proofs.replay.Tie as tie
 
@@ -37,24 +37,37 @@ loop-holds c =
     let opening = c .before .before .before .before .before .before .«open» in
     begins _ _ _ (opening .ensures) (c .before .before .before .before .if1 .left) _ (c .before .before .count-lines .ensures) (omega (arith, c .before .if2 .left))
 
+mul-at-2 : tie.Need-mul-at-2 Inv-loop μ-loop
+mul-at-2 c =
+    let short : length (c .before .before .before .before .before .before .before .before .before .before .before .before .before .before .before .before .before .before .before .args .input .now) < 18446744073709551616 = omega (arith, c .before .before .before .before .before .before .before .before .before .before .before .before .before .before .before .before .before .before .before .good) in
+    omega (arith, short, block-inside _ _ _ _ _ _ (c .before .before .before .before .before .before .before .before .before .loop .inv) _ (c .before .before .before .before .before .before .run-lines .ensures .0) (omega (arith, c .before .before .before .before .before .before .before .before .loop-test .taken)))
+
+add-at : tie.Need-add-at Inv-loop μ-loop
+add-at c =
+    let short : length (c .before .before .before .before .before .before .before .before .before .before .before .before .before .before .before .before .before .before .before .args .input .now) < 18446744073709551616 = omega (arith, c .before .before .before .before .before .before .before .before .before .before .before .before .before .before .before .before .before .before .before .good) in
+    omega (arith, short, block-inside _ _ _ _ _ _ (c .before .before .before .before .before .before .before .before .before .loop .inv) _ (c .before .before .before .before .before .before .run-lines .ensures .0) (omega (arith, c .before .before .before .before .before .before .before .before .loop-test .taken)))
+
 add-to : tie.Need-add-to Inv-loop μ-loop
 add-to c =
-    let start = c .before .before .before .before .before .before .before .before .before .before .before .before .before .before .before .before in
-    let loop = c .before .before .before .before .before .before .loop in
-    let short : length (start .args .out .now) < 18446744073709551616 = omega (arith, start .good) in
-    omega (arith, line-fits _ _ _ _ _ _ (loop .inv) (c .before .before .before .before .before .loop-test .taken))
+    let short : length (c .before .before .before .before .before .before .before .before .before .before .before .before .before .before .before .before .before .before .before .before .args .out .now) < 18446744073709551616 = omega (arith, c .before .before .before .before .before .before .before .before .before .before .before .before .before .before .before .before .before .before .before .before .good) in
+    omega (arith, short, block-room _ _ _ _ _ _ (c .before .before .before .before .before .before .before .before .before .before .loop .inv) _ (c .before .before .before .before .before .before .before .run-lines .ensures .0), c .before .before .before .before .before .before .before .before .before .before .loop .inv .size)
 
 loop-less : tie.Need-loop-less Inv-loop μ-loop
-loop-less c =
-    let start = c .before .before .before .before .before .before .before .before .before .before .before .before .before .before .before .before in
-    let loop = c .before .before .before .before .before .before .loop in
-    omega (arith, c .next-line .ensures, line-at (start .args .input .now) (loop .at) (c .before .before .before .before .before .loop-test .taken) .after)
+loop-less c = omega (arith, c .before .before .before .if3 .taken, block-inside _ _ _ _ _ _ (c .before .before .before .before .before .before .before .before .before .before .loop .inv) _ (c .before .before .before .before .before .before .before .run-lines .ensures .0) (omega (arith, c .before .before .before .before .before .before .before .before .before .loop-test .taken)))
 
 loop-again : tie.Need-loop-again Inv-loop μ-loop
-loop-again c =
-    let loop = c .before .before .before .before .before .before .loop in
-    let answer-line = c .before .before .before .answer-line in
-    goes-on _ _ _ _ _ _ (loop .inv) (c .before .before .before .before .before .loop-test .taken) _ (answer-line .ensures .0) _ (answer-line .ensures .1) _ (c .next-line .ensures)
+loop-again c = block-goes-on _ _ _ _ _ _ (c .before .before .before .before .before .before .before .before .before .before .loop .inv) _ (c .before .before .before .before .before .before .before .run-lines .ensures .0) _ (c .before .before .before .before .before .before .before .run-lines .ensures .1)
+
+add-to-2 : tie.Need-add-to-2 Inv-loop μ-loop
+add-to-2 c =
+    let short : length (c .before .before .before .before .before .before .before .before .before .before .before .before .before .before .before .before .before .before .before .before .before .before .args .out .now) < 18446744073709551616 = omega (arith, c .before .before .before .before .before .before .before .before .before .before .before .before .before .before .before .before .before .before .before .before .before .before .good) in
+    omega (arith, short, line-fits _ _ _ _ _ _ (block-skipped _ _ _ _ _ _ (c .before .before .before .before .before .before .before .before .before .before .before .before .loop .inv) _ (c .before .before .before .before .before .before .before .before .before .run-lines .ensures .0) _ (c .before .before .before .before .before .before .before .before .before .run-lines .ensures .1) (omega (arith, c .before .before .before .before .before .if3 .left))) (c .before .before .before .before .before .before .before .before .before .before .before .loop-test .taken))
+
+loop-less-2 : tie.Need-loop-less-2 Inv-loop μ-loop
+loop-less-2 c = omega (arith, c .next-line .ensures, line-at (c .before .before .before .before .before .before .before .before .before .before .before .before .before .before .before .before .before .before .before .before .before .before .args .input .now) (c .before .before .before .before .before .before .before .before .before .before .before .before .loop .at) (c .before .before .before .before .before .before .before .before .before .before .before .loop-test .taken) .after)
+
+loop-again-2 : tie.Need-loop-again-2 Inv-loop μ-loop
+loop-again-2 c = goes-on _ _ _ _ _ _ (block-skipped _ _ _ _ _ _ (c .before .before .before .before .before .before .before .before .before .before .before .before .loop .inv) _ (c .before .before .before .before .before .before .before .before .before .run-lines .ensures .0) _ (c .before .before .before .before .before .before .before .before .before .run-lines .ensures .1) (omega (arith, c .before .before .before .before .before .if3 .left))) (c .before .before .before .before .before .before .before .before .before .before .before .loop-test .taken) _ (c .before .before .before .answer-line .ensures .0) _ (c .before .before .before .answer-line .ensures .1) _ (c .next-line .ensures)
 
 returns-3 : tie.Need-returns-3 Inv-loop μ-loop
 returns-3 c =
@@ -78,10 +91,16 @@ replay-spec =
     returns-2
     loop-holds
     (λ _ _. tt)
-    (λ _ _. tt)
+    mul-at-2
+    add-at
     add-to
     loop-less
     loop-again
+    (λ _ _. tt)
+    (λ _ _. tt)
+    add-to-2
+    loop-less-2
+    loop-again-2
     (λ _ _. tt)
     (λ c. c .before .before .loop .inv .size)
     returns-3)

@@ -2,7 +2,6 @@ use Prim.Native.Nat.{_-_, _≤_}
 use mathlib.Core.Path.{_≡_, refl, sym, _∙_}
 use native.Mathlib.Omega.{arith}
 use lib.ListN.{drop}
-use borrow.Author.Needs.{needs}
 use Rattle.machine.specs.Windows.{windows, owner}
 use Rattle.windows.proofs.Laws.{owner-here, owner-more, owner-done}
 use Rattle.windows.proofs.owner_at.Statement.{statement}
@@ -14,9 +13,6 @@ Inv-loop x table n i₀ i = (i ≤ n) × (owner (drop i (windows table)) x ≡ o
 abbrev μ-loop : tie.MeasureT-loop
 μ-loop x table n i₀ i = n - i
 
-count-requires : tie.Need-count-requires Inv-loop μ-loop
-count-requires c κs = search needs
-
 loop-holds : tie.Need-loop-holds Inv-loop μ-loop
 loop-holds c = (omega arith, refl)
 
@@ -26,17 +22,11 @@ mul-w c = omega (arith, c .before .before .count .ensures .1)
 element-copy-out-w : tie.Need-element-copy-out-w Inv-loop μ-loop
 element-copy-out-w c = omega (arith, c .before .before .count .ensures .1)
 
-does-cover-requires : tie.Need-does-cover-requires Inv-loop μ-loop
-does-cover-requires c κs = search needs
-
 returns : tie.Need-returns Inv-loop μ-loop
 returns c = sym (owner-here (c .before .before .before .before .before .before .args .t1) (c .before .before .before .before .loop .i) (c .before .before .before .before .before .before .args .x) (omega (arith, c .before .before .before .before .before .count .ensures .0)) (sym (c .before .does-cover .ensures) ∙ c .if1 .taken)) ∙ c .before .before .before .before .loop .inv .1
 
 add-i : tie.Need-add-i Inv-loop μ-loop
 add-i c = omega (arith, c .before .before .before .before .before .count .ensures .1)
-
-loop-less : tie.Need-loop-less Inv-loop μ-loop
-loop-less c = omega arith
 
 loop-again : tie.Need-loop-again Inv-loop μ-loop
 loop-again c = (omega arith, sym (owner-more (c .before .before .before .before .before .before .args .t1) (c .before .before .before .before .loop .i) (c .before .before .before .before .before .before .args .x) (omega (arith, c .before .before .before .before .before .count .ensures .0)) (sym (c .before .does-cover .ensures) ∙ c .if1 .left)) ∙ c .before .before .before .before .loop .inv .1)
@@ -50,13 +40,13 @@ owner-at-spec =
     (tie.spec
     Inv-loop
     μ-loop
-    count-requires
+    (λ _ _. tt)
     loop-holds
     mul-w
     element-copy-out-w
-    does-cover-requires
+    (λ _ _. tt)
     returns
     add-i
-    loop-less
+    (λ c. omega arith)
     loop-again
     returns-2)

@@ -1,0 +1,187 @@
+// What an event decides: its reply, what it changes, and the checks that several calls share.
+ghost use mathlib.Core.Path.{_≡_};
+ghost use mathlib.Core.Bool.{_&&_, _||_};
+ghost use mathlib.Core.List.{[], _∷_};
+ghost use lib.Dec.{eqb};
+ghost use Rattle.machine.specs.Decisions.{coded, codeOf, replyOf, changes, restarts, writtenAt, messageOf, noMessage, changed, blocked, creationChecks, waitChecks, unknown};
+use machine::Change;
+use machine::Context;
+use machine::Decision;
+use machine::Message;
+use machine::Module;
+use machine::Process;
+use machine::Reply;
+use machine::Time;
+
+// ---------------------------------------------------------------- decisions
+fn reply(code: u8, value: u32, extra: Time) -> Reply
+    ensures { λ r. ⌜ r ≡ record { code = code; value = value; extra = extra } ⌝ }
+{
+    Reply { code, value, extra }
+}
+
+// A reply of this code alone.
+pub fn reply_with(code: u8) -> Reply
+    ensures { λ r. ⌜ r ≡ coded code ⌝ }
+{
+    reply(code, 0, Time::At(0))
+}
+
+// The numbers of a decision.
+pub fn reply_of(d: Decision) -> Reply
+    ensures { λ r. ⌜ r ≡ replyOf d ⌝ }
+{
+    match d {
+        Decision::Refused(code) => reply_with(code),
+        Decision::Unchanged(value, extra) => reply(0, value, extra),
+        Decision::Ticked => reply_with(0),
+        Decision::Blocked(_, _) => reply_with(7),
+        Decision::Changed(_, _, value) => reply(0, value, Time::At(0)),
+        Decision::Restarted(_) => reply_with(0),
+        Decision::Written(_, _) => reply_with(0),
+    }
+}
+
+// Whether it changes the caller's partition.
+pub fn does_change(d: Decision) -> bool
+    ensures { λ r. ⌜ r ≡ changes d ⌝ }
+{
+    match d {
+        Decision::Refused(_) => false,
+        Decision::Unchanged(_, _) => false,
+        Decision::Ticked => false,
+        Decision::Blocked(_, _) => true,
+        Decision::Changed(_, _, _) => true,
+        Decision::Restarted(_) => true,
+        Decision::Written(_, _) => false,
+    }
+}
+
+pub fn is_restart(d: Decision) -> bool
+    ensures { λ r. ⌜ r ≡ restarts d ⌝ }
+{
+    match d {
+        Decision::Refused(_) => false,
+        Decision::Unchanged(_, _) => false,
+        Decision::Ticked => false,
+        Decision::Blocked(_, _) => false,
+        Decision::Changed(_, _, _) => false,
+        Decision::Restarted(_) => true,
+        Decision::Written(_, _) => false,
+    }
+}
+
+// The place of the channel on which it leaves a message, past the last for none.
+pub fn written_at(d: Decision) -> usize
+    ensures { λ r. ⌜ r ≡ writtenAt d ⌝ }
+{
+    match d {
+        Decision::Refused(_) => Module::CHANNELS,
+        Decision::Unchanged(_, _) => Module::CHANNELS,
+        Decision::Ticked => Module::CHANNELS,
+        Decision::Blocked(_, _) => Module::CHANNELS,
+        Decision::Changed(_, _, _) => Module::CHANNELS,
+        Decision::Restarted(_) => Module::CHANNELS,
+        Decision::Written(i, _) => i as usize,
+    }
+}
+
+pub fn no_message() -> Message
+    ensures { λ r. ⌜ r ≡ noMessage ⌝ }
+{
+    Message {
+        present: false,
+        value: 0,
+        written: 0,
+    }
+}
+
+// The message that it leaves there.
+pub fn message_of(d: Decision) -> Message
+    ensures { λ r. ⌜ r ≡ messageOf d ⌝ }
+{
+    match d {
+        Decision::Refused(_) => no_message(),
+        Decision::Unchanged(_, _) => no_message(),
+        Decision::Ticked => no_message(),
+        Decision::Blocked(_, _) => no_message(),
+        Decision::Changed(_, _, _) => no_message(),
+        Decision::Restarted(_) => no_message(),
+        Decision::Written(_, x) => x,
+    }
+}
+
+// Code 0 and one change.
+pub fn changed(change: Change) -> Decision
+    ensures { λ r. ⌜ r ≡ changed change ⌝ }
+{
+    Decision::Changed(change, Change::Nothing, 0)
+}
+
+// The only place that gives code 7: process id has the record x, in which it waits.
+pub fn block(id: u8, x: Process) -> Decision
+    ensures { λ r. ⌜ r ≡ blocked id x ⌝ }
+{
+    Decision::Blocked(id, x)
+}
+
+// The code of the checks of a creation, or 0.
+pub fn creation_code(full: bool, taken: bool, admitted: bool, normal: bool) -> u8
+    ensures { λ r. ⌜ r ≡ codeOf (creationChecks full taken admitted normal) ⌝ }
+{
+    if full {
+        return 4;
+    }
+    if taken {
+        return 1;
+    }
+    if !admitted {
+        return 3;
+    }
+    if normal {
+        return 5;
+    }
+    0
+}
+
+// The code of the checks of a wait, or 0.
+pub fn wait_code(unknown: bool, start: bool, admitted: bool) -> u8
+    ensures { λ r. ⌜ r ≡ codeOf (waitChecks ((unknown, 3) ∷ []) start admitted []) ⌝ }
+{
+    if unknown {
+        return 3;
+    }
+    if start {
+        return 5;
+    }
+    if !admitted {
+        return 3;
+    }
+    0
+}
+
+// Whether none of count things has this id.
+pub fn is_unknown(id: u32, count: u8) -> bool
+    ensures { λ r. ⌜ r ≡ unknown id count ⌝ }
+{
+    if id == 0 { true } else { (count as u32) < id }
+}
+
+pub fn caller_of(c: Context) -> u32
+    ensures { λ r. ⌜ r ≡ c .caller ⌝ }
+{
+    c.caller as u32
+}
+
+// 9: whether a partition in this mode whose running process is this one makes no call.
+pub fn has_no_caller(mode: u8, running: u8) -> bool
+    ensures { λ b. ⌜ b ≡ (eqb mode 0 || (eqb mode 3 && eqb running 0)) ⌝ }
+{
+    if mode == 0 {
+        return true;
+    }
+    if mode == 3 {
+        return running == 0;
+    }
+    false
+}

@@ -1,0 +1,224 @@
+use Prim.Native.Nat.{_-_, _≤_, _<_}
+use mathlib.Core.Bool.{cond}
+use mathlib.Core.Logic.{⊎-elim}
+use mathlib.Core.List.{List}
+use mathlib.Core.Path.{_≡_, refl, sym, ap, _∙_}
+use native.Mathlib.Nat.{div-mul-le-self}
+use native.Mathlib.Omega.{arith}
+use lib.ListN.{length, getD, length-set, List·getD-eq-default}
+use borrow.Author.Needs.{needs}
+use Rattle.machine.specs.Decisions.{noMessage}
+use Rattle.machine.specs.Limits.{partitionLimit, channelLimit}
+use Rattle.machine.specs.Module.{part, message, runningIn, withTime}
+use Rattle.machine.specs.Partition.{running}
+use Rattle.machine.specs.Step.{sees}
+use Rattle.machine.specs.Ticks.{tickTo}
+use Rattle.machine.specs.declared.Module.{Module}
+use Rattle.machine.specs.declared.Partition.{Partition}
+use Rattle.machine.proofs.Folds.{tick-to-none}
+use Rattle.machine.proofs.Taken.{length-mapped}
+use Rattle.ticks.proofs.Laws.{tick-due, tick-later}
+use Rattle.executive.specs.Lists.{six, Follows}
+use Rattle.executive.proofs.Laws.{After, Planned, few-ticks, slot-spot, not-called, call-same, call-written, call-changed, call-restarted, shown-spot, runs-shown, none-shown, event-answered}
+use Rattle.executive.proofs.Lists.{Known, begins-unknown, follows-same, follows-set, follows-looked, known-looked, known-before, known-past, known-set, known-same, Running, begins, fits, ends, goes-on}
+use Rattle.executive.proofs.Executive.run_list.Statement.{statement}
+use Rattle.executive.proofs.Executive.run_list.Tie as tie
+
+abbrev Inv-loop2 : tie.InvT-loop2
+Inv-loop2 list m₀ table runs₀ n i at x j₀ m runs j = (j ≤ x .ticks) × (x .ticks ≤ partitionLimit) × (m ≡ tickTo j m₀) × (length (m .partitions) ≡ partitionLimit) × (length (m .messages) ≡ channelLimit) × Follows m runs
+
+abbrev μ-loop2 : tie.MeasureT-loop2
+μ-loop2 list m₀ table runs₀ n i at x j₀ m runs j = x .ticks - j
+
+abbrev Inv-loop : tie.InvT-loop
+Inv-loop list₀ m₀ table runs₀ last₀ n i₀ list m runs last i = Running m₀ list₀ n i m list last × Follows m runs
+
+abbrev μ-loop : tie.MeasureT-loop
+μ-loop list₀ m₀ table runs₀ last₀ n i₀ list m runs last i = n - i
+
+abbrev parts : Module → List Partition
+parts m = m .partitions
+
+-- what is found of the event before its partition is looked at
+planned : (c : tie.After-plan-of Inv-loop2 μ-loop2 Inv-loop μ-loop) → Planned (c .before .before .before .before .loop .m) (c .before .event-at .result) (c .before .before .before .before .before .before .before .before .args .self .inner .table) (c .plan-of .result)
+planned c = record { same = c .before .before .before .before .loop .inv .0 .table; long = c .before .before .before .before .loop .inv .0 .long; held = c .before .before .before .before .loop .inv .0 .held; plan = c .plan-of .ensures }
+
+-- the partitions are ticked
+ticked : (c : tie.Else1 Inv-loop2 μ-loop2 Inv-loop μ-loop) → c .before .before .loop2 .m ≡ tickTo (c .before .before .before .plan-of .result .ticks) (withTime (c .before .before .before .plan-of .result .time) (c .before .before .before .before .before .before .before .loop .m))
+ticked c = let e : c .before .before .loop2 .j ≡ c .before .before .before .plan-of .result .ticks = omega (arith, c .if1 .left, c .before .before .loop2 .inv .0) in rw (← e) (c .before .before .loop2 .inv .2)
+
+-- the running process of the current partition is looked up
+looked : (c : tie.Joined3 Inv-loop2 μ-loop2 Inv-loop μ-loop) → Follows (c .before .before .before .loop2 .m) (c .if3 .runs) × Known (c .before .before .before .loop2 .m) (c .if3 .runs) (c .before .before .before .before .plan-of .result .spot)
+looked c =
+    let f = c .before .before .before .loop2 .inv .5 in
+    ⊎-elim (λ w. (follows-looked f (w .0 .taken) (w .3 .ensures) (w .4), known-looked f (w .0 .taken) (w .3 .ensures) (w .4)))
+    (λ u. ⊎-elim (λ w. (follows-same f refl (w .2), known-before f (w .1 .left) (w .2)))
+    (λ w. (follows-same f refl (w .1), known-past (w .0 .left))) u)
+    (c .if3 .came)
+
+-- the message on the channel that a call may name
+held : (c : tie.Joined5 Inv-loop2 μ-loop2 Inv-loop μ-loop) → c .if5 .held ≡ message (c .before .before .before .before .before .loop2 .m) (c .before .before .before .before .before .before .plan-of .result .place)
+held c =
+    let l = c .before .before .before .before .before .loop2 .inv .4 in
+    ⊎-elim (λ w. w .2)
+    (λ w. w .1 ∙ c .before .no-message .ensures ∙ sym (List·getD-eq-default (c .before .before .before .before .before .loop2 .m .messages) noMessage (omega (arith, l, w .0 .left))))
+    (c .if5 .came)
+
+runs-known : (c : tie.Joined6 Inv-loop2 μ-loop2 Inv-loop μ-loop) → c .before .before .before .before .before .before .before .before .plan-of .result .slot < partitionLimit → getD (c .before .before .before .before .if3 .runs) (c .before .before .before .before .before .before .before .before .plan-of .result .slot) 0 ≡ running (part (c .before .before .before .before .before .before .before .loop2 .m) (c .before .before .before .before .before .before .before .before .plan-of .result .slot))
+runs-known c h = let e = slot-spot (planned (c .before .before .before .before .before .before .before .before)) h in rw e (looked (c .before .before .before .before) .1 .is (rw e at h))
+
+-- each way through the event
+after : (c : tie.Joined6 Inv-loop2 μ-loop2 Inv-loop μ-loop) → After (c .before .before .before .before .before .before .before .before .before .before .before .before .loop .m) (c .before .before .before .before .before .before .before .before .plan-of .result .request) (c .before .before .before .before .before .before .before .before .plan-of .result .current) (c .if6 .m) (c .if6 .reply)
+after c =
+    ⊎-elim (λ w. call-restarted (planned (c .before .before .before .before .before .before .before .before)) (ticked (c .before .before .before .before .before)) (w .0 .taken) (runs-known c (w .0 .taken)) (w .3 .ensures) (held (c .before .before)) (w .4 .ensures) (w .5 .ensures) (w .19 ∙ w .6 .ensures) (w .10 .ensures) (sym (w .12 .ensures) ∙ w .13 .taken) (w .15 .ensures) (w .17))
+    (λ u. ⊎-elim (λ w. call-changed (planned (c .before .before .before .before .before .before .before .before)) (ticked (c .before .before .before .before .before)) (w .0 .taken) (runs-known c (w .0 .taken)) (w .3 .ensures) (held (c .before .before)) (w .4 .ensures) (w .5 .ensures) (w .16 ∙ w .6 .ensures) (w .10 .ensures) (sym (w .8 .ensures) ∙ w .9 .taken) (sym (w .12 .ensures) ∙ w .13 .left) (w .14))
+    (λ t. ⊎-elim (λ w. call-written (planned (c .before .before .before .before .before .before .before .before)) (ticked (c .before .before .before .before .before)) (w .0 .taken) (runs-known c (w .0 .taken)) (w .3 .ensures) (held (c .before .before)) (w .4 .ensures) (w .5 .ensures) (w .14 ∙ w .6 .ensures) (rw (w .7 .ensures) at (w .10 .taken)) (w .11 .ensures) (rw (w .7 .ensures) at (w .12)))
+    (λ v. ⊎-elim (λ w. call-same (planned (c .before .before .before .before .before .before .before .before)) (ticked (c .before .before .before .before .before)) (w .0 .taken) (runs-known c (w .0 .taken)) (w .3 .ensures) (held (c .before .before)) (w .4 .ensures) (w .5 .ensures) (w .13 ∙ w .6 .ensures) (sym (w .8 .ensures) ∙ w .9 .left) (rw (w .7 .ensures) at (w .10 .left)) (w .11))
+    (λ w. not-called (planned (c .before .before .before .before .before .before .before .before)) (ticked (c .before .before .before .before .before)) (w .0 .left) (w .1) (w .3 ∙ c .before .reply-with .ensures)) v) t) u)
+    (c .if6 .came)
+
+-- the running processes after it
+runs-after : (c : tie.Joined6 Inv-loop2 μ-loop2 Inv-loop μ-loop) → Follows (c .if6 .m) (c .if6 .runs) × Known (c .if6 .m) (c .if6 .runs) (c .before .before .before .before .before .before .before .before .plan-of .result .spot)
+runs-after c =
+    let f = looked (c .before .before .before .before) .0 in
+    let k = looked (c .before .before .before .before) .1 in
+    let l = c .before .before .before .before .before .before .before .loop2 .inv .3 in
+    ⊎-elim (λ w. (follows-set f l (w .0 .taken) (w .10 .result) (λ _. w .11 .ensures) (ap parts (w .17)) (w .18), known-set f l (w .0 .taken) (slot-spot (planned (c .before .before .before .before .before .before .before .before)) (w .0 .taken)) (w .10 .result) (w .11 .ensures) (ap parts (w .17)) (w .18)))
+    (λ u. ⊎-elim (λ w. (follows-set f l (w .0 .taken) (w .10 .result) (λ _. w .11 .ensures) (ap parts (w .14)) (w .15), known-set f l (w .0 .taken) (slot-spot (planned (c .before .before .before .before .before .before .before .before)) (w .0 .taken)) (w .10 .result) (w .11 .ensures) (ap parts (w .14)) (w .15)))
+    (λ t. ⊎-elim (λ w. (follows-same f (ap parts (w .12)) (w .13), known-same k (ap parts (w .12)) (w .13)))
+    (λ v. ⊎-elim (λ w. (follows-same f (ap parts (w .11)) (w .12), known-same k (ap parts (w .11)) (w .12)))
+    (λ w. (follows-same f (ap parts (w .1)) (w .2), known-same k (ap parts (w .1)) (w .2))) v) t) u)
+    (c .if6 .came)
+
+-- the running process shown
+shown : (c : tie.Joined10 Inv-loop2 μ-loop2 Inv-loop μ-loop) → c .if10 .running ≡ cond (sees (c .before .before .before .before .before .before .before .before .before .plan-of .result .request) (c .before .before .before .before .before .before .before .before .before .plan-of .result .current)) (runningIn (c .before .before .before .before .before .before .before .before .before .plan-of .result .current) (c .before .if6 .m)) 0
+shown c =
+    let p = planned (c .before .before .before .before .before .before .before .before .before) in
+    let a = after (c .before) in
+    ⊎-elim (λ w. let e = shown-spot p (w .0 .taken) in runs-shown p a (w .0 .taken) (rw e at (w .1) ∙ runs-after (c .before) .1 .is (rw e at (w .0 .taken))))
+    (λ w. w .1 ∙ none-shown p a (w .0 .left))
+    (c .if10 .came)
+
+loop-holds : tie.Need-loop-holds Inv-loop2 μ-loop2 Inv-loop μ-loop
+loop-holds c = (begins _ _ _ (search (needs, length-mapped)) (search (needs, length-mapped)) (div-mul-le-self _ six) _ (c .no-answer .ensures), begins-unknown _)
+
+mul-at : tie.Need-mul-at Inv-loop2 μ-loop2 Inv-loop μ-loop
+mul-at c = let h = fits (c .before .loop .inv .0) (c .loop-test .taken) in omega (arith, h)
+
+event-at-requires : tie.Need-event-at-requires Inv-loop2 μ-loop2 Inv-loop μ-loop
+event-at-requires c κs = fits (c .before .before .loop .inv .0) (c .before .loop-test .taken)
+
+loop2-holds : tie.Need-loop2-holds Inv-loop2 μ-loop2 Inv-loop μ-loop
+loop2-holds c = (omega arith, few-ticks (planned c), sym (tick-to-none _), c .before .before .before .before .loop .inv .0 .long, c .before .before .before .before .loop .inv .0 .held, follows-same (c .before .before .before .before .loop .inv .1) refl refl)
+
+loop2-less : tie.Need-loop2-less Inv-loop2 μ-loop2 Inv-loop μ-loop
+loop2-less c = omega arith
+
+loop2-again : tie.Need-loop2-again Inv-loop2 μ-loop2 Inv-loop μ-loop
+loop2-again c =
+    let v = c .before .before .before .loop2 .inv in
+    let q = c .before .before .before .loop2 .m in
+    let j = c .before .before .before .loop2 .j in (
+      omega arith,
+      v .1,
+      ⊎-elim (λ w. tick-due j (q .t) _ q _ (v .2) refl _ (w .2 .ensures) (w .0 .taken) (w .3))
+          (λ w. tick-later j (q .t) _ q _ (v .2) refl (w .0 .left) (w .1))
+          (c .if2 .came),
+      ⊎-elim (λ w. ap (λ (z : Module). length (z .partitions)) (w .3) ∙ length-set (q .partitions) j (w .2 .result) ∙ v .3)
+          (λ w. ap (λ (z : Module). length (z .partitions)) (w .1) ∙ v .3)
+          (c .if2 .came),
+      ⊎-elim (λ w. ap (λ (z : Module). length (z .messages)) (w .3) ∙ v .4)
+          (λ w. ap (λ (z : Module). length (z .messages)) (w .1) ∙ v .4)
+          (c .if2 .came),
+      ⊎-elim (λ w. follows-set (v .5) (v .3) (omega (arith, c .before .if1 .taken, v .1)) (w .2 .result) (λ n. absurd (n refl)) (ap parts (w .3)) (w .4))
+          (λ w. follows-same (v .5) (ap parts (w .1)) (w .2))
+          (c .if2 .came),
+    )
+
+put-answer-requires : tie.Need-put-answer-requires Inv-loop2 μ-loop2 Inv-loop μ-loop
+put-answer-requires c κs = fits (c .before .before .before .before .before .before .before .before .before .before .before .before .before .before .before .loop .inv .0) (c .before .before .before .before .before .before .before .before .before .before .before .before .before .before .loop-test .taken)
+
+add-i : tie.Need-add-i Inv-loop2 μ-loop2 Inv-loop μ-loop
+add-i c =
+    let loop = c .before .before .before .before .before .before .before .before .before .before .before .before .before .before .before .before .before .loop in
+    let h = fits (loop .inv .0) (c .before .before .before .before .before .before .before .before .before .before .before .before .before .before .before .before .loop-test .taken) in
+    let g : length (c .before .before .before .before .before .before .before .before .before .before .before .before .before .before .before .before .before .before .before .before .before .args .list .now) < 18446744073709551616 = omega (arith, c .before .before .before .before .before .before .before .before .before .before .before .before .before .before .before .before .before .before .before .before .before .good) in
+    record { fits = omega (arith, h, g, loop .inv .0 .size) }
+
+loop-less : tie.Need-loop-less Inv-loop2 μ-loop2 Inv-loop μ-loop
+loop-less c = omega (arith, c .before .before .before .before .before .before .before .before .before .before .before .before .before .before .before .before .loop-test .taken)
+
+loop-again : tie.Need-loop-again Inv-loop2 μ-loop2 Inv-loop μ-loop
+loop-again c =
+    let a = after (c .before .before .before .before .before) in (
+      goes-on (c .before .before .before .before .before .before .before .before .before .before .before .before .before .before .before .before .before .loop .inv .0) (c .before .before .before .before .before .before .before .before .before .before .before .before .before .before .before .before .loop-test .taken) (c .before .before .before .before .before .before .before .before .before .before .before .before .before .before .event-at .ensures) (event-answered (planned (c .before .before .before .before .before .before .before .before .before .before .before .before .before)) a (shown (c .before .before .before .before)) (c .before .before .before .answer-of .ensures)) (a .long) (a .held) (c .before .put-answer .ensures),
+      runs-after (c .before .before .before .before .before) .0,
+    )
+
+same-length : tie.Need-same-length Inv-loop2 μ-loop2 Inv-loop μ-loop
+same-length c = c .before .loop .inv .0 .size
+
+returns : tie.Need-returns Inv-loop2 μ-loop2 Inv-loop μ-loop
+returns c = ends (c .before .loop .inv .0) (c .loop-test .left)
+
+pub run-list-spec : {M : Type 1} → statement M
+run-list-spec =
+    tie.close
+    (tie.spec
+    Inv-loop2
+    μ-loop2
+    Inv-loop
+    μ-loop
+    (λ _ _. tt)
+    loop-holds
+    mul-at
+    event-at-requires
+    (λ _ _. tt)
+    loop2-holds
+    (λ c. search needs)
+    (λ c. search needs)
+    (λ c. search needs)
+    (λ c. search needs)
+    (λ _ _. tt)
+    (λ c. search needs)
+    (λ c. search needs)
+    (λ c. search needs)
+    (λ c. search needs)
+    loop2-less
+    loop2-again
+    (λ c. search needs)
+    (λ c. search needs)
+    (λ c. search needs)
+    (λ _ _. tt)
+    (λ c. search needs)
+    (λ _ _. tt)
+    (λ c. search needs)
+    (λ c. search needs)
+    (λ _ _. tt)
+    (λ c. search needs)
+    (λ c. search needs)
+    (λ _ _. tt)
+    (λ c. search needs)
+    (λ _ _. tt)
+    (λ _ _. tt)
+    (λ _ _. tt)
+    (λ _ _. tt)
+    (λ _ _. tt)
+    (λ _ _. tt)
+    (λ c. search (needs, c .before .before .before .before .before .before .before .before .before .before .if6 .taken))
+    (λ c. search (needs, c .before .before .before .before .before .before .before .before .before .before .if6 .taken))
+    (λ _ _. tt)
+    (λ c. search (needs, c .before .before .before .before .before .before .before .before .before .before .before .if6 .taken))
+    (λ _ _. tt)
+    (λ _ _. tt)
+    (λ _ _. tt)
+    (λ c. search needs)
+    (λ c. search needs)
+    (λ c. search needs)
+    (λ _ _. tt)
+    put-answer-requires
+    add-i
+    loop-less
+    loop-again
+    same-length
+    returns)

@@ -1,0 +1,79 @@
+use mathlib.Core.Logic.{⊎-elim}
+use Rattle.machine.specs.Limits.{processLimit, semaphoreLimit}
+use Rattle.machine.proofs.Bounds.{stored-out, semaphore-out}
+use Rattle.machine.proofs.Lists.{members-of}
+use Prim.Native.Nat.{_-_, _≤_}
+use mathlib.Core.Path.{_≡_, refl, sym, ap}
+use native.Mathlib.Omega.{arith}
+use borrow.Author.Needs.{needs}
+use Rattle.machine.specs.Partition.{applied, noted, waiters}
+use Rattle.partition.proofs.Laws.{left, left-more, left-done, stored-at, semaphore-at, slot-out}
+use Rattle.partition.proofs.change.Statement.{statement}
+use Rattle.partition.proofs.change.Tie as tie
+
+abbrev Inv-loop : tie.InvT-loop
+Inv-loop b q₀ c₀ n₀ q c n = (n ≤ 2) × (left n c b q ≡ applied b (applied c₀ q₀))
+
+abbrev μ-loop : tie.MeasureT-loop
+μ-loop b q₀ c₀ n₀ q c n = 2 - n
+
+loop-holds : tie.Need-loop-holds Inv-loop μ-loop
+loop-holds c = (omega arith, refl)
+
+loop-again : tie.Need-loop-again Inv-loop μ-loop
+loop-again c =
+    let l = c .before .before .loop in
+    let q = l .q in
+    let same : c .match .q ≡ applied (l .c) q =
+    ⊎-elim (λ w. rw (w .2, w .1 .given .1))
+    (⊎-elim (λ w. rw (w .10, w .1 .given .1) (stored-at _ _ q _ (w .3 .ensures) _ _ (w .4 .taken) (w .7 .ensures) (w .9 .ensures)))
+    (⊎-elim (λ w. rw (w .5, w .1 .given .1) (sym (stored-out _ _ q (slot-out processLimit (w .1 .given .0 .0) _ (w .3 .ensures) (w .4 .left)))))
+    (⊎-elim (λ w. rw (w .4, w .1 .given .1) (w .3 .ensures))
+    (⊎-elim (λ w. rw (w .4, w .1 .given .1) (w .3 .ensures))
+    (⊎-elim (λ w. rw (w .6, w .1 .given .1) (semaphore-at _ _ q _ _ (w .3 .ensures) (w .4 .taken) (w .5 .ensures)))
+    (⊎-elim (λ w. rw (w .5, w .1 .given .1) (sym (semaphore-out _ _ q (slot-out semaphoreLimit (w .1 .given .0 .0) _ (w .3 .ensures) (w .4 .left)))))
+    (⊎-elim (λ w. rw (w .4, w .1 .given .1) (w .3 .ensures))
+    (⊎-elim (λ w. rw (w .5, w .1 .given .1, w .4 .ensures, members-of (w .3 .result) (waiters (w .1 .given .0 .0) q) (w .3 .ensures)))
+    (λ w. rw (w .4, w .1 .given .1) (w .3 .ensures)))))))))) (c .match .came) in
+    (omega arith, left-more (l .n) (l .c) (c .before .before .before .args .b) q (c .match .q) _ (omega arith) same (l .inv .1))
+
+returns : tie.Need-returns Inv-loop μ-loop
+returns c = rw (c .soonest-of .ensures) (ap noted (left-done (c .before .before .loop .n) (c .before .before .loop .c) (c .before .before .before .args .b) (c .before .before .loop .q) _ (omega arith) (c .before .before .loop .inv .1)))
+
+pub change-spec : {M : Type 1} → statement M
+change-spec =
+    tie.close
+    (tie.spec
+    Inv-loop
+    μ-loop
+    loop-holds
+    (λ c. search needs)
+    (λ c. search needs)
+    (λ c κs. tt)
+    (λ c. search needs)
+    (λ c. search needs)
+    (λ c. search needs)
+    (λ c. search needs)
+    (λ c κs. search needs)
+    (λ c κs. search needs)
+    (λ c. search needs)
+    (λ c κs. tt)
+    (λ c. search needs)
+    (λ c κs. tt)
+    (λ c. search needs)
+    (λ c κs. tt)
+    (λ c. search needs)
+    (λ c. search needs)
+    (λ c κs. search needs)
+    (λ c. search needs)
+    (λ c κs. tt)
+    (λ c. search needs)
+    (λ c κs. tt)
+    (λ c κs. tt)
+    (λ c. search needs)
+    (λ c κs. tt)
+    (λ c. omega arith)
+    (λ c. omega arith)
+    loop-again
+    (λ c κs. tt)
+    returns)

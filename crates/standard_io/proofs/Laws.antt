@@ -93,3 +93,9 @@ module _ (s : Stream) (out : List ℕ) (a : Advance) (went : a ≡ advanceOf (fi
         ∙ ap (λ (x : Stream). closed x .stream .place .executive .inner) (h .is)
         ∙ stream-record (h .read);
   }
+
+-- between two reads: the stream so far, and two buffers of one size
+pub record Reading (s : Stream) (input₀ out₀ input out : List ℕ) : Type 0 where
+  pub read : ReadOn begun s
+  pub size-in : length input ≡ length input₀
+  pub size-out : length out ≡ length out₀

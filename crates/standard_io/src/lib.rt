@@ -51,21 +51,20 @@ fn goes_on(written: bool, ended: bool) -> bool {
     written && !ended
 }
 
-// Reads once.
-fn read_some(s: Stream, prints: bool) -> Turn
+// Reads once, into a buffer that is lent, as the one printed into is: a buffer made here would be cleared each time.
+fn read_some(s: Stream, prints: bool, input: &mut [u8], out: &mut [u8]) -> Turn
+    requires { ⌜ lineLength ≤ length (now out) ⌝ }
     ensures { λ r. ⌜ ReadOn s (r .stream) ⌝ }
 {
-    let mut input = io::large_buffer();
-    let mut out = io::large_buffer();
-    let got = libc::read(STDIN_FILENO, &mut input);
-    let n = io::count(got, &input);
+    let got = libc::read(STDIN_FILENO, input);
+    let n = io::count(got, input);
     if n == 0 {
         return Turn {
             stream: s,
             more: false,
         };
     }
-    let t = print_chunk(s, &input[..n], &mut out, prints);
+    let t = print_chunk(s, &input[..n], out, prints);
     let stream = t.stream;
     let more = goes_on(t.more, stream.is_ended());
     Turn { stream, more }
@@ -77,9 +76,11 @@ fn read_all(prints: bool) -> Stream
     ensures { λ s. ⌜ ReadOn begun s ⌝ }
 {
     let mut stream = Stream::begin();
+    let mut input = io::large_buffer();
+    let mut out = io::large_buffer();
     let mut turns = u64::MAX;
     while turns > 0 {
-        let t = read_some(stream, prints);
+        let t = read_some(stream, prints, &mut input, &mut out);
         let next = t.stream;
         stream = next;
         if !t.more {

@@ -6,9 +6,6 @@ use Rattle.standard_io.proofs.read_some.Tie as tie
 returns : tie.Need-returns
 returns c = none-read _
 
-returns-2 : tie.Need-returns-2
-returns-2 c = record { read = _; is = c .before .before .before .before .print-chunk .ensures }
-
 pub read-some-spec : {M : Type 1} → statement M
 read-some-spec =
     tie.close
@@ -16,14 +13,12 @@ read-some-spec =
     (λ c κs. search needs)
     (λ c κs. search needs)
     (λ c. search needs)
-    (λ c κs. search needs)
-    (λ c. search needs)
-    (λ c κs. search needs)
     returns
     (λ c. search needs)
     (λ c. search needs)
+    (λ c κs. search needs)
+    (λ c κs. search needs)
+    (λ c κs. search needs)
     (λ c. search needs)
-    (λ c κs. search needs)
-    (λ c κs. search needs)
-    (λ c κs. search needs)
-    returns-2)
+    (λ c. search needs)
+    (λ c. search needs))

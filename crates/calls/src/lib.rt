@@ -39,7 +39,7 @@ pub const SET_MODE_FIELDS: u8 = 1;
 pub fn set_mode(p: Partition, c: Context, a: Field) -> Decision
     ensures { λ r. ⌜ r ≡ setMode c a p ⌝ }
 {
-    if !fields::is_between(a, 0, 3) {
+    if !fields::is_between(a, 0, Module::MODE) {
         return Decision::Refused(3);
     }
     if fields::is_number(a, 3) {

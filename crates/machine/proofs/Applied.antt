@@ -15,12 +15,12 @@ use Rattle.machine.specs.declared.Module.{Module}
 use Rattle.machine.specs.declared.Partition.{Partition}
 use Rattle.machine.specs.declared.Port.{Port}
 use Rattle.machine.specs.declared.Request.{Request}
-use Rattle.machine.specs.Limits.{channelLimit}
+use Rattle.machine.specs.Limits.{channelLimit, callLimit}
 use Rattle.machine.specs.Partition.{partitionAfter}
 use Rattle.machine.specs.Decisions.{changes, restarts, writtenAt, messageOf}
 use Rattle.machine.specs.Module.{part, withPart, withMessages, withMessage}
 use Rattle.machine.specs.Channels.{erasedTo}
-use Rattle.machine.specs.Services.{Service, services, noService, serviceOf, lastCall, callDecision, called}
+use Rattle.machine.specs.Services.{Service, services, noService, serviceOf, callDecision, called}
 use Rattle.machine.specs.Step.{moduleAfter}
 use Rattle.machine.proofs.Tests.{by-test, by-checks, and-left, and-right, not-both}
 use Rattle.machine.proofs.Bounds.{either}
@@ -49,19 +49,19 @@ body-no-tick x n (Restarted mode) h = tt
 body-no-tick x n (Written i y) h = tt
 
 -- another number is no call
-pub no-service : (n : ℕ) → (1 ≤ n → n ≤ lastCall → ⊥) → serviceOf n ≡ noService
+pub no-service : (n : ℕ) → (1 ≤ n → n ≤ callLimit → ⊥) → serviceOf n ≡ noService
 unfolding services
 no-service n out = by-test (λ (s : Service). s ≡ noService) (eqb n 0) (λ _. refl)
     (λ z. List·getD-eq-default services noService (past n (eqb-false n 0 z) out))
   where
-    past : (n : ℕ) → (n ≡ 0 → ⊥) → (1 ≤ n → n ≤ lastCall → ⊥) → lastCall ≤ n - 1
-    past n some out = either (leb n lastCall) (λ e. absurd (out (omega (arith, some)) (leb-true n lastCall e))) (λ e. let h = leb-false n lastCall e in omega arith)
+    past : (n : ℕ) → (n ≡ 0 → ⊥) → (1 ≤ n → n ≤ callLimit → ⊥) → callLimit ≤ n - 1
+    past n some out = either (leb n callLimit) (λ e. absurd (out (omega (arith, some)) (leb-true n callLimit e))) (λ e. let h = leb-false n callLimit e in omega arith)
 
 pub called-no-tick : (c : Context) (x : Port) (n : ℕ) (r : Request) (p : Partition) → Call (called c x n r p)
 unfolding callDecision
-called-no-tick c x n r p = by-checks Call Refused _ _ (λ m. record { is = tt }) (λ _. either (leb 1 n && leb n lastCall)
-    (λ e. record { is = body-no-tick x n (callDecision c x n r p) (call-body x n c r p (leb-true 1 n (and-left (leb 1 n) _ e)) (leb-true n lastCall (and-right (leb 1 n) _ e)) .is) })
-    (λ e. subst (λ (s : Service). Call (s .decides c x r p)) (sym (no-service n (λ lo hi. not-both _ (rw (le-leb 1 n lo, le-leb n lastCall hi)) e))) (record { is = tt })))
+called-no-tick c x n r p = by-checks Call Refused _ _ (λ m. record { is = tt }) (λ _. either (leb 1 n && leb n callLimit)
+    (λ e. record { is = body-no-tick x n (callDecision c x n r p) (call-body x n c r p (leb-true 1 n (and-left (leb 1 n) _ e)) (leb-true n callLimit (and-right (leb 1 n) _ e)) .is) })
+    (λ e. subst (λ (s : Service). Call (s .decides c x r p)) (sym (no-service n (λ lo hi. not-both _ (rw (le-leb 1 n lo, le-leb n callLimit hi)) e))) (record { is = tt })))
 
 set-past : {A : Type 0} (l : List A) (i : ℕ) (a : A) → length l ≤ i → set l i a ≡ l
 set-past [] i a h = refl

@@ -19,7 +19,8 @@ use Rattle.machine.specs.Decisions.{checked, replyOf, blocked, startMode
 use Rattle.machine.specs.Calls.{setMode, createProcess, start, stop, stopSelf, suspend, suspendSelf, timedWait, periodicWait, resume, setPriority, getStatus}
 use Rattle.machine.specs.Objects.{createSemaphore, waitSemaphore, signal, createEvent, setEvent, resetEvent, waitEvent}
 use Rattle.machine.specs.Channels.{channelChecks, write, read}
-use Rattle.machine.specs.Services.{lastCall, callDecision}
+use Rattle.machine.specs.Services.{callDecision}
+use Rattle.machine.specs.Limits.{callLimit}
 use Rattle.machine.proofs.Tests.{by-test, by-codes, codesIn, Passed}
 use Rattle.machine.proofs.Dispatch.{by-call}
 
@@ -66,7 +67,7 @@ module _ (x : Port) (n : ℕ) where
       in-body _ _ h (λ _. by-test (Body x n) b (λ _. f) (λ _. in-body _ _ refl (λ _. fine tt)))
 
   -- the body of each call
-  pub call-body : (c : Context) (r : Request) (p : Partition) → 1 ≤ n → n ≤ lastCall → Body x n (callDecision c x n r p)
+  pub call-body : (c : Context) (r : Request) (p : Partition) → 1 ≤ n → n ≤ callLimit → Body x n (callDecision c x n r p)
   unfolding setMode createProcess start stop stopSelf suspend suspendSelf timedWait periodicWait resume setPriority getStatus createSemaphore createEvent blocked waitSemaphore waitEvent signal setEvent resetEvent write read channelChecks Passed
   call-body c r p lo hi =
       by-call c x n r p (Body x n)

@@ -17,7 +17,7 @@ use Rattle.machine.specs.declared.Decision.{Decision}
 use Rattle.machine.specs.declared.Decision.the-variants.{Refused, Unchanged, Ticked, Blocked, Changed, Restarted, Written}
 use Rattle.machine.specs.declared.Module.{Module}
 use Rattle.machine.specs.Fields.{numberOf}
-use Rattle.machine.specs.Limits.{channelLimit, timeLimit}
+use Rattle.machine.specs.Limits.{channelLimit, timeLimit, callLimit}
 use Rattle.machine.specs.Partition.{partitionAfter}
 use Rattle.machine.specs.Module.{part, current, withPart, withMessage}
 use Rattle.machine.specs.Ticks.{tickModule}
@@ -25,7 +25,7 @@ use Rattle.machine.specs.Channels.{erasedTo, portOf, write, read}
 use Rattle.machine.specs.Calls.{setMode, createProcess, start, stop, stopSelf, suspend, suspendSelf, timedWait, periodicWait, resume, setPriority, getStatus}
 use Rattle.machine.specs.Objects.{createSemaphore, createEvent, waitSemaphore, waitEvent, signal, setEvent, resetEvent}
 use Rattle.machine.specs.Decisions.{checked}
-use Rattle.machine.specs.Services.{Service, services, noService, lastCall, callDecision}
+use Rattle.machine.specs.Services.{Service, services, noService, callDecision}
 use Rattle.machine.specs.Places.{malformed, noCaller, ticks}
 use Rattle.machine.specs.Step.{contextOf, decision, moduleAfter}
 use Rattle.machine.proofs.Tests.{by-test, by-checks, by-codes, Passed}
@@ -65,12 +65,12 @@ module _ (c : Context) (x : Port) (n : ℕ) (r : Request) (p : Partition) (P : D
     (f20 : P (waitEvent c (numberOf (r .a)) (r .b) p))
     (f21 : n ≡ 21 → P (write c x (r .b)))
     (f22 : P (read c x))
-    (other : (1 ≤ n → n ≤ lastCall → ⊥) → P (Refused 13)) where
+    (other : (1 ≤ n → n ≤ callLimit → ⊥) → P (Refused 13)) where
   each : Each (λ j (s : Service). n ≡ j → P (s .decides c x r p)) 1 services
   unfolding Each services
   each = (λ _. f1, (λ _. f2, (λ _. f3, (λ _. f4, (λ _. f5, (λ _. f6, (λ _. f7, (λ _. f8, (λ _. f9, (λ _. f10, (λ _. f11, (λ _. f12, (λ _. f13, (λ _. f14, (λ _. f15, (λ _. f16, (λ _. f17, (λ _. f18, (λ _. f19, (λ _. f20, (f21, (λ _. f22, tt))))))))))))))))))))))
 
-  all : length services ≡ lastCall
+  all : length services ≡ callLimit
   unfolding services
   all = refl
 

@@ -18,11 +18,11 @@ use Rattle.machine.specs.declared.Request.{Request}
 use Rattle.machine.specs.declared.EventRecord.{EventRecord}
 use Rattle.machine.specs.declared.Decision.{Decision}
 use Rattle.machine.specs.declared.Decision.the-variants.{Refused, Unchanged, Ticked, Blocked, Changed, Restarted, Written}
-use Rattle.machine.specs.Limits.{greatestTime, channelLimit}
+use Rattle.machine.specs.Limits.{greatestTime, channelLimit, callLimit}
 use Rattle.machine.specs.Fields.{field, requestOf, isNumber, between, numberOf}
 use Rattle.machine.specs.Partition.{running, partitionAfter}
 use Rattle.machine.specs.Decisions.{checked, replyOf}
-use Rattle.machine.specs.Services.{lastCall, callDecision}
+use Rattle.machine.specs.Services.{callDecision}
 use Rattle.machine.specs.Windows as Wi
 use Rattle.machine.specs.Module as M
 use Rattle.machine.specs.Ticks as Ti
@@ -79,7 +79,7 @@ tick-common S T e q z =
     let q₂ = or-right (eqb (T .size) 0) _ q in
     let p : isNumber 0 (field (e .partition)) ≡ true = between-zero (T .size) (field (e .partition)) (not-false _ (or-left (not (between 0 (T .size) (r .partition))) _ q₂)) z in
     let q₃ = or-right (not (between 0 (T .size) (r .partition))) _ q₂ in
-    let q₄ = or-right (not (between 0 lastCall (r .call))) _ q₃ in
+    let q₄ = or-right (not (between 0 callLimit (r .call))) _ q₃ in
     let o : not (isNumber 0 (r .call)) ≡ false = rw p at (or-left (Pl.oneZero r) _ q₄) in
     rw (zero-number (e .partition) p, zero-number (e .call) (not-false _ o))
 

@@ -27,7 +27,7 @@ use Rattle.machine.specs.declared.Wait.{Wait}
 use Rattle.machine.specs.declared.Wait.the-variants.{Timed, Semaphore, Event}
 use Rattle.machine.specs.declared.Time.{Time}
 use Rattle.machine.specs.declared.Time.the-variants.{Never, At}
-use Rattle.machine.specs.Limits.{processLimit, semaphoreLimit, eventLimit, nameLimit, priorityLimit, valueLimit, durationLimit, timeLimit, frameLimit, numberLimit, greatestValue}
+use Rattle.machine.specs.Limits.{processLimit, semaphoreLimit, eventLimit, nameLimit, priorityLimit, valueLimit, modeLimit, durationLimit, timeLimit, frameLimit, numberLimit, greatestValue}
 use Rattle.machine.specs.Ids.{members}
 use Rattle.machine.specs.Fields.{isNumber, between, isDuration, isMinusOne, isTimeout, isName, numberOf, timeOf}
 use Rattle.machine.specs.Process.{Class, classOf, createdProcess, blankProcess, later, object, onObject, periodic, ready, waitEnded, withCurrent, waitingFor, entered, ticked}
@@ -61,7 +61,7 @@ tick-valid frame t p v = by-test (Valid frame (t + 1)) (normalMode p)
     })
 
 -- ---------------------------------------------------------------- nothing created
-pub nothing-valid : (frame t mode : ℕ) → mode ≤ 3 → Valid frame t (nothingCreated mode)
+pub nothing-valid : (frame t mode : ℕ) → mode ≤ modeLimit → Valid frame t (nothingCreated mode)
 unfolding contains Distinct
 nothing-valid frame t mode h = record {
   mode = h;
@@ -307,7 +307,7 @@ module _ (c : Context) (p : Partition) (v : Valid (c .frame) (c .time) p) (k : S
   unfolding setMode Passed
   set-mode-sound a = by-checks (Sound c p) Refused _ _ (λ n. record { is = tt }) (λ h. by-test (Sound c p) (isNumber 3 a)
       (λ e. record { is = ((refl, rw e at (h .1 .0)), tt, omega arith) })
-      (λ e. record { is = in-limits 0 3 a (not-false _ (h .0)) .1 }))
+      (λ e. record { is = in-limits 0 modeLimit a (not-false _ (h .0)) .1 }))
 
   pub create-process-sound : (r : Request) → Sound c p (createProcess c r p)
   unfolding createProcess Passed

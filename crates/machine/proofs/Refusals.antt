@@ -15,10 +15,10 @@ use Rattle.machine.specs.declared.Event.{Event}
 use Rattle.machine.specs.declared.Request.{Request}
 use Rattle.machine.specs.declared.Decision.{Decision}
 use Rattle.machine.specs.declared.Decision.the-variants.{Refused, Unchanged, Ticked, Blocked, Changed, Restarted, Written}
-use Rattle.machine.specs.Limits.{timeLimit}
+use Rattle.machine.specs.Limits.{timeLimit, callLimit}
 use Rattle.machine.specs.Fields.{requestOf, isNumber, between, numberOf}
 use Rattle.machine.specs.Decisions.{checked, replyOf}
-use Rattle.machine.specs.Services.{lastCall, callDecision}
+use Rattle.machine.specs.Services.{callDecision}
 use Rattle.machine.specs.Module as M
 use Rattle.machine.specs.Places as Pl
 use Rattle.machine.specs.Channels as Ch
@@ -73,21 +73,21 @@ places-of false false e true false y h =
     record { thirteen = above-seven (replyOf y .code) 13 l refl; ten = above-seven (replyOf y .code) 10 l refl; eight = above-seven (replyOf y .code) 8 l refl; nine = above-seven (replyOf y .code) 9 l refl }
 
 -- an event that is not malformed and whose partition is not 0 names a call 1 to 22
-named-call : (size : ℕ) (p c : Field) → between 0 size p ≡ true → between 0 lastCall c ≡ true → eqb (numberOf p) 0 ≡ false → cond (isNumber 0 p) (not (isNumber 0 c)) (isNumber 0 c) ≡ false → (1 ≤ numberOf c) × (numberOf c ≤ lastCall)
+named-call : (size : ℕ) (p c : Field) → between 0 size p ≡ true → between 0 callLimit c ≡ true → eqb (numberOf p) 0 ≡ false → cond (isNumber 0 p) (not (isNumber 0 c)) (isNumber 0 c) ≡ false → (1 ≤ numberOf c) × (numberOf c ≤ callLimit)
 named-call size (Number k) (Number n) hp hc z o =
     let d = eqb-false n 0 (rw z at o) in
-    (omega arith, leb-true n lastCall (and-right (leb 0 n) (leb n lastCall) hc))
+    (omega arith, leb-true n callLimit (and-right (leb 0 n) (leb n callLimit) hc))
 named-call size (Number k) MinusOne hp hc z o = absurd (true≢false (sym hc))
 named-call size (Number k) Other hp hc z o = absurd (true≢false (sym hc))
 named-call size MinusOne c hp hc z o = absurd (true≢false (sym hp))
 named-call size Other c hp hc z o = absurd (true≢false (sym hp))
 
-pub call-in-range : (T : Table) (r : Request) → Pl.malformed T r ≡ false → eqb (numberOf (r .partition)) 0 ≡ false → (1 ≤ numberOf (r .call)) × (numberOf (r .call) ≤ lastCall)
+pub call-in-range : (T : Table) (r : Request) → Pl.malformed T r ≡ false → eqb (numberOf (r .partition)) 0 ≡ false → (1 ≤ numberOf (r .call)) × (numberOf (r .call) ≤ callLimit)
 call-in-range T r q z =
     let q₂ = or-right (eqb (T .size) 0) _ q in
     let q₃ = or-right (not (between 0 (T .size) (r .partition))) _ q₂ in
-    let q₄ = or-right (not (between 0 lastCall (r .call))) _ q₃ in
-    named-call (T .size) (r .partition) (r .call) (not-false _ (or-left (not (between 0 (T .size) (r .partition))) _ q₂)) (not-false _ (or-left (not (between 0 lastCall (r .call))) _ q₃)) z (or-left (Pl.oneZero r) _ q₄)
+    let q₄ = or-right (not (between 0 callLimit (r .call))) _ q₃ in
+    named-call (T .size) (r .partition) (r .call) (not-false _ (or-left (not (between 0 (T .size) (r .partition))) _ q₂)) (not-false _ (or-left (not (between 0 callLimit (r .call))) _ q₃)) z (or-left (Pl.oneZero r) _ q₄)
 
 -- Law 1, the places: for every record and every event.
 pub places : (m : Module) (e : Event)

@@ -14,7 +14,7 @@ use Rattle.machine.specs.declared.Wait.the-variants.{None}
 use Rattle.machine.specs.declared.Time.{Time}
 use Rattle.machine.specs.declared.Time.the-variants.{Never, At}
 use Rattle.machine.specs.Limits.{priorityLimit, durationLimit, timeLimit, frameLimit, greatestTime}
-use Rattle.machine.specs.Process.{Class, classOf, objectIn, forNothing, createdProcess, capped, later, due, isNever, periodic, onObject, object, waitsForNothing, waitsForNormal, ready, withDeadline, waitEnded, withSuspended, withCurrent, waitingFor, suspendedUntil, woken, expired, ticked, begun, startRule, startedEarly, entered, stopped, resumed, nextRelease}
+use Rattle.machine.specs.Process.{Class, classOf, objectIn, forNothing, createdProcess, capped, later, due, isNever, periodic, onObject, object, waitsForNothing, waitsForNormal, ready, withDeadline, waitEnded, withSuspended, withCurrent, waitingFor, suspendedUntil, onlyMarked, woken, expired, ticked, begun, startRule, startedEarly, entered, stopped, resumed, nextRelease}
 use Rattle.machine.specs.Valid.{Between, latestWake, latestDeadline, AtMost, NotAfter, Ahead, Timeout, SoundPeriod, Below, SoundCapacity, SoundGiven, Timeless, Bounded, Dormant, Early, KnownWait, SoundWake, Released, SoundRelease, Setting, setting, Going, Lasting, LastingIn, SoundCode, SoundMark, SoundProcess}
 use Rattle.machine.proofs.Tests.{by-test, not-both}
 use Rattle.machine.proofs.Bounds.{either, not-so, so, and-true-parts}
@@ -385,7 +385,7 @@ woken-sound frame t a normal n x h =
     let e = so (x .started) (λ d. not-both _ k (ap (due (t + 1)) (h .dormant d .times .wake))) in
     let g = h .going e n in
     let r = release-ended t (x .given .period) (x .suspended) (classOf (x .wait)) (x .times .release) (x .times .wake) (g .release) (g .wake) k in
-    by-test (SoundProcess s) (waitsForNothing (x .wait))
+    by-test (SoundProcess s) (onlyMarked x)
     (λ _. as-going s _ (h .lasting) (inr refl) (and-false (periodic x)) e n (record { wait = tt; wake = refl; release = r; deadline = g .deadline }))
     (λ _. as-going s _ (h .lasting) (by-test SoundCode (onObject x) (λ _. inr refl) (λ _. inl refl)) (h .mark) e n (record { wait = tt; wake = none-wake (t + 1) (x .suspended) (x .times .release); release = r; deadline = g .deadline })))
     (λ k. record {

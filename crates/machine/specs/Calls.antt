@@ -17,18 +17,18 @@ use Rattle.machine.specs.declared.Wait.the-variants.{Timed}
 use Rattle.machine.specs.declared.Time.{Time}
 use Rattle.machine.specs.declared.Time.the-variants.{Never, At}
 use Rattle.machine.specs.declared.Field.{Field}
-use Rattle.machine.specs.Limits.{processLimit, priorityLimit, durationLimit}
+use Rattle.machine.specs.Limits.{processLimit, priorityLimit, modeLimit, durationLimit}
 use Rattle.machine.specs.Fields.{isNumber, between, isDuration, isMinusOne, isTimeout, isName, numberOf, timeOf}
 use Rattle.machine.specs.Process.{createdProcess, later, periodic, ready, withSuspended, withCurrent, waitingFor, suspendedUntil, startRule, startedEarly, stopped, resumed, nextRelease}
 use Rattle.machine.specs.Partition.{normalMode, process}
 use Rattle.machine.specs.Decisions.{checked, changed, unchanged, blocked, unknown, startMode, dormant, nameTaken, creationChecks}
 
 -- 1 SET_PARTITION_MODE a. 3: not 0..3. 1: 3 in NORMAL. 5: 2 in COLD_START. 5: 3 with no process. Modes 0, 1, 2: mode set; processes,
--- semaphores, events erased (the messages by `restarted`, in Module).
+-- semaphores, events erased (the messages by `moduleAfter`, in Step).
 unfoldable pub setMode : Context → Field → Partition → Decision
 setMode c a p =
     checked Refused
-    ((not (between 0 3 a), 3)
+    ((not (between 0 modeLimit a), 3)
     ∷ (isNumber 3 a && normalMode p, 1)
     ∷ (isNumber 2 a && eqb (p .mode) 1, 5)
     ∷ (isNumber 3 a && eqb (p .processCount) 0, 5)

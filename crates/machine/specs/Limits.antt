@@ -25,6 +25,14 @@ priorityLimit = 239
 abbrev pub valueLimit : ℕ
 valueLimit = 32767
 
+-- Module::MODE
+abbrev pub modeLimit : ℕ
+modeLimit = 3
+
+-- Module::CALL
+abbrev pub callLimit : ℕ
+callLimit = 22
+
 -- Module::DURATION
 abbrev pub durationLimit : ℕ
 durationLimit = 9999999

@@ -6,11 +6,11 @@ use lib.Dec.{leb, ltb, eqb}
 use Rattle.machine.specs.declared.Partition.{Partition}
 use Rattle.machine.specs.declared.Request.{Request}
 use Rattle.machine.specs.declared.Table.{Table}
-use Rattle.machine.specs.Limits.{timeLimit}
+use Rattle.machine.specs.Limits.{timeLimit, callLimit}
 use Rattle.machine.specs.Fields.{isNumber, between, numberOf}
 use Rattle.machine.specs.Partition.{running}
 use Rattle.machine.specs.Decisions.{noCallerAs}
-use Rattle.machine.specs.Services.{serviceOf, lastCall}
+use Rattle.machine.specs.Services.{serviceOf}
 
 -- an unused field not 0
 unfoldable pub strayField : ℕ → Request → Bool
@@ -29,7 +29,7 @@ abbrev pub malformed : Table → Request → Bool
 malformed T r =
     eqb (T .size) 0
     || (not (between 0 (T .size) (r .partition))
-    || (not (between 0 lastCall (r .call))
+    || (not (between 0 callLimit (r .call))
     || (oneZero r
     || strayField (serviceOf (numberOf (r .call)) .fields) r)))
 

@@ -139,13 +139,17 @@ waitingFor w until x = record { given = x .given; times = withWake until (x .tim
 abbrev pub suspendedUntil : Time → Process → Process
 suspendedUntil until x = record { given = x .given; times = withWake until (x .times); current = x .current; suspended = true; missed = x .missed; code = x .code; started = x .started; wait = x .wait }
 
+-- it had no wait but the mark
+abbrev pub onlyMarked : Process → Bool
+onlyMarked x = waitsForNothing (x .wait) && x .suspended
+
 -- if w is not −1 and w ≤ t, the wait ends (w −1); semaphore and event waiters leave their queue with wake code 6, others get 0, and a
 -- suspended mark stays; a process that had no wait but the mark loses the mark instead, wake code 6, w −1. (A process with
--- neither, which no run reaches, has only w and the wake code set.)
+-- neither, which no run reaches, has w −1 and wake code 0.)
 unfoldable pub woken : ℕ → Process → Process
 woken t x =
     cond (due t (x .times .wake))
-    (cond (waitsForNothing (x .wait))
+    (cond (onlyMarked x)
     (withSuspended false (waitEnded 6 x))
     (waitEnded (cond (onObject x) 6 0) x))
     x

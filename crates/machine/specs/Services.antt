@@ -60,10 +60,6 @@ noService = service 0 (λ c x r p. Refused 13)
 abbrev pub serviceOf : ℕ → Service
 serviceOf n = cond (eqb n 0) noService (getD services (n - 1) noService)
 
--- 13's upper limit
-abbrev pub lastCall : ℕ
-lastCall = 22
-
 unfoldable pub callDecision : Context → Port → ℕ → Request → Partition → Decision
 callDecision c x n r p = serviceOf n .decides c x r p
 

@@ -31,7 +31,7 @@ use Rattle.machine.specs.declared.Message.{Message}
 use Rattle.machine.specs.declared.Module.{Module}
 use Rattle.machine.specs.declared.Event.{Event as EventT}
 use Rattle.machine.specs.declared.Answer.{Answer}
-use Rattle.machine.specs.Limits.{processLimit, semaphoreLimit, eventLimit, nameLimit, priorityLimit, valueLimit, durationLimit, timeLimit, frameLimit, partitionLimit, windowLimit, channelLimit, numberLimit}
+use Rattle.machine.specs.Limits.{processLimit, semaphoreLimit, eventLimit, nameLimit, priorityLimit, valueLimit, modeLimit, durationLimit, timeLimit, frameLimit, partitionLimit, windowLimit, channelLimit, numberLimit}
 use Rattle.machine.specs.Ids.{members, idsOf}
 use Rattle.machine.specs.Process.{Class, classOf, blankProcess, createdProcess, isNever, periodic, ready, onObject}
 use Rattle.machine.specs.Partition.{normalMode, byId, noSemaphore, noEvent, process, running, tickPartition, applied, soonestOf}
@@ -259,7 +259,7 @@ abbrev pub settingOf : ℕ → ℕ → Partition → Setting
 settingOf frame t p = setting frame t (normalMode p) (counted (p .semaphoreCount) (p .eventCount))
 
 pub record Valid (frame t : ℕ) (p : Partition) : Type 0 where
-  pub mode : p .mode ≤ 3
+  pub mode : p .mode ≤ modeLimit
   pub lists : ListedIn p
   pub objects : ObjectsIn p
   pub eachProcess : (id : ℕ) → Between 1 (p .processCount) id → SoundProcess (settingOf frame t p) (process id p)
@@ -311,7 +311,7 @@ SoundDecision c p (Unchanged value extra) = SoundValue value extra
 SoundDecision c p Ticked = Unit {0}
 SoundDecision c p (Blocked id x) = SoundChange c p (Stored id x)
 SoundDecision c p (Changed a b value) = SoundChange c p a × SoundChange c (applied a p) b × (value ≤ numberLimit)
-SoundDecision c p (Restarted mode) = mode ≤ 3
+SoundDecision c p (Restarted mode) = mode ≤ modeLimit
 SoundDecision c p (Written i x) = SoundMessage (c .time) x
 
 -- the running process id: READY, every member of the arrival list before it of smaller current priority, every one after it of none greater

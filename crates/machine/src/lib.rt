@@ -285,6 +285,10 @@ impl Module {
     pub const PRIORITY: u32 = 239;
     // A semaphore's max is 1 to this.
     pub const VALUE: u32 = 32767;
+    // Modes are 0 to this.
+    pub const MODE: u32 = 3;
+    // Calls are 1 to this.
+    pub const CALL: u32 = 22;
     // D: 0 to this.
     pub const DURATION: u32 = 9999999;
     // Time ends here.

@@ -16,9 +16,6 @@ pub struct Placed {
     pub time: u32,
 }
 
-// The greatest number of a call.
-const LAST_CALL: u32 = 22;
-
 // Whether a field that is not among the used ones is not 0.
 fn is_stray_at(used: u8, place: u8, f: Field) -> bool
     ensures { λ b. ⌜ b ≡ (ltb used place && not (isNumber 0 f)) ⌝ }
@@ -75,7 +72,7 @@ fn is_malformed(table: Table, r: Request) -> bool
     if !fields::is_between(partition, 0, size) {
         return true;
     }
-    if !fields::is_between(call, 0, LAST_CALL) {
+    if !fields::is_between(call, 0, Module::CALL) {
         return true;
     }
     if has_one_zero(r) {

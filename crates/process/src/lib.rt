@@ -1,7 +1,7 @@
 // A process by itself: times, waits, and what each rule makes of its record.
 ghost use mathlib.Core.Path.{_≡_};
 ghost use mathlib.Core.Bool.{cond};
-ghost use Rattle.machine.specs.Process.{createdProcess, capped, later, due, isNever, periodic, object, onObject, waitsForNothing, waitsForNormal, ready, withWake, withDeadline, withDelay, releasedAt, waitEnded, withSuspended, withCurrent, waitingFor, suspendedUntil, woken, deadlineMissed, expired, ticked, begun, startedAperiodic, startedPeriodic, startRule, startedEarly, entered, stopped, resumed, waitingForRelease};
+ghost use Rattle.machine.specs.Process.{createdProcess, capped, later, due, isNever, periodic, object, onObject, waitsForNothing, waitsForNormal, ready, withWake, withDeadline, withDelay, releasedAt, waitEnded, withSuspended, withCurrent, waitingFor, suspendedUntil, onlyMarked, woken, deadlineMissed, expired, ticked, begun, startedAperiodic, startedPeriodic, startRule, startedEarly, entered, stopped, resumed, waitingForRelease};
 ghost use Rattle.machine.specs.Partition.{sooner};
 ghost use Rattle.machine.specs.Calls.{reaches};
 use machine::Context;
@@ -207,15 +207,26 @@ fn timeout_code(x: Process) -> u8
     if is_on_object(x) { 6 } else { 0 }
 }
 
+// Whether a process has no wait, but the suspended mark.
+fn is_only_marked(x: Process) -> bool
+    ensures { λ r. ⌜ r ≡ onlyMarked x ⌝ }
+{
+    let wait = x.wait;
+    if waits_for_nothing(wait) {
+        x.suspended
+    } else {
+        false
+    }
+}
+
 // The wake time has come: a wait ends, a suspension without a wait ends.
 pub fn wake(x: Process, t: u32) -> Process
     ensures { λ r. ⌜ r ≡ woken t x ⌝ }
 {
     let times = x.times;
     let wake = times.wake;
-    let wait = x.wait;
     if is_due(wake, t) {
-        if waits_for_nothing(wait) {
+        if is_only_marked(x) {
             return with_suspended(wait_ended(x, 6), false);
         }
         return wait_ended(x, timeout_code(x));

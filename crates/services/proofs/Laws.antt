@@ -2,7 +2,8 @@
 use Prim.Native.Nat.{ℕ, zero, suc, _≤_, _<_}
 use mathlib.Core.Path.{_≡_}
 use native.Mathlib.Omega.{arith}
-use Rattle.machine.specs.Services.{lastCall, noService, serviceOf}
+use Rattle.machine.specs.Services.{noService, serviceOf}
+use Rattle.machine.specs.Limits.{callLimit}
 use Rattle.machine.proofs.Applied.{no-service}
 
 -- n is none of the numbers up to k
@@ -15,5 +16,5 @@ unfolding NoneTo
 past zero n h lo = lo
 past (suc k) n h lo = let l = past k n (h .0) lo in let d = h .1 in omega (arith, l, d)
 
-pub none-left : (n : ℕ) → NoneTo lastCall n → serviceOf n ≡ noService
-none-left n h = no-service n (λ lo hi. let l = past lastCall n h lo in omega (arith, l))
+pub none-left : (n : ℕ) → NoneTo callLimit n → serviceOf n ≡ noService
+none-left n h = no-service n (λ lo hi. let l = past callLimit n h lo in omega (arith, l))

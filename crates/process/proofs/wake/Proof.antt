@@ -4,11 +4,11 @@ use Rattle.process.proofs.wake.Tie as tie
 
 returns : tie.Need-returns
 unfolding woken
-returns c = rw (← c .before .before .before .before .before .is-due .ensures, c .before .before .before .before .if1 .taken, ← c .before .before .before .waits-for-nothing .ensures, c .before .before .if2 .taken, c .with-suspended .ensures, c .before .wait-ended .ensures)
+returns c = rw (← c .before .before .before .before .before .is-due .ensures, c .before .before .before .before .if1 .taken, ← c .before .before .before .is-only-marked .ensures, c .before .before .if2 .taken, c .with-suspended .ensures, c .before .wait-ended .ensures)
 
 returns-2 : tie.Need-returns-2
 unfolding woken
-returns-2 c = rw (← c .before .before .before .before .before .is-due .ensures, c .before .before .before .before .if1 .taken, ← c .before .before .before .waits-for-nothing .ensures, c .before .before .if2 .left, c .wait-ended2 .ensures, c .before .timeout-code .ensures)
+returns-2 c = rw (← c .before .before .before .before .before .is-due .ensures, c .before .before .before .before .if1 .taken, ← c .before .before .before .is-only-marked .ensures, c .before .before .if2 .left, c .wait-ended2 .ensures, c .before .timeout-code .ensures)
 
 returns-3 : tie.Need-returns-3
 unfolding woken

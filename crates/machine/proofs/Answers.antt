@@ -1,7 +1,7 @@
 -- Every answer of a reached record is in the line writer's range, and no event changes the table. Assumes nothing.
 use Prim.Native.Nat.{ℕ, zero, suc, _+_, _-_, _≤_}
 use mathlib.Core.Path.{_≡_, refl, ap}
-use mathlib.Core.Bool.{Bool, true, cond}
+use mathlib.Core.Bool.{Bool, cond}
 use mathlib.Core.Logic.{inl, inr}
 use native.Mathlib.Omega.{arith}
 use lib.Dec.{eqb, leb}
@@ -16,13 +16,13 @@ use Rattle.machine.specs.declared.Decision.the-variants.{Refused, Unchan
 use Rattle.machine.specs.declared.Table.{Table}
 use Rattle.machine.specs.declared.Module.{Module}
 use Rattle.machine.specs.declared.Event.{Event as EventT}
-use Rattle.machine.specs.Limits.{processLimit, timeLimit, channelLimit}
+use Rattle.machine.specs.Limits.{processLimit}
 use Rattle.machine.specs.Fields.{requestOf, numberOf}
 use Rattle.machine.specs.Partition.{running}
 use Rattle.machine.specs.Decisions.{coded, checked, replyOf}
 use Rattle.machine.specs.Module.{emptyTable, emptyModule, part, current, runningIn, withTime}
 use Rattle.machine.specs.Windows.{lookup}
-use Rattle.machine.specs.Ticks.{tickAt, tickTo, partitionCount}
+use Rattle.machine.specs.Ticks.{dueAt, tickAt, tickTo, partitionCount}
 use Rattle.machine.specs.Channels.{portOf}
 use Rattle.machine.specs.Step.{contextOf, sees, decision, moduleAfter, answerTo, step}
 use Rattle.machine.specs.Valid.{Valid, SoundDecision, SoundModule, ValidModule, Reached, ReplyInRange, AnswerInRange}
@@ -37,7 +37,7 @@ use Rattle.machine.proofs.Reached.{current-known, made, made-sound, mad
 tick-table : (n : ℕ) (m : Module) → tickTo n m .table ≡ m .table
 unfolding tickTo tickAt
 tick-table zero m = refl
-tick-table (suc n) m = by-test (λ (q : Module). q .table ≡ m .table) (leb (part (tickTo n m) n .soonest) (tickTo n m .t)) (λ _. tick-table n m) (λ _. tick-table n m)
+tick-table (suc n) m = by-test (λ (q : Module). q .table ≡ m .table) (dueAt n (tickTo n m)) (λ _. tick-table n m) (λ _. tick-table n m)
 
 pub decided-table : (m : Module) (k : ℕ) (d : Decision) → moduleAfter m k d .table ≡ m .table
 decided-table m k d = by-decision m k d (λ (q : Module). q .table ≡ m .table) refl

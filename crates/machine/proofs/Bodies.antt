@@ -2,9 +2,9 @@
 -- Assumes nothing.
 use Prim.Native.Nat.{ℕ, _≤_}
 use mathlib.Core.Path.{_≡_, refl}
-use mathlib.Core.Bool.{Bool, true, false, not, _&&_, _||_}
-use mathlib.Core.List.{List, [], _∷_}
-use lib.Dec.{eqb, ltb, leb}
+use mathlib.Core.Bool.{Bool, true, _&&_, _||_}
+use mathlib.Core.List.{List}
+use lib.Dec.{eqb, leb}
 use borrow.Author.Tests.{eqb-true, not-false}
 use Rattle.machine.specs.declared.Partition.{Partition}
 use Rattle.machine.specs.declared.Context.{Context}
@@ -14,7 +14,7 @@ use Rattle.machine.specs.declared.Field.{Field}
 use Rattle.machine.specs.declared.Wait.{Wait}
 use Rattle.machine.specs.declared.Decision.{Decision}
 use Rattle.machine.specs.declared.Decision.the-variants.{Refused, Unchanged, Ticked, Blocked, Changed, Restarted, Written}
-use Rattle.machine.specs.Fields.{isNumber, isDuration, isTimeout, numberOf}
+use Rattle.machine.specs.Fields.{isNumber, isTimeout}
 use Rattle.machine.specs.Decisions.{checked, replyOf, blocked, startMode, waitChecks, queued, awaiting}
 use Rattle.machine.specs.Calls.{setMode, createProcess, start, stop, stopSelf, suspend, suspendSelf, timedWait, periodicWait, resume, setPriority, getStatus}
 use Rattle.machine.specs.Objects.{createSemaphore, waitSemaphore, signal, createEvent, setEvent, resetEvent, waitEvent}
@@ -71,27 +71,26 @@ module _ (x : Port) (n : ℕ) where
   unfolding setMode createProcess start stop stopSelf suspend suspendSelf timedWait periodicWait resume setPriority getStatus createSemaphore createEvent blocked waitSemaphore waitEvent signal setEvent resetEvent write read channelChecks Passed
   call-body c r p lo hi =
       by-call c x n r p (Body x n)
-      (in-body _ _ refl (λ _. by-test (Body x n) (isNumber 3 (r .a)) (λ _. fine tt) (λ _. fine tt)))
+      (λ a. in-body _ _ refl (λ _. by-test (Body x n) (isNumber 3 a) (λ _. fine tt) (λ _. fine tt)))
+      (λ _. in-body _ _ refl (λ _. fine tt))
+      (λ _ _. in-body _ _ refl (λ _. fine tt))
+      (λ _. in-body _ _ refl (λ _. fine tt))
       (in-body _ _ refl (λ _. fine tt))
+      (λ _. in-body _ _ refl (λ _. fine tt))
+      (λ a. in-body _ _ refl (λ _. by-test (Body x n) (isNumber 0 a) (λ _. fine tt) (λ _. fine tt)))
+      (λ a. in-body _ _ refl (λ _. by-test (Body x n) (isNumber 0 a) (λ _. fine tt) (λ _. fine tt)))
       (in-body _ _ refl (λ _. fine tt))
-      (in-body _ _ refl (λ _. fine tt))
-      (in-body _ _ refl (λ _. fine tt))
-      (in-body _ _ refl (λ _. fine tt))
-      (in-body _ _ refl (λ _. fine tt))
-      (in-body _ _ refl (λ _. by-test (Body x n) (isNumber 0 (r .a)) (λ _. fine tt) (λ _. fine tt)))
-      (in-body _ _ refl (λ _. by-test (Body x n) (isNumber 0 (r .a)) (λ _. fine tt) (λ _. fine tt)))
-      (in-body _ _ refl (λ _. fine tt))
-      (in-body _ _ refl (λ _. fine tt))
-      (in-body _ _ refl (λ _. fine tt))
-      (in-body _ _ refl (λ _. fine tt))
-      (in-body _ _ refl (λ _. fine tt))
-      (in-wait c _ _ _ _ _ _ _ p refl (fine tt))
-      (in-body _ _ refl (λ _. fine tt))
-      (in-body _ _ refl (λ _. fine tt))
-      (in-body _ _ refl (λ _. fine tt))
-      (in-body _ _ refl (λ _. fine tt))
-      (in-wait c _ _ _ _ _ _ _ p refl (fine tt))
-      (λ e. in-body _ _ refl (λ h. in-body _ _ refl (λ _. fine (record { call = e; place = refl; there = not-false _ (h .0); source = eqb-true _ _ (not-false _ (h .1 .1 .0)) }))))
+      (λ _. in-body _ _ refl (λ _. fine tt))
+      (λ _ _. in-body _ _ refl (λ _. fine tt))
+      (λ _. in-body _ _ refl (λ _. fine tt))
+      (λ _. in-body _ _ refl (λ _. fine tt))
+      (λ _ _. in-wait c _ _ _ _ _ _ _ p refl (fine tt))
+      (λ _. in-body _ _ refl (λ _. fine tt))
+      (λ _. in-body _ _ refl (λ _. fine tt))
+      (λ _. in-body _ _ refl (λ _. fine tt))
+      (λ _. in-body _ _ refl (λ _. fine tt))
+      (λ _ _. in-wait c _ _ _ _ _ _ _ p refl (fine tt))
+      (λ e _. in-body _ _ refl (λ h. in-body _ _ refl (λ _. fine (record { call = e; place = refl; there = not-false _ (h .0); source = eqb-true _ _ (not-false _ (h .1 .1 .0)) }))))
       (in-body _ _ refl (λ _. in-body _ _ refl (λ _. fine tt)))
       (λ out. absurd (out lo hi))
 

@@ -1,170 +1,506 @@
 -- The starred corners, proved. Assumes nothing.
-use Prim.Native.Nat.{ℕ, zero, suc, _+_, _-_, _%_, _≤_, _<_}
-use mathlib.Core.Path.{_≡_, refl, sym, ap, _∙_}
+use Prim.Native.Nat.{ℕ, zero, suc, _+_, _-_, _*_, _/_, _%_, _≤_, _<_, max}
+use mathlib.Core.Path.{_≡_, refl, sym, ap, ap₂, _∙_}
 use mathlib.Core.Bool.{Bool, true, false, cond, not, _&&_, _||_, true≢false, and-false}
 use mathlib.Core.List.{List, [], _∷_}
 use native.Mathlib.Omega.{arith}
 use native.Mathlib.Nat.{mod-self, add-mod-left, mod-eq-of-lt}
-use lib.ListN.{take}
-use lib.Dec.{leb, ltb, eqb}
-use borrow.Author.Tests.{eq-eqb, ne-eqb, le-leb, lt-leb, lt-ltb, le-ltb, not-false}
-use Rattle.machine.specs.declared.Context.{Context}
+use lib.ListN.{length, getD, set, take, length-take}
+use lib.Seq.{getD-take}
+use lib.IntN.{ℤ, pos}
+use lib.Dec.{leb, eqb}
+use borrow.Author.Tests.{eq-eqb, ne-eqb, eqb-true, le-leb, lt-leb, lt-ltb, le-ltb}
 use Rattle.machine.specs.declared.Process.{Process}
 use Rattle.machine.specs.declared.Partition.{Partition}
-use Rattle.machine.specs.declared.Request.{Request}
-use Rattle.machine.specs.declared.Event.{Event as EventT}
 use Rattle.machine.specs.declared.Module.{Module}
+use Rattle.machine.specs.declared.Window.{Window}
+use Rattle.machine.specs.declared.Semaphore.{Semaphore as SemaphoreT}
+use Rattle.machine.specs.declared.EventState.{EventState}
+use Rattle.machine.specs.declared.Event.{Event as EventT}
+use Rattle.machine.specs.declared.Change.the-variants.{Nothing, Stored, Created, Last, StoredSemaphore, StoredEvent}
+use Rattle.machine.specs.declared.Decision.the-variants.{Refused, Unchanged, Blocked, Changed}
 use Rattle.machine.specs.declared.Field.{Field}
-use Rattle.machine.specs.declared.Field.the-variants.{Number}
-use Rattle.machine.specs.declared.Wait.the-variants.{Period}
+use Rattle.machine.specs.declared.Field.the-variants.{Number, MinusOne}
 use Rattle.machine.specs.declared.Time.{Time}
 use Rattle.machine.specs.declared.Time.the-variants.{Never, At}
-use Rattle.machine.specs.Limits.{nameLimit, priorityLimit, valueLimit, durationLimit, timeLimit, greatestTime}
-use Rattle.machine.specs.Fields.{isName, isNumber, between, isMinusOne, numberOf}
-use Rattle.machine.specs.Process.{isNever, periodic, nextRelease}
-use Rattle.machine.specs.Partition.{partitionAfter, normalMode, process, semaphore, event, stored, arrivedLast}
+use Rattle.machine.specs.Limits.{processLimit, semaphoreLimit, eventLimit, nameLimit, priorityLimit, valueLimit, durationLimit, greatestTime}
+use Rattle.machine.specs.Fields.{field, between, isMinusOne, timeOf}
+use Rattle.machine.specs.Ids.{removed, follow}
+use Rattle.machine.specs.Process.{Class, classOf, objectIn, forNothing, blankProcess, createdProcess, periodic, ready, onObject, withCurrent, startRule, startedEarly, nextRelease}
+use Rattle.machine.specs.Partition.{normalMode, process, semaphore, event, byId, noSemaphore, noEvent, running, withProcesses, stored, created, applied}
+use Rattle.machine.specs.Windows.{windows, noWindow, firstFlagged, releaseAfter, flaggedFor}
+use Rattle.machine.specs.Decisions as D
 use Rattle.machine.specs.Calls as C
 use Rattle.machine.specs.Objects as Ob
-use Rattle.machine.specs.Decisions as D
+use Rattle.machine.specs.Services as Sv
 use Rattle.machine.specs.Module as M
 use Rattle.machine.specs.Channels as Ch
+use Rattle.machine.specs.Places as Pl
 use Rattle.machine.specs.Step as St
-use Rattle.machine.specs.Starred.{CanCreate, CanCreateSemaphore, CanCreateEvent, periodFits, capacityFits, Edge, withName, withPriority, withPeriod, Corners}
+use Rattle.machine.specs.Valid.{Between, NotAfter, SoundGiven, SoundPeriod, SoundCapacity, ListedIn, settingOf, plainLater, Valid, SoundModule}
+use Rattle.machine.specs.Replay.{timeNumber}
+use Rattle.machine.specs.Starred.{own, callBy, Gives, Refuses, Puts, Calling, withProcess, without, atEnd, withNew, withNewSemaphore, withNewEvent, withSemaphoreAt, Room, NewProcess, NewSemaphore, NewEvent, createBy, given, FirstFlagged, releaseAt, awaitsRelease, awaitsNext, awaitsNormal, Corners}
+use Rattle.machine.proofs.Tests.{and-left, and-right}
+use Rattle.machine.proofs.Bounds.{not-so, within-in, named-in, created-in, semaphore-in, event-in, stored-in}
+use Rattle.machine.proofs.Keeping.{stored-listed, process-stored}
+use Rattle.machine.proofs.Kept.{running-caller}
+use Rattle.machine.proofs.Quiet.{follow-same}
+use Rattle.machine.proofs.Reached.{release-plain}
+use Rattle.machine.proofs.Sound.{capacity-bound}
+use Rattle.machine.proofs.Plain.{arrived-plain, release-point-plain, release-deadline-plain, next-plain, next-deadline-plain}
+use Rattle.machine.proofs.Calling.{field-number, from-zero, calling-sound, calling-valid, calling-context, asked, gives}
 
--- where 4, 1 and 5 do not hold, CREATE_PROCESS answers 0 or 3
-create-code : (c : Context) (r : Request) (p : Partition) → CanCreate c r p → (b : Bool) → C.admissible c r ≡ b → D.replyOf (C.createProcess c r p) .code ≡ cond b 0 3
-unfolding C.createProcess D.checked
-create-code c r p h true q = rw (h .room, h .new, q, h .early)
-create-code c r p h false q = rw (h .room, h .new, q)
+-- ---------------------------------------------------------------- what is given, brought to another form
+puts-is : (m : Module) (k : ℕ) {e : EventT} {code value : ℕ} (p q : Partition) → Puts m e code value k p → p ≡ q → Puts m e code value k q
+puts-is m k p q g e = record { codeIs = g .codeIs; valueIs = g .valueIs; extraIs = g .extraIs; state = g .state ∙ ap (λ (x : Partition). M.withPart (k - 1) x m) e }
 
-priority-edge : (c : Context) (r : Request) (p : Partition) → CanCreate c r p → isName (r .a) ≡ true → periodFits c r ≡ true → capacityFits r ≡ true
-    → Edge (D.replyOf (C.createProcess c (withPriority priorityLimit r) p) .code) (D.replyOf (C.createProcess c (withPriority (priorityLimit + 1) r) p) .code)
-priority-edge c r p h n f k = (
-  create-code c (withPriority priorityLimit r) p (record { room = h .room; new = h .new; early = h .early }) true (rw (n, f) k),
-  create-code c (withPriority (priorityLimit + 1) r) p (record { room = h .room; new = h .new; early = h .early }) false (rw n),
-)
+-- ---------------------------------------------------------------- names
+module _ {A : Type 0} (nameOf : A → ℕ) (name : ℕ) (d : A) where
+  none-taken : (l : List A) → ((i : ℕ) → i < length l → nameOf (getD l i d) ≡ name → ⊥) → D.nameTaken nameOf (Number name) l ≡ false
+  unfolding D.nameTaken
+  none-taken [] f = refl
+  none-taken (x ∷ l) f = rw (ne-eqb name (nameOf x) (λ e. f 0 (omega arith) (sym e))) (none-taken l (λ i h. f (suc i) (omega arith)))
 
-set-priority-edge : (id : ℕ) (p : Partition) → D.unknown id (p .processCount) ≡ false → process id p .started ≡ true
-    → Edge (D.replyOf (C.setPriority id (Number priorityLimit) p) .code) (D.replyOf (C.setPriority id (Number (priorityLimit + 1)) p) .code)
-unfolding C.setPriority D.checked
-set-priority-edge id p u s = (rw (u, s), rw u)
+  -- none of the first n of a list by id
+  new-name : (limit n : ℕ) (l : List A) → n ≤ limit → length l ≡ limit → ((id : ℕ) → Between 1 n id → nameOf (byId limit d id l) ≡ name → ⊥) → D.nameTaken nameOf (Number name) (take n l) ≡ false
+  new-name limit n l few size f = none-taken (take n l) (λ i h e.
+      let lt : i < n = omega (arith, length-take n l) in
+      let s : i + 1 - 1 ≡ i = omega arith in
+      f (i + 1) (omega arith, omega arith) (ap nameOf (named-in limit (i + 1) d l (within-in limit (i + 1) (omega arith) (omega arith)) ∙ ap (λ (j : ℕ). getD l j d) s ∙ sym (getD-take n l i d lt)) ∙ e))
 
-process-name-edge : (c : Context) (r : Request) (p : Partition) → CanCreate c (withName nameLimit r) p → CanCreate c (withName (nameLimit + 1) r) p → C.isPriority (r .b) ≡ true → periodFits c r ≡ true → capacityFits r ≡ true
-    → Edge (D.replyOf (C.createProcess c (withName nameLimit r) p) .code) (D.replyOf (C.createProcess c (withName (nameLimit + 1) r) p) .code)
-process-name-edge c r p h g b f k = (create-code c (withName nameLimit r) p h true (rw (b, f) k), create-code c (withName (nameLimit + 1) r) p g false refl)
+-- ---------------------------------------------------------------- what CREATE_PROCESS admits
+-- a time as a field
+abbrev fieldOf : Time → Field
+fieldOf Never = MinusOne
+fieldOf (At n) = Number n
 
-semaphore-name-edge : (r : Request) (p : Partition) → CanCreateSemaphore (withName nameLimit r) p → CanCreateSemaphore (withName (nameLimit + 1) r) p → (between 1 valueLimit (r .c) && between 0 (numberOf (r .c)) (r .b)) ≡ true
-    → Edge (D.replyOf (Ob.createSemaphore (withName nameLimit r) p) .code) (D.replyOf (Ob.createSemaphore (withName (nameLimit + 1) r) p) .code)
-unfolding Ob.createSemaphore D.checked
-semaphore-name-edge r p h g k = (rw (h .room, h .new, k, h .early), rw (g .room, g .new))
+time-field : (x : Time) → NotAfter durationLimit x → field (timeNumber x) ≡ fieldOf x
+time-field Never h = refl
+time-field (At n) h = field-number n (omega arith)
 
-event-name-edge : (p : Partition) → CanCreateEvent (Number nameLimit) p → CanCreateEvent (Number (nameLimit + 1)) p
-    → Edge (D.replyOf (Ob.createEvent (Number nameLimit) p) .code) (D.replyOf (Ob.createEvent (Number (nameLimit + 1)) p) .code)
-unfolding Ob.createEvent D.checked
-event-name-edge p h g = (rw (h .room, h .new, h .early), rw (g .room, g .new))
+time-of-field : (x : Time) → timeOf (fieldOf x) ≡ x
+time-of-field Never = refl
+time-of-field (At n) = refl
 
-no-third : (a b d : Bool) → (((a && b) && false) && d) ≡ false
-no-third true true d = refl
-no-third true false d = refl
-no-third false b d = refl
+period-bound : (frame : ℕ) (x : Time) → SoundPeriod frame x → NotAfter durationLimit x
+period-bound frame Never h = tt
+period-bound frame (At n) h = h .0 .1
 
--- 0..high
-from-zero : (n : ℕ) → leb 0 n ≡ true
-from-zero n = le-leb 0 n (omega arith)
+period-fits : (frame : ℕ) (x : Time) → 1 ≤ frame → SoundPeriod frame x → (isMinusOne (fieldOf x) || C.isMultiple frame (fieldOf x)) ≡ true
+period-fits frame Never f h = refl
+period-fits frame (At n) f h = rw (le-leb 1 n (h .0 .0), le-leb n durationLimit (h .0 .1), ne-eqb frame 0 (λ z. omega arith), h .1)
 
--- M divides M and, above 1, does not divide M + 1
-period-edge : (c : Context) (r : Request) (p : Partition) → 1 < c .frame → c .frame ≤ durationLimit → CanCreate c r p → isName (r .a) ≡ true → C.isPriority (r .b) ≡ true → isMinusOne (r .e) ≡ true
-    → Edge (D.replyOf (C.createProcess c (withPeriod (c .frame) r) p) .code) (D.replyOf (C.createProcess c (withPeriod (c .frame + 1) r) p) .code)
-period-edge c r p lo hi h n b m =
-    let z : eqb (c .frame) 0 ≡ false = ne-eqb (c .frame) 0 (λ e. omega arith) in
-    let l : leb 1 (c .frame) ≡ true = le-leb 1 (c .frame) (omega arith) in
-    let g : leb (c .frame) durationLimit ≡ true = le-leb (c .frame) durationLimit hi in
-    let s : c .frame % c .frame ≡ 0 = mod-self (c .frame) in
-    let o : (c .frame + 1) % c .frame ≡ 1 = add-mod-left (c .frame) 1 ∙ mod-eq-of-lt lo in (
-      create-code c (withPeriod (c .frame) r) p (record { room = h .room; new = h .new; early = h .early }) true (rw (n, b, m, l, g, z, s)),
-      create-code c (withPeriod (c .frame + 1) r) p (record { room = h .room; new = h .new; early = h .early }) false (rw (n, b, z, o) (no-third (leb 1 (c .frame + 1)) (leb (c .frame + 1) durationLimit) _)),
-    )
+capacity-fits : (period x : Time) → SoundCapacity period x → ((isMinusOne (fieldOf x) || between 1 durationLimit (fieldOf x)) && not (C.above (fieldOf x) (fieldOf period))) ≡ true
+capacity-fits period Never h = refl
+capacity-fits Never (At n) h = rw (le-leb 1 n (h .0 .0), le-leb n durationLimit (h .0 .1))
+capacity-fits (At q) (At n) h = rw (le-leb 1 n (h .0 .0), le-leb n durationLimit (h .0 .1), le-ltb q n (h .1))
 
-delay-edge : (c : Context) (id n : ℕ) (p : Partition) → D.unknown id (p .processCount) ≡ false → process id p .started ≡ false → process id p .given .period ≡ At n → 1 ≤ n → n ≤ durationLimit
-    → Edge (D.replyOf (C.start c id (Number (n - 1)) p) .code) (D.replyOf (C.start c id (Number n) p) .code)
-unfolding C.start D.checked
-delay-edge c id n p u s e lo hi =
-    let a : leb (n - 1) durationLimit ≡ true = le-leb (n - 1) durationLimit (omega arith) in
-    let b : leb n (n - 1) ≡ false = lt-leb n (n - 1) (omega arith) in
-    let d : leb n durationLimit ≡ true = le-leb n durationLimit hi in
-    let f : leb n n ≡ true = le-leb n n (omega arith) in
-    (rw (u, e, from-zero (n - 1), a, b, s), rw (u, e, from-zero n, d, f))
+-- ---------------------------------------------------------------- the first window with flag 1
+first-is : (k s : ℕ) (ws : List Window) → FirstFlagged k s ws → firstFlagged k ws ≡ s
+unfolding firstFlagged
+first-is k s ws f = go ws (f .at) (f .inside) (f .owner) (f .flagged) (f .starts) (f .first)
+  where
+    go : (ws : List Window) (at : ℕ) → at < length ws → getD ws at noWindow .partition ≡ k → getD ws at noWindow .flag ≡ true → getD ws at noWindow .start ≡ s → ((i : ℕ) → i < at → getD ws i noWindow .partition ≡ k → getD ws i noWindow .flag ≡ true → ⊥) → firstFlagged k ws ≡ s
+    go [] at h o f e none = absurd (omega arith)
+    go (w ∷ ws) zero h o f e none = rw (f, eq-eqb (w .partition) k o) e
+    go (w ∷ ws) (suc at) h o f e none =
+        let q : flaggedFor k w ≡ false = not-so (flaggedFor k w) (λ t. none 0 (omega arith) (eqb-true (w .partition) k (and-right (w .flag) _ t)) (and-left (w .flag) _ t)) in
+        rw q (go ws at (omega arith) o f e (λ i l. none (suc i) (omega arith)))
 
-age-edge : (m : Module) (k : ℕ) (r : Request) → let i = numberOf (r .a) - 1 in
-    between 1 (m .table .channelCount) (r .a) ≡ true → M.channel (m .table) i .destination ≡ k → M.message m i .present ≡ true
-    → let written = M.message m i .written in
-    let refresh = M.channel (m .table) i .refresh in
-    let reply = D.replyOf (Ch.read (St.contextOf m k) (Ch.portOf m k r)) in
-    (reply .code ≡ 0) × (m .t ≡ written + refresh → reply .extra ≡ At 1) × (m .t ≡ written + refresh + 1 → reply .extra ≡ At 0)
-unfolding Ch.read Ch.channelChecks D.checked
-age-edge m k r b d x =
-    let i = numberOf (r .a) - 1 in
-    let y = M.message m i in
-    let f = M.channel (m .table) i .refresh in
-    let e : eqb (M.channel (m .table) i .destination) k ≡ true = eq-eqb _ _ d in
-    let a : Ch.apart k (M.channel (m .table) i) ≡ false = rw e (and-false (not (eqb (M.channel (m .table) i .source) k))) in (
-      rw (b, a, e, x),
-      λ t. let l : leb (m .t - y .written) f ≡ true = le-leb (m .t - y .written) f (omega arith) in rw (b, a, e, x, l),
-      λ t. let l : leb (m .t - y .written) f ≡ false = lt-leb (m .t - y .written) f (omega arith) in rw (b, a, e, x, l),
-    )
+-- ---------------------------------------------------------------- a process stored
+-- a READY process waits on no object
+ready-off : (x : Process) → ready x ≡ true → onObject x ≡ false
+ready-off x h = rw (go (classOf (x .wait)) (and-right (not (x .suspended)) _ (and-right (x .started) _ h)))
+  where
+    go : (c : Class) → forNothing c ≡ true → objectIn c ≡ 0
+    go Class.nothing e = refl
+    go Class.normal e = refl
+    go Class.timer e = refl
+    go Class.release e = refl
+    go (Class.onto kind j) e = absurd (true≢false (sym e))
 
-suspend-self-zero : (c : Context) (p : Partition) → normalMode p ≡ true → periodic (process (c .caller) p) ≡ false
-    → (D.replyOf (C.suspendSelf c (Number 0) p) .code ≡ 0) × (partitionAfter (C.suspendSelf c (Number 0) p) p ≡ p)
-unfolding C.suspendSelf D.checked
-suspend-self-zero c p n a = (rw (n, a), rw (n, a))
+module _ (p : Partition) (v : ListedIn p) (id : ℕ) (b : Between 1 (p .processCount) id) (x : Process) where
+  inside : stored id x p ≡ withProcesses (set (p .processes) (id - 1) x) (p .processCount) (follow (ready (process id p)) (ready x) id (p .arrival)) (follow (onObject (process id p)) (onObject x) id (p .waiting)) p
+  inside = let w = within-in processLimit id (b .0) (omega (arith, b .1, v .numbered .few)) in stored-in id x p w ∙ rw (← named-in processLimit id blankProcess (p .processes) w)
 
-timed-wait-zero : (c : Context) (p : Partition) → normalMode p ≡ true
-    → (D.replyOf (C.timedWait c (Number 0) p) .code ≡ 0) × (partitionAfter (C.timedWait c (Number 0) p) p ≡ arrivedLast (c .caller) p)
-unfolding C.timedWait D.checked
-timed-wait-zero c p n = (rw n, rw n)
+  -- READY or not, waiting on an object or not, as before
+  pub stored-steady : ready (process id p) ≡ ready x → onObject (process id p) ≡ onObject x → stored id x p ≡ withProcess id x (p .arrival) p
+  stored-steady r o = inside ∙ rw (r, o, follow-same (ready x) id (p .arrival), follow-same (onObject x) id (p .waiting))
 
-wait-semaphore-zero : (c : Context) (k : ℕ) (p : Partition) → normalMode p ≡ true → D.unknown k (p .semaphoreCount) ≡ false → semaphore k p .value ≡ 0
-    → (D.replyOf (Ob.waitSemaphore c k (Number 0) p) .code ≡ 2) × (partitionAfter (Ob.waitSemaphore c k (Number 0) p) p ≡ p)
-unfolding Ob.waitSemaphore D.awaiting D.queued D.checked
-wait-semaphore-zero c k p n u v = (rw (u, n, v), rw (u, n, v))
+  -- it ceases to be READY, and waits on no object
+  pub stored-leaves : ready (process id p) ≡ true → ready x ≡ false → onObject (process id p) ≡ onObject x → stored id x p ≡ withProcess id x (without id (p .arrival)) p
+  unfolding removed
+  stored-leaves r n o = inside ∙ rw (r, n, o, follow-same (onObject x) id (p .waiting))
 
-wait-event-zero : (c : Context) (k : ℕ) (p : Partition) → normalMode p ≡ true → D.unknown k (p .eventCount) ≡ false → event k p .up ≡ false
-    → (D.replyOf (Ob.waitEvent c k (Number 0) p) .code ≡ 2) × (partitionAfter (Ob.waitEvent c k (Number 0) p) p ≡ p)
-unfolding Ob.waitEvent D.awaiting D.queued D.checked
-wait-event-zero c k p n u v = (rw (u, n, v), rw (u, n, v))
+-- ---------------------------------------------------------------- creating
+module _ (m : Module) (k : ℕ) (u : SoundModule m) (h : Calling m k) where
+  abbrev p : Partition
+  p = own m k
 
-signal-at-max : (k : ℕ) (p : Partition) → D.unknown k (p .semaphoreCount) ≡ false → semaphore k p .value ≡ semaphore k p .max
-    → (D.replyOf (Ob.signal k p) .code ≡ 1) × (partitionAfter (Ob.signal k p) p ≡ p)
-unfolding Ob.signal D.checked
-signal-at-max k p u v = let e : eqb (semaphore k p .value) (semaphore k p .max) ≡ true = eq-eqb _ _ v in (rw (u, e), rw (u, e))
+  v : Valid (m .table .frame) (m .t) (own m k)
+  v = calling-valid m k u h
 
-periodic-wait-late : (c : Context) (r n : ℕ) (p : Partition) → normalMode p ≡ true → c .time ≤ timeLimit
-    → process (c .caller) p .times .release ≡ At r → process (c .caller) p .given .period ≡ At n → r + n ≤ c .time
-    → (D.replyOf (C.periodicWait c p) .code ≡ 7)
-    × (partitionAfter (C.periodicWait c p) p ≡ stored (c .caller) (nextRelease (process (c .caller) p)) p)
-    × (nextRelease (process (c .caller) p) .wait ≡ Period)
-    × (nextRelease (process (c .caller) p) .times .release ≡ At (r + n))
-    × (nextRelease (process (c .caller) p) .times .wake ≡ At (r + n))
-unfolding C.periodicWait D.blocked D.checked
-periodic-wait-late c r n p m t e f h =
-    let s : leb (r + n) greatestTime ≡ true = le-leb (r + n) greatestTime (omega arith) in
-    let q : isNever (process (c .caller) p .given .period) ≡ false = rw f in
-    (rw (m, q), rw (m, q), refl, rw (e, f, s), rw (e, f, s))
+  frame-some : 1 ≤ m .table .frame
+  frame-some = u .table .frame .0
 
-pub corners : Corners
-corners = record {
-  priority = priority-edge;
-  setPriority = set-priority-edge;
-  processName = process-name-edge;
-  semaphoreName = semaphore-name-edge;
-  eventName = event-name-edge;
-  period = period-edge;
-  delay = delay-edge;
-  freshness = age-edge;
-  suspendSelf = suspend-self-zero;
-  timedWait = timed-wait-zero;
-  waitSemaphore = wait-semaphore-zero;
-  waitEvent = wait-event-zero;
-  signal = signal-at-max;
-  periodicWait = periodic-wait-late;
+  pub normal-not : (p .mode ≡ 3 → ⊥) → normalMode p ≡ false
+  normal-not n = ne-eqb (p .mode) 3 n
+
+  pub normal-is : p .mode ≡ 3 → normalMode p ≡ true
+  normal-is n = eq-eqb (p .mode) 3 n
+
+  pub known : (id count : ℕ) → Between 1 count id → D.unknown id count ≡ false
+  known id count b = rw (ne-eqb id 0 (λ z. omega (arith, b .0)), le-ltb count id (b .1))
+
+  pub small : (id count : ℕ) → Between 1 count id → count ≤ processLimit → id ≤ greatestTime
+  small id count b few = omega (arith, b .1)
+
+  -- a name above the limit is new
+  past-name : NewProcess p (nameLimit + 1)
+  past-name id b e = omega (arith, v .eachProcess id b .lasting .given .name .1)
+
+  module _ (name priority : ℕ) (f e : Field) (room : Room p (p .processCount) processLimit) (new : NewProcess p name) where
+    -- where 4, 1 and 5 do not hold, CREATE_PROCESS answers 0 or 3
+    create-is : (b : Bool) → C.admissible (St.contextOf m k) (asked m k u h 2 (Number name) (Number priority) f e) ≡ b
+        → C.createProcess (St.contextOf m k) (asked m k u h 2 (Number name) (Number priority) f e) p
+        ≡ cond b (Changed (Created (p .processCount + 1) (createdProcess (given name priority (timeOf f) (timeOf e)))) Nothing (p .processCount + 1)) (Refused 3)
+    unfolding C.createProcess D.checked
+    create-is b q =
+        let n = new-name (λ (x : Process). x .given .name) name blankProcess processLimit (p .processCount) (p .processes) (v .lists .numbered .few) (v .lists .numbered .size) new in
+        go b q (lt-leb processLimit (p .processCount) (room .less)) n (normal-not (room .early))
+      where
+        go : (b : Bool) → C.admissible (St.contextOf m k) (asked m k u h 2 (Number name) (Number priority) f e) ≡ b → leb processLimit (p .processCount) ≡ false → C.processNamed (Number name) (take (p .processCount) (p .processes)) ≡ false → normalMode p ≡ false
+            → C.createProcess (St.contextOf m k) (asked m k u h 2 (Number name) (Number priority) f e) p
+            ≡ cond b (Changed (Created (p .processCount + 1) (createdProcess (given name priority (timeOf f) (timeOf e)))) Nothing (p .processCount + 1)) (Refused 3)
+        go true q r n o = rw (r, n, q, o)
+        go false q r n o = rw (r, n, q)
+
+    module _ (y z : ℤ) (fy : field y ≡ f) (fz : field z ≡ e) (nm : name ≤ greatestTime) (pr : priority ≤ greatestTime) where
+      create-decides : (b : Bool) → C.admissible (St.contextOf m k) (asked m k u h 2 (Number name) (Number priority) f e) ≡ b
+          → C.createProcess (St.contextOf m k) (asked m k u h 2 (field (pos name)) (field (pos priority)) (field y) (field z)) p
+          ≡ cond b (Changed (Created (p .processCount + 1) (createdProcess (given name priority (timeOf f) (timeOf e)))) Nothing (p .processCount + 1)) (Refused 3)
+      create-decides b q = rw (field-number name nm, field-number priority pr, fy, fz) (create-is b q)
+
+      create-refused : C.admissible (St.contextOf m k) (asked m k u h 2 (Number name) (Number priority) f e) ≡ false → Refuses m (callBy k 2 (pos name) (pos priority) y z) 3
+      unfolding Sv.callDecision Sv.services Pl.strayField
+      create-refused q = gives m k u h 2 (pos name) (pos priority) y z (omega arith) (omega arith) refl (Refused 3) (create-decides false q)
+
+      create-accepted : C.admissible (St.contextOf m k) (asked m k u h 2 (Number name) (Number priority) f e) ≡ true
+          → Puts m (callBy k 2 (pos name) (pos priority) y z) 0 (p .processCount + 1) k (withNew (given name priority (timeOf f) (timeOf e)) p)
+      unfolding Sv.callDecision Sv.services Pl.strayField
+      create-accepted q =
+          let n = p .processCount + 1 in
+          let x = createdProcess (given name priority (timeOf f) (timeOf e)) in
+          let s : n - 1 ≡ p .processCount = omega arith in
+          let t : max (p .processCount) n ≡ n = omega arith in
+          puts-is m k _ _
+          (gives m k u h 2 (pos name) (pos priority) y z (omega arith) (omega arith) refl (Changed (Created n x) Nothing n) (create-decides true q))
+          (created-in n x p (within-in processLimit n (omega arith) (omega (arith, room .less))) ∙ rw (s, t))
+
+  -- a process as given by its four numbers
+  create-fits : (name priority : ℕ) (period capacity : Time) → Room p (p .processCount) processLimit → NewProcess p name → SoundGiven (m .table .frame) (given name priority period capacity)
+      → Puts m (createBy k name priority period capacity) 0 (p .processCount + 1) k (withNew (given name priority period capacity) p)
+  create-fits name priority period capacity room new g =
+      rw (time-of-field period, time-of-field capacity) at
+      (create-accepted name priority (fieldOf period) (fieldOf capacity) room new (timeNumber period) (timeNumber capacity)
+      (time-field period (period-bound (m .table .frame) period (g .period))) (time-field capacity (capacity-bound period capacity (g .capacity)))
+      (omega (arith, g .name .1)) (omega (arith, g .base .1))
+      (rw (le-leb 1 name (g .name .0), le-leb name nameLimit (g .name .1), le-leb 1 priority (g .base .0), le-leb priority priorityLimit (g .base .1), period-fits (m .table .frame) period frame-some (g .period)) (capacity-fits period capacity (g .capacity))))
+
+  priority-corner : (name : ℕ) (period capacity : Time) → Room p (p .processCount) processLimit → NewProcess p name → Between 1 nameLimit name → SoundPeriod (m .table .frame) period → SoundCapacity period capacity
+      → Puts m (createBy k name priorityLimit period capacity) 0 (p .processCount + 1) k (withNew (given name priorityLimit period capacity) p)
+      × Refuses m (createBy k name (priorityLimit + 1) period capacity) 3
+  priority-corner name period capacity room new n f g = (
+    create-fits name priorityLimit period capacity room new (record { name = n; base = (omega arith, omega arith); period = f; capacity = g }),
+    create-refused name (priorityLimit + 1) (field (timeNumber period)) (field (timeNumber capacity)) room new (timeNumber period) (timeNumber capacity) refl refl (omega (arith, n .1)) (omega arith)
+        (rw (le-leb 1 name (n .0), le-leb name nameLimit (n .1))),
+  )
+
+  process-name-corner : (priority : ℕ) (period capacity : Time) → Room p (p .processCount) processLimit → NewProcess p nameLimit → Between 1 priorityLimit priority → SoundPeriod (m .table .frame) period → SoundCapacity period capacity
+      → Puts m (createBy k nameLimit priority period capacity) 0 (p .processCount + 1) k (withNew (given nameLimit priority period capacity) p)
+      × Refuses m (createBy k (nameLimit + 1) priority period capacity) 3
+  process-name-corner priority period capacity room new b f g = (
+    create-fits nameLimit priority period capacity room new (record { name = (omega arith, omega arith); base = b; period = f; capacity = g }),
+    create-refused (nameLimit + 1) priority (field (timeNumber period)) (field (timeNumber capacity)) room past-name (timeNumber period) (timeNumber capacity) refl refl (omega arith) (omega (arith, b .1)) refl,
+  )
+
+  -- M divides M and, above 1, does not divide M + 1
+  period-corner : (name priority : ℕ) (capacity : Time) (e : ℤ) → let M = m .table .frame in
+      1 < M → Room p (p .processCount) processLimit → NewProcess p name → Between 1 nameLimit name → Between 1 priorityLimit priority → SoundCapacity (At M) capacity
+      → Puts m (createBy k name priority (At M) capacity) 0 (p .processCount + 1) k (withNew (given name priority (At M) capacity) p)
+      × Refuses m (callBy k 2 (pos name) (pos priority) (pos (M + 1)) e) 3
+  period-corner name priority capacity e above room new n b g =
+      let M = m .table .frame in
+      let high = u .table .frame .1 in
+      let o : (M + 1) % M ≡ 1 = add-mod-left M 1 ∙ mod-eq-of-lt above in (
+        create-fits name priority (At M) capacity room new (record { name = n; base = b; period = ((omega arith, omega arith), mod-self M); capacity = g }),
+        create-refused name priority (Number (M + 1)) (field e) room new (pos (M + 1)) e (field-number (M + 1) (omega arith)) refl (omega (arith, n .1)) (omega (arith, b .1))
+            (rw (le-leb 1 name (n .0), le-leb name nameLimit (n .1), le-leb 1 priority (b .0), le-leb priority priorityLimit (b .1), le-leb 1 (M + 1) (omega arith), le-leb (M + 1) durationLimit (omega arith), ne-eqb M 0 (λ z. omega arith), o)),
+      )
+
+  -- ---------------------------------------------------------------- semaphores and events
+  semaphore-name-corner : (start max : ℕ) → Room p (p .semaphoreCount) semaphoreLimit → NewSemaphore p nameLimit → Between 1 valueLimit max → start ≤ max
+      → Puts m (callBy k 14 (pos nameLimit) (pos start) (pos max) (pos 0)) 0 (p .semaphoreCount + 1) k (withNewSemaphore nameLimit start max p)
+      × Refuses m (callBy k 14 (pos (nameLimit + 1)) (pos start) (pos max) (pos 0)) 3
+  unfolding Sv.callDecision Sv.services Pl.strayField Ob.createSemaphore D.checked
+  semaphore-name-corner start max room new b s =
+      let o = v .objects in
+      let full : leb semaphoreLimit (p .semaphoreCount) ≡ false = lt-leb semaphoreLimit (p .semaphoreCount) (room .less) in
+      let fresh : (name : ℕ) → NewSemaphore p name → Ob.semaphoreNamed (Number name) (take (p .semaphoreCount) (p .semaphores)) ≡ false = λ name f. new-name (λ (x : SemaphoreT). x .name) name noSemaphore semaphoreLimit (p .semaphoreCount) (p .semaphores) (o .semaphores .few) (o .semaphores .size) f in
+      let n = p .semaphoreCount + 1 in
+      let x : SemaphoreT = record { name = nameLimit; value = start; max = max } in
+      let e : n - 1 ≡ p .semaphoreCount = omega arith in
+      let t : Prim.Native.Nat.max (p .semaphoreCount) n ≡ n = omega arith in (
+        puts-is m k _ _
+            (gives m k u h 14 (pos nameLimit) (pos start) (pos max) (pos 0) (omega arith) (omega arith) refl (Changed (StoredSemaphore n x) Nothing n)
+            (rw (field-number start (omega (arith, b .1)), field-number max (omega (arith, b .1)), full, fresh nameLimit new, le-leb 1 max (b .0), le-leb max valueLimit (b .1), from-zero start, le-leb start max s, normal-not (room .early))))
+            (semaphore-in n x p (within-in semaphoreLimit n (omega arith) (omega (arith, room .less))) ∙ rw (e, t)),
+        gives m k u h 14 (pos (nameLimit + 1)) (pos start) (pos max) (pos 0) (omega arith) (omega arith) refl (Refused 3)
+            (rw (full, fresh (nameLimit + 1) (λ j r q. omega (arith, o .eachSemaphore j r .name .1)))),
+      )
+
+  event-name-corner : Room p (p .eventCount) eventLimit → NewEvent p nameLimit
+      → Puts m (callBy k 17 (pos nameLimit) (pos 0) (pos 0) (pos 0)) 0 (p .eventCount + 1) k (withNewEvent nameLimit p)
+      × Refuses m (callBy k 17 (pos (nameLimit + 1)) (pos 0) (pos 0) (pos 0)) 3
+  unfolding Sv.callDecision Sv.services Pl.strayField Ob.createEvent D.checked
+  event-name-corner room new =
+      let o = v .objects in
+      let full : leb eventLimit (p .eventCount) ≡ false = lt-leb eventLimit (p .eventCount) (room .less) in
+      let fresh : (name : ℕ) → NewEvent p name → Ob.eventNamed (Number name) (take (p .eventCount) (p .events)) ≡ false = λ name f. new-name (λ (x : EventState). x .name) name noEvent eventLimit (p .eventCount) (p .events) (o .events .few) (o .events .size) f in
+      let n = p .eventCount + 1 in
+      let x : EventState = record { name = nameLimit; up = false } in
+      let e : n - 1 ≡ p .eventCount = omega arith in
+      let t : max (p .eventCount) n ≡ n = omega arith in (
+        puts-is m k _ _
+            (gives m k u h 17 (pos nameLimit) (pos 0) (pos 0) (pos 0) (omega arith) (omega arith) refl (Changed (StoredEvent n x) Nothing n)
+            (rw (full, fresh nameLimit new, normal-not (room .early))))
+            (event-in n x p (within-in eventLimit n (omega arith) (omega (arith, room .less))) ∙ rw (e, t)),
+        gives m k u h 17 (pos (nameLimit + 1)) (pos 0) (pos 0) (pos 0) (omega arith) (omega arith) refl (Refused 3)
+            (rw (full, fresh (nameLimit + 1) (λ j r q. omega (arith, o .eachEvent j r .name .1)))),
+      )
+
+  -- ---------------------------------------------------------------- priorities, delays
+  set-priority-corner : (id : ℕ) → Between 1 (p .processCount) id → process id p .started ≡ true
+      → Puts m (callBy k 12 (pos id) (pos priorityLimit) (pos 0) (pos 0)) 0 0 k
+      (withProcess id (withCurrent priorityLimit (process id p)) (cond (ready (process id p)) (atEnd id (p .arrival)) (p .arrival)) p)
+      × Refuses m (callBy k 12 (pos id) (pos (priorityLimit + 1)) (pos 0) (pos 0)) 3
+  unfolding Sv.callDecision Sv.services Pl.strayField C.setPriority D.checked
+  set-priority-corner id b s =
+      let x = withCurrent priorityLimit (process id p) in
+      let i = field-number id (small id (p .processCount) b (v .lists .numbered .few)) in
+      let same = stored-steady p (v .lists) id b x refl refl in (
+        puts-is m k _ _
+            (gives m k u h 12 (pos id) (pos priorityLimit) (pos 0) (pos 0) (omega arith) (omega arith) refl (Changed (Stored id x) (cond (ready (process id p)) (Last id) Nothing) 0)
+            (rw (i, known id (p .processCount) b, s)))
+            (last (ready (process id p)) refl x same (stored-listed p id x (v .lists) b) (process-stored p id x (v .lists) b) refl),
+        gives m k u h 12 (pos id) (pos (priorityLimit + 1)) (pos 0) (pos 0) (omega arith) (omega arith) refl (Refused 3) (rw (i, known id (p .processCount) b)),
+      )
+    where
+      -- a READY one goes to the end
+      last : (b : Bool) → ready (process id p) ≡ b → (x : Process) → stored id x p ≡ withProcess id x (p .arrival) p → ListedIn (stored id x p) → process id (stored id x p) ≡ x → ready x ≡ ready (process id p)
+          → applied (cond b (Last id) Nothing) (stored id x p) ≡ withProcess id x (cond b (atEnd id (p .arrival)) (p .arrival)) p
+      last true r x e l f q = arrived-plain (stored id x p) l id (ap ready f ∙ q ∙ r) ∙ rw e
+      last false r x e l f q = e
+
+  -- a DORMANT process is not READY and waits on nothing
+  module _ (id : ℕ) (b : Between 1 (p .processCount) id) (off : process id p .started ≡ false) where
+    dormant-unready : ready (process id p) ≡ false
+    dormant-unready = rw off
+
+    dormant-off : onObject (process id p) ≡ false
+    dormant-off = rw (v .eachProcess id b .dormant off .wait)
+
+  -- DELAYED_START of a DORMANT process, delay not below the period
+  delay-refused : (id n : ℕ) → Between 1 (p .processCount) id → process id p .given .period ≡ At n → n ≤ durationLimit → Refuses m (callBy k 4 (pos id) (pos n) (pos 0) (pos 0)) 3
+  unfolding Sv.callDecision Sv.services Pl.strayField C.start D.checked
+  delay-refused id n b e top =
+      gives m k u h 4 (pos id) (pos n) (pos 0) (pos 0) (omega arith) (omega arith) refl (Refused 3)
+      (rw (field-number id (small id (p .processCount) b (v .lists .numbered .few)), field-number n (omega arith), known id (p .processCount) b, e, from-zero n, le-leb n durationLimit top, le-leb n n (omega arith)))
+
+  period-high : (id n : ℕ) → Between 1 (p .processCount) id → process id p .given .period ≡ At n → Between 1 durationLimit n
+  period-high id n b e = (rw e at (v .eachProcess id b .lasting .given .period)) .0
+
+  delay-early-corner : (id n : ℕ) → Between 1 (p .processCount) id → process id p .started ≡ false → process id p .given .period ≡ At n → (p .mode ≡ 3 → ⊥)
+      → Puts m (callBy k 4 (pos id) (pos (n - 1)) (pos 0) (pos 0)) 0 0 k (withProcess id (awaitsNormal (n - 1) (process id p)) (p .arrival) p)
+      × Refuses m (callBy k 4 (pos id) (pos n) (pos 0) (pos 0)) 3
+  unfolding Sv.callDecision Sv.services Pl.strayField C.start D.checked
+  delay-early-corner id n b off e early =
+      let x = process id p in
+      let r = period-high id n b e in (
+        puts-is m k _ _
+            (gives m k u h 4 (pos id) (pos (n - 1)) (pos 0) (pos 0) (omega arith) (omega arith) refl (Changed (Stored id (startedEarly (n - 1) x)) Nothing 0)
+            (rw (field-number id (small id (p .processCount) b (v .lists .numbered .few)), field-number (n - 1) (omega (arith, r .1)), known id (p .processCount) b, e, from-zero (n - 1), le-leb (n - 1) durationLimit (omega (arith, r .1)), lt-leb n (n - 1) (omega (arith, r .0)), off, normal-not early)))
+            (stored-steady p (v .lists) id b (startedEarly (n - 1) x) (dormant-unready id b off) (dormant-off id b off)),
+        delay-refused id n b e (r .1),
+      )
+
+  -- ---------------------------------------------------------------- a periodic start in NORMAL
+  -- the release point, plus a delay
+  module _ (s : ℕ) (f : FirstFlagged k s (windows (m .table))) where
+    release-is : St.contextOf m k .release ≡ (m .t / m .table .frame + 1) * m .table .frame + s
+    unfolding releaseAfter
+    release-is = release-plain (m .table) (u .table) (m .t) (u .time) k ∙ ap (λ (n : ℕ). (m .t / m .table .frame + 1) * m .table .frame + n) (first-is k s (windows (m .table)) f)
+
+    -- what the start rule makes of a periodic process, with its priority, mark and missed mark
+    pub started-is : (id delay n : ℕ) → Between 1 (p .processCount) id → process id p .given .period ≡ At n → delay ≤ durationLimit
+        → startRule (St.contextOf m k) delay (process id p) ≡ awaitsRelease (releaseAt m s delay) (process id p .times .delay) (process id p .given .base) false false (process id p)
+    unfolding startRule
+    started-is id delay n b e short =
+        let x = process id p in
+        let l = v .eachProcess id b .lasting in
+        let c = St.contextOf m k in
+        rw (e, release-deadline-plain c p (calling-context m k u h) x l delay short, release-point-plain c p (calling-context m k u h) x l delay short, release-is)
+
+    -- START with delay 0 is DELAYED_START with delay 0
+    start-is : (id delay n : ℕ) → p .mode ≡ 3 → Between 1 (p .processCount) id → process id p .started ≡ false → process id p .given .period ≡ At n → delay < n
+        → C.start (St.contextOf m k) id (Number delay) p ≡ D.changed (Stored id (awaitsRelease (releaseAt m s delay) (process id p .times .delay) (process id p .given .base) false false (process id p)))
+    unfolding C.start D.checked
+    start-is id delay n normal b off e below =
+        let r = period-high id n b e in
+        rw (known id (p .processCount) b, normal-is normal, started-is id delay n b e (omega (arith, r .1)), e, from-zero delay, le-leb delay durationLimit (omega (arith, r .1)), lt-leb n delay below, off)
+
+    released : (id delay n : ℕ) → Between 1 (p .processCount) id → process id p .started ≡ false
+        → let x = awaitsRelease (releaseAt m s delay) (process id p .times .delay) (process id p .given .base) false false (process id p) in stored id x p ≡ withProcess id x (p .arrival) p
+    released id delay n b off = stored-steady p (v .lists) id b _ (dormant-unready id b off) (dormant-off id b off)
+
+    pub delayed-release : (id delay n : ℕ) → p .mode ≡ 3 → Between 1 (p .processCount) id → process id p .started ≡ false → process id p .given .period ≡ At n → delay < n
+        → Puts m (callBy k 4 (pos id) (pos delay) (pos 0) (pos 0)) 0 0 k (withProcess id (awaitsRelease (releaseAt m s delay) (process id p .times .delay) (process id p .given .base) false false (process id p)) (p .arrival) p)
+    unfolding Sv.callDecision Sv.services Pl.strayField
+    delayed-release id delay n normal b off e below =
+        let r = period-high id n b e in
+        puts-is m k _ _
+        (gives m k u h 4 (pos id) (pos delay) (pos 0) (pos 0) (omega arith) (omega arith) refl (D.changed (Stored id (awaitsRelease (releaseAt m s delay) (process id p .times .delay) (process id p .given .base) false false (process id p))))
+        (rw (field-number id (small id (p .processCount) b (v .lists .numbered .few)), field-number delay (omega (arith, r .1))) (start-is id delay n normal b off e below)))
+        (released id delay n b off)
+
+    pub immediate-release : (id n : ℕ) → p .mode ≡ 3 → Between 1 (p .processCount) id → process id p .started ≡ false → process id p .given .period ≡ At n
+        → Puts m (callBy k 3 (pos id) (pos 0) (pos 0) (pos 0)) 0 0 k (withProcess id (awaitsRelease (releaseAt m s 0) (process id p .times .delay) (process id p .given .base) false false (process id p)) (p .arrival) p)
+    unfolding Sv.callDecision Sv.services Pl.strayField
+    immediate-release id n normal b off e =
+        puts-is m k _ _
+        (gives m k u h 3 (pos id) (pos 0) (pos 0) (pos 0) (omega arith) (omega arith) refl (D.changed (Stored id (awaitsRelease (releaseAt m s 0) (process id p .times .delay) (process id p .given .base) false false (process id p))))
+        (rw (field-number id (small id (p .processCount) b (v .lists .numbered .few))) (start-is id 0 n normal b off e (period-high id n b e .0))))
+        (released id 0 n b off)
+
+  delay-normal-corner : (id n s : ℕ) → Between 1 (p .processCount) id → process id p .started ≡ false → process id p .given .period ≡ At n → p .mode ≡ 3 → FirstFlagged k s (windows (m .table))
+      → Puts m (callBy k 4 (pos id) (pos (n - 1)) (pos 0) (pos 0)) 0 0 k
+      (withProcess id (awaitsRelease (releaseAt m s (n - 1)) (process id p .times .delay) (process id p .given .base) false false (process id p)) (p .arrival) p)
+      × Refuses m (callBy k 4 (pos id) (pos n) (pos 0) (pos 0)) 3
+  delay-normal-corner id n s b off e normal f =
+      let r = period-high id n b e in
+      (delayed-release s f id (n - 1) n normal b off e (omega (arith, r .0)), delay-refused id n b e (r .1))
+
+  -- ---------------------------------------------------------------- reading a channel
+  age-corner : (i : ℕ) → let x = M.message m (i - 1) in
+      let refresh = M.channel (m .table) (i - 1) .refresh in
+      Between 1 (m .table .channelCount) i → M.channel (m .table) (i - 1) .destination ≡ k → x .present ≡ true
+      → (m .t ≡ x .written + refresh → Gives m (callBy k 22 (pos i) (pos 0) (pos 0) (pos 0)) 0 (x .value) (At 1) m)
+      × (m .t ≡ x .written + refresh + 1 → Gives m (callBy k 22 (pos i) (pos 0) (pos 0) (pos 0)) 0 (x .value) (At 0) m)
+  unfolding Sv.callDecision Sv.services Pl.strayField Ch.read Ch.channelChecks D.checked
+  age-corner i b d here =
+      let x = M.message m (i - 1) in
+      let c = M.channel (m .table) (i - 1) in
+      let n = field-number i (omega (arith, b .1, u .table .channelCount)) in
+      let e : eqb (c .destination) k ≡ true = eq-eqb _ _ d in
+      let a : Ch.apart k c ≡ false = rw e (and-false (not (eqb (c .source) k))) in
+      let lo = le-leb 1 i (b .0) in
+      let hi = le-leb i (m .table .channelCount) (b .1) in (
+        λ t. gives m k u h 22 (pos i) (pos 0) (pos 0) (pos 0) (omega arith) (omega arith) refl (Unchanged (x .value) (At 1)) (rw (n, lo, hi, a, e, here, le-leb (m .t - x .written) (c .refresh) (omega arith))),
+        λ t. gives m k u h 22 (pos i) (pos 0) (pos 0) (pos 0) (omega arith) (omega arith) refl (Unchanged (x .value) (At 0)) (rw (n, lo, hi, a, e, here, lt-leb (m .t - x .written) (c .refresh) (omega arith))),
+      )
+
+  -- ---------------------------------------------------------------- time-out 0
+  suspend-self-corner : p .mode ≡ 3 → process (running p) p .given .period ≡ Never → Gives m (callBy k 8 (pos 0) (pos 0) (pos 0) (pos 0)) 0 0 (At 0) m
+  unfolding Sv.callDecision Sv.services Pl.strayField C.suspendSelf D.checked
+  suspend-self-corner n a = gives m k u h 8 (pos 0) (pos 0) (pos 0) (pos 0) (omega arith) (omega arith) refl (Unchanged 0 (At 0)) (rw (normal-is n, a))
+
+  -- the running process is READY
+  module _ (n : p .mode ≡ 3) where
+    caller-known : Between 1 (p .processCount) (running p)
+    caller-known = running-caller p (v .lists) (h .runs n) .created
+
+    caller-ready : ready (process (running p) p) ≡ true
+    caller-ready = running-caller p (v .lists) (h .runs n) .isReady
+
+  timed-wait-corner : p .mode ≡ 3 → Puts m (callBy k 9 (pos 0) (pos 0) (pos 0) (pos 0)) 0 0 k (withProcesses (p .processes) (p .processCount) (atEnd (running p) (p .arrival)) (p .waiting) p)
+  unfolding Sv.callDecision Sv.services Pl.strayField C.timedWait D.checked
+  timed-wait-corner n =
+      puts-is m k _ _
+      (gives m k u h 9 (pos 0) (pos 0) (pos 0) (pos 0) (omega arith) (omega arith) refl (D.changed (Last (running p))) (rw (normal-is n)))
+      (arrived-plain p (v .lists) (running p) (caller-ready n))
+
+  wait-semaphore-corner : (j : ℕ) → p .mode ≡ 3 → Between 1 (p .semaphoreCount) j
+      → (semaphore j p .value ≡ 0 → Refuses m (callBy k 15 (pos j) (pos 0) (pos 0) (pos 0)) 2)
+      × ((n : ℕ) → semaphore j p .value ≡ suc n → Puts m (callBy k 15 (pos j) (pos 0) (pos 0) (pos 0)) 0 0 k (withSemaphoreAt j n p))
+  unfolding Sv.callDecision Sv.services Pl.strayField Ob.waitSemaphore D.awaiting D.queued D.checked
+  wait-semaphore-corner j n b =
+      let few = v .objects .semaphores .few in
+      let i = field-number j (omega (arith, b .1)) in
+      let q = known j (p .semaphoreCount) b in (
+        λ z. gives m k u h 15 (pos j) (pos 0) (pos 0) (pos 0) (omega arith) (omega arith) refl (Refused 2) (rw (i, q, normal-is n, z)),
+        λ r z.
+            let s : SemaphoreT = record { name = semaphore j p .name; value = r; max = semaphore j p .max } in
+            let e : suc r - 1 ≡ r = omega arith in
+            let t : max (p .semaphoreCount) j ≡ p .semaphoreCount = omega (arith, b .1) in
+            puts-is m k _ _
+            (gives m k u h 15 (pos j) (pos 0) (pos 0) (pos 0) (omega arith) (omega arith) refl (D.changed (StoredSemaphore j s)) (rw (i, q, normal-is n, z, lt-ltb 0 (suc r) (omega arith), e)))
+            (semaphore-in j s p (within-in semaphoreLimit j (b .0) (omega (arith, b .1))) ∙ rw t),
+      )
+
+  wait-event-corner : (j : ℕ) → p .mode ≡ 3 → Between 1 (p .eventCount) j
+      → (event j p .up ≡ false → Refuses m (callBy k 20 (pos j) (pos 0) (pos 0) (pos 0)) 2)
+      × (event j p .up ≡ true → Gives m (callBy k 20 (pos j) (pos 0) (pos 0) (pos 0)) 0 0 (At 0) m)
+  unfolding Sv.callDecision Sv.services Pl.strayField Ob.waitEvent D.awaiting D.queued D.checked
+  wait-event-corner j n b =
+      let few = v .objects .events .few in
+      let i = field-number j (omega (arith, b .1)) in
+      let q = known j (p .eventCount) b in (
+        λ z. gives m k u h 20 (pos j) (pos 0) (pos 0) (pos 0) (omega arith) (omega arith) refl (Refused 2) (rw (i, q, normal-is n, z)),
+        λ z. gives m k u h 20 (pos j) (pos 0) (pos 0) (pos 0) (omega arith) (omega arith) refl (Unchanged 0 (At 0)) (rw (i, q, normal-is n, z)),
+      )
+
+  -- ---------------------------------------------------------------- SIGNAL, PERIODIC_WAIT
+  signal-corner : (j : ℕ) → Between 1 (p .semaphoreCount) j → semaphore j p .value ≡ semaphore j p .max → Refuses m (callBy k 16 (pos j) (pos 0) (pos 0) (pos 0)) 1
+  unfolding Sv.callDecision Sv.services Pl.strayField Ob.signal D.checked
+  signal-corner j b z =
+      let few = v .objects .semaphores .few in
+      gives m k u h 16 (pos j) (pos 0) (pos 0) (pos 0) (omega arith) (omega arith) refl (Refused 1)
+      (rw (field-number j (omega (arith, b .1)), known j (p .semaphoreCount) b, eq-eqb (semaphore j p .value) (semaphore j p .max) z))
+
+  periodic-wait-corner : (r n : ℕ) → let id = running p in
+      let x = process id p in
+      p .mode ≡ 3 → x .times .release ≡ At r → x .given .period ≡ At n
+      → Puts m (callBy k 10 (pos 0) (pos 0) (pos 0) (pos 0)) 7 0 k (withProcess id (awaitsNext (r + n) x) (without id (p .arrival)) p)
+  unfolding Sv.callDecision Sv.services Pl.strayField C.periodicWait D.blocked D.checked
+  periodic-wait-corner r n normal e f =
+      let id = running p in
+      let x = process id p in
+      let b = caller-known normal in
+      let g : periodic x ≡ true = rw f in
+      let s = settingOf (m .table .frame) (m .t) p in
+      let is : nextRelease x ≡ awaitsNext (r + n) x =
+      let a = next-plain s x (v .eachProcess id b) (normal-is normal) (caller-ready normal) (u .time) g ∙ ap₂ plainLater e f in
+      let d = next-deadline-plain s x (v .eachProcess id b) (normal-is normal) (caller-ready normal) (u .time) g ∙ ap (λ (t : Time). plainLater t (x .given .capacity)) (ap₂ plainLater e f) in
+      rw (d, a) in
+      puts-is m k _ _
+      (gives m k u h 10 (pos 0) (pos 0) (pos 0) (pos 0) (omega arith) (omega arith) refl (Blocked id (awaitsNext (r + n) x)) (rw (normal-is normal, is, f)))
+      (stored-leaves p (v .lists) id b (awaitsNext (r + n) x) (caller-ready normal) (rw (and-false (not (x .suspended))) (and-false (x .started))) (ready-off x (caller-ready normal)))
+
+pub corners : (m : Module) (k : ℕ) → Calling m k → Corners m k
+corners m k h = record {
+  priority = priority-corner m k (calling-sound m k h) h;
+  setPriority = set-priority-corner m k (calling-sound m k h) h;
+  processName = process-name-corner m k (calling-sound m k h) h;
+  semaphoreName = semaphore-name-corner m k (calling-sound m k h) h;
+  eventName = event-name-corner m k (calling-sound m k h) h;
+  period = period-corner m k (calling-sound m k h) h;
+  delayEarly = delay-early-corner m k (calling-sound m k h) h;
+  delayNormal = delay-normal-corner m k (calling-sound m k h) h;
+  age = age-corner m k (calling-sound m k h) h;
+  suspendSelf = suspend-self-corner m k (calling-sound m k h) h;
+  timedWait = timed-wait-corner m k (calling-sound m k h) h;
+  waitSemaphore = wait-semaphore-corner m k (calling-sound m k h) h;
+  waitEvent = wait-event-corner m k (calling-sound m k h) h;
+  signal = signal-corner m k (calling-sound m k h) h;
+  periodicWait = periodic-wait-corner m k (calling-sound m k h) h;
 }

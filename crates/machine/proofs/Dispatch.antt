@@ -1,7 +1,7 @@
 -- A law of every event from that law of each place and each call, and a law of the module from that law of each decision. Assumes nothing.
 use Prim.Native.Nat.{ℕ, zero, suc, _+_, _-_, _≤_, _<_}
 use mathlib.Core.Path.{_≡_, refl}
-use mathlib.Core.Bool.{Bool, true, false, cond, not, _&&_}
+use mathlib.Core.Bool.{Bool, true, false, _&&_}
 use mathlib.Core.List.{List, [], _∷_}
 use native.Mathlib.Omega.{arith}
 use lib.ListN.{getD, length}
@@ -11,7 +11,7 @@ use Rattle.machine.specs.declared.Partition.{Partition}
 use Rattle.machine.specs.declared.Context.{Context}
 use Rattle.machine.specs.declared.Port.{Port}
 use Rattle.machine.specs.declared.Message.{Message}
-use Rattle.machine.specs.declared.Field.the-variants.{Number}
+use Rattle.machine.specs.declared.Field.{Field}
 use Rattle.machine.specs.declared.Request.{Request}
 use Rattle.machine.specs.declared.Decision.{Decision}
 use Rattle.machine.specs.declared.Decision.the-variants.{Refused, Unchanged, Ticked, Blocked, Changed, Restarted, Written}
@@ -28,7 +28,7 @@ use Rattle.machine.specs.Decisions.{checked}
 use Rattle.machine.specs.Services.{Service, services, noService, callDecision}
 use Rattle.machine.specs.Places.{malformed, noCaller, ticks}
 use Rattle.machine.specs.Step.{contextOf, decision, moduleAfter}
-use Rattle.machine.proofs.Tests.{by-test, by-checks, by-codes, Passed}
+use Rattle.machine.proofs.Tests.{by-test, by-codes, Passed}
 
 -- a law of each of a list by its number, counted from k on, and of what stands past its end
 unfoldable pub Each : {A : Type 0} → (ℕ → A → Type 0) → ℕ → List A → Type 0
@@ -42,33 +42,33 @@ by-place P (x ∷ l) d k f zero n e g = let h : n ≡ k = omega arith in rw h (f
 by-place P (x ∷ l) d k f (suc i) n e g = by-place P l d (suc k) (f .1) i n (omega arith) (λ h. g (omega arith))
 
 -- ---------------------------------------------------------------- calls
+-- what is shown of each call, whatever fields it is given; 3 and 4 are one
 module _ (c : Context) (x : Port) (n : ℕ) (r : Request) (p : Partition) (P : Decision → Type 0)
-    (f1 : P (setMode c (r .a) p))
-    (f2 : P (createProcess c r p))
-    (f3 : P (start c (numberOf (r .a)) (Number 0) p))
-    (f4 : P (start c (numberOf (r .a)) (r .b) p))
-    (f5 : P (stop c (numberOf (r .a)) p))
+    (f1 : (a : Field) → P (setMode c a p))
+    (f2 : (r : Request) → P (createProcess c r p))
+    (f3 : (id : ℕ) (delay : Field) → P (start c id delay p))
+    (f5 : (id : ℕ) → P (stop c id p))
     (f6 : P (stopSelf c p))
-    (f7 : P (suspend c (numberOf (r .a)) p))
-    (f8 : P (suspendSelf c (r .a) p))
-    (f9 : P (timedWait c (r .a) p))
+    (f7 : (id : ℕ) → P (suspend c id p))
+    (f8 : (a : Field) → P (suspendSelf c a p))
+    (f9 : (a : Field) → P (timedWait c a p))
     (f10 : P (periodicWait c p))
-    (f11 : P (resume c (numberOf (r .a)) p))
-    (f12 : P (setPriority (numberOf (r .a)) (r .b) p))
-    (f13 : P (getStatus c (numberOf (r .a)) p))
-    (f14 : P (createSemaphore r p))
-    (f15 : P (waitSemaphore c (numberOf (r .a)) (r .b) p))
-    (f16 : P (signal (numberOf (r .a)) p))
-    (f17 : P (createEvent (r .a) p))
-    (f18 : P (setEvent (numberOf (r .a)) p))
-    (f19 : P (resetEvent (numberOf (r .a)) p))
-    (f20 : P (waitEvent c (numberOf (r .a)) (r .b) p))
-    (f21 : n ≡ 21 → P (write c x (r .b)))
+    (f11 : (id : ℕ) → P (resume c id p))
+    (f12 : (id : ℕ) (a : Field) → P (setPriority id a p))
+    (f13 : (id : ℕ) → P (getStatus c id p))
+    (f14 : (r : Request) → P (createSemaphore r p))
+    (f15 : (k : ℕ) (a : Field) → P (waitSemaphore c k a p))
+    (f16 : (k : ℕ) → P (signal k p))
+    (f17 : (name : Field) → P (createEvent name p))
+    (f18 : (k : ℕ) → P (setEvent k p))
+    (f19 : (k : ℕ) → P (resetEvent k p))
+    (f20 : (k : ℕ) (a : Field) → P (waitEvent c k a p))
+    (f21 : n ≡ 21 → (a : Field) → P (write c x a))
     (f22 : P (read c x))
     (other : (1 ≤ n → n ≤ callLimit → ⊥) → P (Refused 13)) where
   each : Each (λ j (s : Service). n ≡ j → P (s .decides c x r p)) 1 services
   unfolding Each services
-  each = (λ _. f1, (λ _. f2, (λ _. f3, (λ _. f4, (λ _. f5, (λ _. f6, (λ _. f7, (λ _. f8, (λ _. f9, (λ _. f10, (λ _. f11, (λ _. f12, (λ _. f13, (λ _. f14, (λ _. f15, (λ _. f16, (λ _. f17, (λ _. f18, (λ _. f19, (λ _. f20, (f21, (λ _. f22, tt))))))))))))))))))))))
+  each = (λ _. f1 _, (λ _. f2 _, (λ _. f3 _ _, (λ _. f3 _ _, (λ _. f5 _, (λ _. f6, (λ _. f7 _, (λ _. f8 _, (λ _. f9 _, (λ _. f10, (λ _. f11 _, (λ _. f12 _ _, (λ _. f13 _, (λ _. f14 _, (λ _. f15 _ _, (λ _. f16 _, (λ _. f17 _, (λ _. f18 _, (λ _. f19 _, (λ _. f20 _ _, (λ e. f21 e _, (λ _. f22, tt))))))))))))))))))))))
 
   all : length services ≡ callLimit
   unfolding services

@@ -13,7 +13,7 @@ use Rattle.machine.specs.declared.Process.{Process}
 use Rattle.machine.specs.declared.Partition.{Partition}
 use Rattle.machine.specs.Limits.{processLimit}
 use Rattle.machine.specs.Ids.{members, other, removed, follow}
-use Rattle.machine.specs.Process.{blankProcess, ready, onObject, waitEnded}
+use Rattle.machine.specs.Process.{blankProcess, ready, onObject, served}
 use Rattle.machine.specs.Partition.{within, byId, process, withProcesses, stored, arrivedLast, ended, endedAll, eachFrom, each}
 use Rattle.machine.specs.Valid.{Between, contains, Distinct, Tracks, Numbered, ListedIn, ObjectsIn, SoundProcess, settingOf, Valid}
 use Rattle.machine.proofs.Tests.{by-test, not-both}
@@ -110,10 +110,10 @@ unfolding eachFrom changedAll idsFrom
 each-changed f zero id p = refl
 each-changed f (suc n) id p = each-changed f n (id + 1) (stored id (f (process id p)) p)
 
-pub ended-changed : (l : List ℕ) (p : Partition) → endedAll l p ≡ changedAll (waitEnded 0) l p
+pub ended-changed : (l : List ℕ) (p : Partition) → endedAll l p ≡ changedAll served l p
 unfolding endedAll ended changedAll
 ended-changed [] p = refl
-ended-changed (id ∷ l) p = ended-changed l (stored id (waitEnded 0 (process id p)) p)
+ended-changed (id ∷ l) p = ended-changed l (stored id (served (process id p)) p)
 
 pub from-range : (n id y : ℕ) → contains y (idsFrom n id) ≡ true → (id ≤ y) × (y < id + n)
 unfolding contains idsFrom

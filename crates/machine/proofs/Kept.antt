@@ -30,22 +30,22 @@ use Rattle.machine.specs.declared.Time.the-variants.{Never, At}
 use Rattle.machine.specs.Limits.{processLimit, semaphoreLimit, eventLimit, nameLimit, priorityLimit, valueLimit, modeLimit, durationLimit, timeLimit, frameLimit, numberLimit, greatestValue}
 use Rattle.machine.specs.Ids.{members}
 use Rattle.machine.specs.Fields.{isNumber, between, isDuration, isMinusOne, isTimeout, isName, numberOf, timeOf}
-use Rattle.machine.specs.Process.{Class, classOf, createdProcess, blankProcess, later, object, onObject, periodic, ready, waitEnded, withCurrent, waitingFor, entered, ticked}
-use Rattle.machine.specs.Partition.{normalMode, idleMode, byId, nothingCreated, noSemaphore, noEvent, process, semaphore, event, withMode, stored, waitsOn, waiters, ended, endedAll, each, running, tickPartition, enteredNormal, created, storedSemaphore, storedEvent, applied, partitionAfter, freshPartition}
+use Rattle.machine.specs.Process.{Class, classOf, createdProcess, blankProcess, later, object, onObject, periodic, ready, served, withCurrent, entered, ticked}
+use Rattle.machine.specs.Partition.{normalMode, idleMode, byId, nothingCreated, noSemaphore, noEvent, process, semaphore, withMode, stored, waitsOn, waiters, endedAll, each, running, tickPartition, enteredNormal, created, storedSemaphore, storedEvent, applied, partitionAfter, freshPartition}
 use Rattle.machine.specs.Calls.{setMode, isMultiple, above, isPriority, admissible, createProcess, reaches, start, stop, stopSelf, suspend, suspendSelf, timedWait, periodicWait, resume, setPriority, status, getStatus}
 use Rattle.machine.specs.Objects.{createSemaphore, createEvent, withValue, withUp, waitSemaphore, waitEvent, oneMore, signalled, signal, setEvent, resetEvent}
 use Rattle.machine.specs.Channels.{write, read}
 use Rattle.machine.specs.Services.{callDecision}
 use Rattle.machine.specs.Valid.{counted, Between, contains, Distinct, Tracks, Timeout, Ahead, SoundPeriod, SoundCapacity, NotAbove, Below, SoundGiven, SoundProcess, SoundSemaphore, SoundEvent, Numbered, ListedIn, settingOf, Valid, SoundContext, SoundMessage, SoundChange, SoundDecision, NotAfter, latestDeadline}
 use Rattle.machine.proofs.Tests.{by-test, by-tests, Passed, passed-parts, by-checks, not-both}
-use Rattle.machine.proofs.Bounds.{not-so, or-false-parts, and-true-parts, known-id, within-in, named-in, named-same, named-other, replaced-in, named-replicate, created-in, semaphore-in, event-in, either}
+use Rattle.machine.proofs.Bounds.{not-so, or-false-parts, and-true-parts, known-id, within-in, named-same, named-other, named-replicate, created-in, semaphore-in, event-in, either}
 use Rattle.machine.proofs.Dispatch.{by-call}
 use Rattle.machine.proofs.Fields.{in-limits}
 use Rattle.machine.proofs.Tracking.{contains-kept, distinct-kept, tracks-same}
 use Rattle.machine.proofs.Keeping.{numbered-set, all-set, process-created, process-stored, each-rest, each-listed, each-process, changedAll, ended-changed, AllCreated, changed-rest, changed-listed, changed-process, valid-of, stored-valid, arrived-valid}
 use Rattle.machine.proofs.Sound.{times-bounded, outside-normal, more-objects, ahead-later, created-sound, start-sound, entered-sound, early-sound, stopped-sound, suspended-sound, priority-sound, resumed-sound, ended-sound, ready-released, waiting-sound, suspends-sound, next-sound, ticked-sound, early-waits}
 use Rattle.machine.proofs.Running.{running-runs}
-use Rattle.machine.specs.Decisions.{checked, changed, blocked, startMode, dormant, queued, awaiting}
+use Rattle.machine.specs.Decisions.{checked, blocked, startMode, dormant, queued, awaiting}
 
 -- ---------------------------------------------------------------- the tick
 pub tick-valid : (frame t : ℕ) (p : Partition) → Valid frame t p → Valid frame (t + 1) (tickPartition (t + 1) p)
@@ -159,7 +159,7 @@ module _ (p : Partition) (v : ListedIn p) (o : ℕ) where
   unfolding waiters
   waiters-on id h = sym (v .waitings .exact id) ∙ and-true-parts (waitsOn o p id) _ (sym (contains-kept (waitsOn o p) id (members (p .waiting))) ∙ h) .1
 
-  waiters-created : AllCreated (waiters o p) (p .processCount)
+  pub waiters-created : AllCreated (waiters o p) (p .processCount)
   waiters-created id h = process-created onObject refl p v id (waiters-on id h)
 
 -- ---------------------------------------------------------------- the changes
@@ -170,7 +170,7 @@ module _ (c : Context) (p : Partition) (v : Valid (c .frame) (c .time) p) where
   -- the waits of these processes end
   ended-all-valid : (l : List ℕ) → Distinct l → ((id : ℕ) → contains id l ≡ true → onObject (process id p) ≡ true) → AllCreated l (p .processCount) → Valid (c .frame) (c .time) (endedAll l p)
   ended-all-valid l dis on all =
-      let f = waitEnded 0 in
+      let f = served in
       rw (ended-changed l p) (valid-of (c .frame) (c .time) p (changedAll f l p) (changed-rest f l p) (v .mode) (v .objects) (changed-listed f l p (v .lists) all) (λ id b.
       rw (changed-process f l p (v .lists) all dis id) (by-test (SoundProcess (settingOf (c .frame) (c .time) p)) (contains id l)
       (λ e. ended-sound _ (process id p) (v .eachProcess id b) (on id e))
@@ -498,26 +498,25 @@ module _ (c : Context) (p : Partition) (v : Valid (c .frame) (c .time) p) (k : S
 pub call-sound : (c : Context) (x : Port) (n : ℕ) (r : Request) (p : Partition) → Valid (c .frame) (c .time) p → SoundContext c p → SoundMessage (c .time) (x .message) → Sound c p (callDecision c x n r p)
 call-sound c x n r p v k s =
     by-call c x n r p (Sound c p)
-    (set-mode-sound c p v k (r .a))
-    (create-process-sound c p v k r)
-    (start-sound-in c p v k (numberOf (r .a)) (Number 0))
-    (start-sound-in c p v k (numberOf (r .a)) (r .b))
-    (stop-sound c p v k (numberOf (r .a)))
+    (set-mode-sound c p v k)
+    (create-process-sound c p v k)
+    (start-sound-in c p v k)
+    (stop-sound c p v k)
     (stop-self-sound c p v k)
-    (suspend-sound c p v k (numberOf (r .a)))
-    (suspend-self-sound c p v k (r .a))
-    (timed-sound c p v k (r .a))
+    (suspend-sound c p v k)
+    (suspend-self-sound c p v k)
+    (timed-sound c p v k)
     (periodic-sound c p v k)
-    (resume-sound c p v k (numberOf (r .a)))
-    (priority-sound-in c p v k (numberOf (r .a)) (r .b))
-    (status-sound c p v k (numberOf (r .a)))
-    (create-semaphore-sound c p v k r)
-    (wait-semaphore-sound c p v k (numberOf (r .a)) (r .b))
-    (signal-sound c p v k (numberOf (r .a)))
-    (create-event-sound c p v k (r .a))
-    (set-event-sound c p v k (numberOf (r .a)))
-    (reset-sound c p v k (numberOf (r .a)))
-    (wait-event-sound c p v k (numberOf (r .a)) (r .b))
-    (λ _. write-sound c p v k x (r .b))
+    (resume-sound c p v k)
+    (priority-sound-in c p v k)
+    (status-sound c p v k)
+    (create-semaphore-sound c p v k)
+    (wait-semaphore-sound c p v k)
+    (signal-sound c p v k)
+    (create-event-sound c p v k)
+    (set-event-sound c p v k)
+    (reset-sound c p v k)
+    (wait-event-sound c p v k)
+    (λ _. write-sound c p v k x)
     (read-sound c p v k x s)
     (λ _. record { is = tt })

@@ -16,6 +16,7 @@ pub mod TextInput
 pub mod TextCases
 pub mod Lists
 pub mod Bounds
+pub mod Calling
 pub mod Folds
 pub mod Quiet
 pub mod Tracking

@@ -5,7 +5,6 @@ use mathlib.Core.Path.{_≡_, refl, ap, sym, _∙_}
 use mathlib.Core.Bool.{Bool, true, false, cond}
 use native.Mathlib.Omega.{arith}
 use lib.Seq.{set-getD, getD-set-other}
-use lib.Dec.{leb}
 use borrow.Author.Tests.{lt-leb, leb-false}
 use Rattle.machine.specs.declared.Ids.{Ids}
 use Rattle.machine.specs.declared.Process.{Process}
@@ -18,7 +17,7 @@ use Rattle.machine.specs.Ids.{follow}
 use Rattle.machine.specs.Process.{blankProcess, ready, onObject, due, woken, expired, ticked}
 use Rattle.machine.specs.Partition.{within, replaced, process, normalMode, withProcesses, stored, eachFrom, tickPartition, sooner, soonestFrom, soonestOf, withSoonest, noted}
 use Rattle.machine.specs.Module.{noPartition, part, withPart}
-use Rattle.machine.specs.Ticks.{tickAt, tickTo}
+use Rattle.machine.specs.Ticks.{dueAt, tickAt, tickTo}
 use Rattle.machine.specs.Valid.{plainTickTo, Noted}
 use Rattle.machine.proofs.Tests.{by-test}
 use Rattle.machine.proofs.Bounds.{replaced-same}
@@ -67,7 +66,7 @@ noted-same p h = ap (λ n. withSoonest n p) (sym h)
 pub tick-at-plain : (i : ℕ) (m : Module) → Noted (part m i) → tickAt i m ≡ withPart i (tickPartition (m .t) (part m i)) m
 unfolding tickAt
 tick-at-plain i m h =
-    by-test (λ (q : Module). q ≡ withPart i (tickPartition (m .t) (part m i)) m) (leb (part m i .soonest) (m .t))
+    by-test (λ (q : Module). q ≡ withPart i (tickPartition (m .t) (part m i)) m) (dueAt i m)
     (λ _. refl)
     (λ e.
     let s : m .t < soonestOf (part m i) = rw h at (leb-false (part m i .soonest) (m .t) e) in
@@ -75,7 +74,7 @@ tick-at-plain i m h =
 
 tick-at-other : (i j : ℕ) (m : Module) → (j ≡ i → ⊥) → part (tickAt i m) j ≡ part m j
 unfolding tickAt
-tick-at-other i j m ne = by-test (λ (q : Module). part q j ≡ part m j) (leb (part m i .soonest) (m .t)) (λ _. getD-set-other (m .partitions) i j _ noPartition ne) (λ _. refl)
+tick-at-other i j m ne = by-test (λ (q : Module). part q j ≡ part m j) (dueAt i m) (λ _. getD-set-other (m .partitions) i j _ noPartition ne) (λ _. refl)
 
 -- a tick of the first n partitions leaves the later ones
 pub tick-to-other : (n i : ℕ) (m : Module) → n ≤ i → part (tickTo n m) i ≡ part m i

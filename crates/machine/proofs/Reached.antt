@@ -1,7 +1,7 @@
 -- Every record that a run reaches is valid, and a tick that passes over partitions is the plain one there. Assumes nothing.
 use Prim.Native.Nat.{ℕ, zero, suc, _+_, _-_, _*_, _/_, _%_, _≤_, _<_}
 use mathlib.Core.Path.{_≡_, refl, ap, _∙_}
-use mathlib.Core.Bool.{Bool, false}
+use mathlib.Core.Bool.{false}
 use mathlib.Core.List.{List, [], _∷_}
 use mathlib.Core.Logic.{⊎-elim, inl, inr}
 use native.Mathlib.Omega.{arith}
@@ -9,7 +9,7 @@ use native.Mathlib.Nat.{lt-div-mul-add, div-mul-le-self}
 use lib.ListN.{length, getD, set, length-set, getD-replicate}
 use lib.Seq.{getD-set-same, getD-set-other}
 use lib.Dec.{eqb}
-use borrow.Author.Tests.{le-leb, ne-eqb, eqb-true, eqb-false, leb-false, not-false}
+use borrow.Author.Tests.{le-leb, ne-eqb, eqb-true, eqb-false}
 use Rattle.machine.specs.declared.Window.{Window}
 use Rattle.machine.specs.declared.Table.{Table}
 use Rattle.machine.specs.declared.Message.{Message}
@@ -19,13 +19,13 @@ use Rattle.machine.specs.declared.Request.{Request}
 use Rattle.machine.specs.declared.Decision.{Decision}
 use Rattle.machine.specs.declared.Decision.the-variants.{Refused, Unchanged, Ticked, Blocked, Changed, Restarted, Written}
 use Rattle.machine.specs.declared.Event.{Event as EventT}
-use Rattle.machine.specs.Limits.{durationLimit, timeLimit, partitionLimit, channelLimit, greatestTime}
+use Rattle.machine.specs.Limits.{timeLimit, partitionLimit, channelLimit, greatestTime}
 use Rattle.machine.specs.Fields.{requestOf, numberOf}
 use Rattle.machine.specs.Partition.{process, tickPartition, sooner, soonestFrom, soonestOf, withSoonest, noted, partitionAfter, freshPartition}
 use Rattle.machine.specs.Decisions.{checked, noMessage}
 use Rattle.machine.specs.Services.{callDecision}
-use Rattle.machine.specs.Module.{noPartition, emptyTable, emptyModule, freshModule, channel, part, current, withPart, message, withMessages, withMessage, withTime}
-use Rattle.machine.specs.Windows.{windows, flaggedFor, covers, owner, lookup, firstFlagged, releasePoint}
+use Rattle.machine.specs.Module.{noPartition, emptyTable, emptyModule, freshModule, channel, part, withPart, message, withMessages, withMessage, withTime}
+use Rattle.machine.specs.Windows.{windows, flaggedFor, covers, owner, lookup, firstFlagged, releaseAfter, releasePoint}
 use Rattle.machine.specs.Ticks.{tickTo, partitionCount, tickModule}
 use Rattle.machine.specs.Channels.{seenAt, portOf, keptTo, erasedTo}
 use Rattle.machine.specs.Step.{contextOf, decision, moduleAfter, step}
@@ -67,16 +67,17 @@ module _ (T : Table) (s : SoundTable T) (t : ℕ) where
   current-known = rw frame-some (owner-known 0 (T .frame) (T .size) (windows T) (t % T .frame) (s .eachWindow))
 
   -- the next release point lies ahead, by less than two frames
-  release-ahead : (k : ℕ) → let r = (t / T .frame + 1) * T .frame + firstFlagged k (windows T) in (t < r) × (r < t + T .frame + T .frame)
+  release-ahead : (k : ℕ) → (t < releaseAfter T t k) × (releaseAfter T t k < t + T .frame + T .frame)
+  unfolding releaseAfter
   release-ahead k =
       let low : t < t / T .frame * T .frame + T .frame = lt-div-mul-add (s .frame .0) in
       let high = div-mul-le-self t (T .frame) in
       let first = flagged-inside k 0 (T .frame) (T .size) (windows T) (s .frame .0) (s .eachWindow) in
-      (omega arith, omega arith)
+      (omega (arith, s .frame .0), omega (arith, s .frame .0))
 
-  pub release-plain : t ≤ timeLimit → (k : ℕ) → releasePoint T t k ≡ (t / T .frame + 1) * T .frame + firstFlagged k (windows T)
+  pub release-plain : t ≤ timeLimit → (k : ℕ) → releasePoint T t k ≡ releaseAfter T t k
   unfolding releasePoint
-  release-plain ends k = rw (frame-some, le-leb ((t / T .frame + 1) * T .frame + firstFlagged k (windows T)) greatestTime (omega (arith, release-ahead k .1, s .frame .1)))
+  release-plain ends k = rw (frame-some, le-leb (releaseAfter T t k) greatestTime (omega (arith, release-ahead k .1, s .frame .1)))
 
   pub release-bounds : t ≤ timeLimit → (k : ℕ) → (t < releasePoint T t k) × (releasePoint T t k < t + T .frame + T .frame)
   release-bounds ends k = rw (release-plain ends k) (release-ahead k)

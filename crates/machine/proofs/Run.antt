@@ -1,10 +1,9 @@
 -- The machine is no frozen one: time, and the run over a list. Demand 3 over a table's bytes. Assumes nothing.
-use Prim.Native.Nat.{ℕ, zero, suc, _+_, _-_, _≤_, _<_}
-use mathlib.Core.Path.{_≡_, refl, sym, ap, _∙_}
-use mathlib.Core.Bool.{Bool, true, false, cond, not, _&&_, _||_}
+use Prim.Native.Nat.{ℕ, zero, suc, _+_, _<_}
+use mathlib.Core.Path.{_≡_, refl, ap}
+use mathlib.Core.Bool.{true, false}
 use mathlib.Core.List.{List, [], _∷_, _++_}
-use native.Mathlib.Omega.{arith}
-use lib.Dec.{eqb, leb}
+use lib.Dec.{eqb}
 use Rattle.machine.specs.declared.Module.{Module}
 use Rattle.machine.specs.declared.Event.{Event}
 use Rattle.machine.specs.declared.EventRecord.{EventRecord}
@@ -26,7 +25,7 @@ use Rattle.machine.proofs.Tables.{table-read}
 tick-time : (n : ℕ) (m : Module) → Ti.tickTo n m .t ≡ m .t
 unfolding Ti.tickTo Ti.tickAt
 tick-time zero m = refl
-tick-time (suc n) m = by-test (λ (x : Module). x .t ≡ m .t) (leb (M.part (Ti.tickTo n m) n .soonest) (Ti.tickTo n m .t)) (λ _. tick-time n m) (λ _. tick-time n m)
+tick-time (suc n) m = by-test (λ (x : Module). x .t ≡ m .t) (Ti.dueAt n (Ti.tickTo n m)) (λ _. tick-time n m) (λ _. tick-time n m)
 
 -- time rises by one with every tick below 99,999,999
 pub time-rises : (m : Module) (e : Event) → Pl.malformed (m .table) (requestOf e) ≡ false → eqb (numberOf (requestOf e .partition)) 0 ≡ true → m .t < timeLimit

@@ -14,7 +14,7 @@ use Rattle.machine.specs.declared.Wait.the-variants.{None}
 use Rattle.machine.specs.declared.Time.{Time}
 use Rattle.machine.specs.declared.Time.the-variants.{Never, At}
 use Rattle.machine.specs.Limits.{priorityLimit, durationLimit, timeLimit, frameLimit, greatestTime}
-use Rattle.machine.specs.Process.{Class, classOf, objectIn, forNothing, createdProcess, capped, later, due, isNever, periodic, onObject, object, waitsForNothing, waitsForNormal, ready, withDeadline, waitEnded, withSuspended, withCurrent, waitingFor, suspendedUntil, onlyMarked, woken, expired, ticked, begun, startRule, startedEarly, entered, stopped, resumed, nextRelease}
+use Rattle.machine.specs.Process.{Class, classOf, objectIn, forNothing, createdProcess, capped, later, due, isNever, periodic, onObject, object, waitsForNothing, waitsForNormal, ready, withDeadline, served, withSuspended, withCurrent, waitingFor, suspendedUntil, onlyMarked, woken, expired, ticked, begun, startRule, startedEarly, entered, stopped, resumed, nextRelease}
 use Rattle.machine.specs.Valid.{Between, latestWake, latestDeadline, AtMost, NotAfter, Ahead, Timeout, SoundPeriod, Below, SoundCapacity, SoundGiven, Timeless, Bounded, Dormant, Early, KnownWait, SoundWake, Released, SoundRelease, Setting, setting, Going, Lasting, LastingIn, SoundCode, SoundMark, SoundProcess}
 use Rattle.machine.proofs.Tests.{by-test, not-both}
 use Rattle.machine.proofs.Bounds.{either, not-so, so, and-true-parts}
@@ -312,7 +312,7 @@ module _ (s : Setting) (x : Process) where
           })
 
     -- a wait on an object ends before its time
-    pub ended-sound : onObject x ≡ true → SoundProcess s (waitEnded 0 x)
+    pub ended-sound : onObject x ≡ true → SoundProcess s (served x)
     ended-sound k = record {
       lasting = h .lasting;
       code = inl refl;

@@ -1,53 +1,72 @@
 -- The mistakes to shut out, proved, and the whole list of starred cases. Assumes nothing.
-use Prim.Native.Nat.{ℕ, zero, suc, _+_, _-_, _≤_, _<_}
-use mathlib.Core.Path.{_≡_, refl, sym, ap, ap₂, _∙_}
-use mathlib.Core.Bool.{Bool, true, false, cond, not, _&&_, _||_, true≢false, and-false}
-use mathlib.Core.List.{List, [], _∷_}
-use mathlib.Core.Logic.{_⊎_, inl, inr}
+use Prim.Native.Nat.{ℕ, zero, suc, _+_, _-_, _*_, _≤_, _<_, max}
+use mathlib.Core.Path.{_≡_, refl, sym, ap, _∙_}
+use mathlib.Core.Bool.{Bool, true, false, cond, not, _||_, and-false, or-true}
+use mathlib.Core.List.{List, [], _∷_, _++_}
+use mathlib.Core.Logic.{inr}
 use native.Mathlib.Omega.{arith}
-use lib.ListN.{getD}
-use lib.Seq.{getD-set-other}
-use lib.Dec.{leb, ltb, eqb}
-use borrow.Author.Tests.{eqb-false, eq-eqb, ne-eqb, not-true}
-use Rattle.machine.specs.declared.Context.{Context}
+use lib.IntN.{pos}
+use lib.ListN.{getD, set}
+use lib.Seq.{getD-set-same, getD-set-other}
+use lib.Dec.{eqb}
+use borrow.Author.Tests.{eqb-false, eq-eqb, ne-eqb, le-leb, not-true}
 use Rattle.machine.specs.declared.Process.{Process}
 use Rattle.machine.specs.declared.Partition.{Partition}
-use Rattle.machine.specs.declared.Request.{Request}
 use Rattle.machine.specs.declared.Event.{Event as EventT}
 use Rattle.machine.specs.declared.Module.{Module}
 use Rattle.machine.specs.declared.Port.{Port}
 use Rattle.machine.specs.declared.Message.{Message}
+use Rattle.machine.specs.declared.EventState.{EventState}
+use Rattle.machine.specs.declared.Change.the-variants.{Stored, StoredEvent, Ended, Entered}
 use Rattle.machine.specs.declared.Decision.{Decision}
-use Rattle.machine.specs.declared.Decision.the-variants.{Written}
+use Rattle.machine.specs.declared.Decision.the-variants.{Changed, Written, Ticked}
 use Rattle.machine.specs.declared.Field.{Field}
 use Rattle.machine.specs.declared.Field.the-variants.{Number, MinusOne, Other}
 use Rattle.machine.specs.declared.Wait.{Wait}
+use Rattle.machine.specs.declared.Wait.the-variants.{None, Normal, Delay, Timed, Period, Semaphore, Event}
 use Rattle.machine.specs.declared.Time.{Time}
 use Rattle.machine.specs.declared.Time.the-variants.{Never, At}
-use Rattle.machine.specs.Limits.{timeLimit, channelLimit}
-use Rattle.machine.specs.Fields.{requestOf, isNumber, numberOf}
-use Rattle.machine.specs.Process.{due, later, periodic, ready, onObject, waitEnded, withSuspended, woken, expired, deadlineMissed, ticked, waitsForNothing, waitsForNormal, startRule, entered}
-use Rattle.machine.specs.Services.{callDecision}
+use Rattle.machine.specs.Limits.{timeLimit, channelLimit, eventLimit}
+use Rattle.machine.specs.Fields.{field, requestOf, isNumber, numberOf}
+use Rattle.machine.specs.Ids.{members, kept}
+use Rattle.machine.specs.Process.{due, object, onObject, ready, onlyMarked, waitEnded, served, woken, expired, ticked, waitsForNothing, entered}
+use Rattle.machine.specs.Partition.{process, semaphore, event, noEvent, withMode, withEvents, waitsOn, waiters, storedEvent, stored, endedAll, enteredNormal, tickPartition, noted}
+use Rattle.machine.specs.Windows.{windows}
+use Rattle.machine.specs.Services.{services, callDecision}
 use Rattle.machine.specs.Decisions as D
+use Rattle.machine.specs.Calls as C
+use Rattle.machine.specs.Objects as Ob
 use Rattle.machine.specs.Module as M
 use Rattle.machine.specs.Ticks as Ti
 use Rattle.machine.specs.Channels as Ch
 use Rattle.machine.specs.Places as Pl
 use Rattle.machine.specs.Step as St
-use Rattle.machine.specs.Starred.{Mistakes, Starred}
-use Rattle.machine.specs.Partition.{tickPartition, noted}
-use Rattle.machine.specs.Valid.{ValidModule, plainTick}
-use Rattle.machine.proofs.Dispatch.{by-event, by-decision}
-use Rattle.machine.proofs.Bodies.{FromSource, Bodily, call-body}
+use Rattle.machine.specs.Starred.{own, callBy, tick, Puts, Calling, FirstFlagged, releaseAt, awaitsRelease, WaitEnded, ReadyUnmarked, onto, forTime, Ticks, Mistakes, Starred}
+use Rattle.machine.specs.Valid.{Between, SoundModule, ListedIn, contains, plainTick}
 use Rattle.machine.proofs.Tests.{by-test, and-left, and-right, not-both}
+use Rattle.machine.proofs.Bounds.{not-so, within-in, event-in, named-same}
+use Rattle.machine.proofs.Dispatch.{by-event, by-decision, ticks-decided}
+use Rattle.machine.proofs.Bodies.{FromSource, Bodily, call-body}
 use Rattle.machine.proofs.Refusals.{refused-same, places, call-in-range}
-use Rattle.machine.proofs.Reached.{plain-part, tick-module-plain}
+use Rattle.machine.proofs.Keeping.{process-created, process-stored, each-rest, each-process, ended-changed, changed-rest, changed-process}
+use Rattle.machine.proofs.Kept.{waiters-distinct, waiters-exact, waiters-created}
+use Rattle.machine.proofs.Reached.{reached-valid, valid-sound, plain-part, tick-module-plain}
+use Rattle.machine.proofs.Calling.{field-number, from-zero, number-is, number-of, calling-sound, calling-place, calling-valid, gives}
 use Rattle.machine.proofs.Worked.{worked}
-use Rattle.machine.proofs.Corners.{corners}
+use Rattle.machine.proofs.Corners.{known, normal-not, started-is, immediate-release, delayed-release, corners}
 
-neighbour : (m : Module) (e : EventT) → St.sees (requestOf e) (St.step m e .answer .current) ≡ false → St.step m e .answer .running ≡ 0
+-- ---------------------------------------------------------------- a neighbour's running process
+unseen : (m : Module) (e : EventT) → St.sees (requestOf e) (St.step m e .answer .current) ≡ false → St.step m e .answer .running ≡ 0
 unfolding St.step
-neighbour m e h = rw h
+unseen m e h = rw h
+
+or-both : (a b : Bool) → a ≡ false → b ≡ false → (a || b) ≡ false
+or-both a b p q = rw (p, q)
+
+neighbour : (m : Module) (e : EventT) → (e .partition ≡ pos 0 → ⊥) → (e .partition ≡ pos (St.step m e .answer .current) → ⊥) → St.step m e .answer .running ≡ 0
+neighbour m e none other =
+    unseen m e (or-both (isNumber 0 (field (e .partition))) (isNumber (St.step m e .answer .current) (field (e .partition)))
+    (not-so _ (λ t. none (number-is (e .partition) 0 t))) (not-so _ (λ t. other (number-is (e .partition) _ t))))
 
 -- an 8 is given to a partition that is neither 0 nor current, and leaves the record as it is
 eight-unseen : (m : Module) (e : EventT) → St.step m e .answer .code ≡ 8 → St.sees (requestOf e) (M.current m) ≡ false
@@ -72,26 +91,9 @@ eight-refuses = refl
 neighbour-in-eight : (m : Module) (e : EventT) → St.step m e .answer .code ≡ 8 → St.step m e .answer .running ≡ 0
 neighbour-in-eight m e h =
     let same : St.step m e .state ≡ m = refused-same m e (rw h eight-refuses) in
-    neighbour m e (ap (St.sees (requestOf e)) (answer-current m e ∙ ap M.current same) ∙ eight-unseen m e h)
+    unseen m e (ap (St.sees (requestOf e)) (answer-current m e ∙ ap M.current same) ∙ eight-unseen m e h)
 
-deadline-from-release : (c : Context) (x : Process) → waitsForNormal (x .wait) ≡ true → periodic x ≡ true
-    → (entered c x .times .release ≡ later (At (c .release)) (At (x .times .delay)))
-    × (entered c x .times .deadline ≡ later (entered c x .times .release) (x .given .capacity))
-unfolding entered startRule
-deadline-from-release c x w p = (rw (w, p), rw (w, p))
-
-suspended-not-ready : (x : Process) → x .suspended ≡ true → ready x ≡ false
-suspended-not-ready x h = rw h (and-false (x .started))
-
--- a process that waits keeps its mark at a tick
-ticked-suspended : (t : ℕ) (x : Process) → x .suspended ≡ true → waitsForNothing (x .wait) ≡ false → ticked t x .suspended ≡ true
-unfolding woken expired
-ticked-suspended t x h w =
-    by-test (λ (y : Process). y .suspended ≡ true) (due t (woken t x .times .deadline)) (λ _. kept) (λ _. kept)
-  where
-    kept : woken t x .suspended ≡ true
-    kept = by-test (λ (y : Process). y .suspended ≡ true) (due t (x .times .wake)) (λ _. rw w h) (λ _. h)
-
+-- ---------------------------------------------------------------- messages
 -- erasing messages into partition k leaves those of channels into another
 erased-other : (k n : ℕ) (m : Module) (i : ℕ) → eqb (M.channel (m .table) i .destination) k ≡ false → M.message (Ch.erasedTo k n m) i ≡ M.message m i
 unfolding Ch.keptTo
@@ -104,10 +106,9 @@ erased-other k (suc n) m i h =
 tick-messages : (n : ℕ) (m : Module) → Ti.tickTo n m .messages ≡ m .messages
 unfolding Ti.tickTo Ti.tickAt
 tick-messages zero m = refl
-tick-messages (suc n) m = by-test (λ (x : Module). x .messages ≡ m .messages) (leb (M.part (Ti.tickTo n m) n .soonest) (Ti.tickTo n m .t)) (λ _. tick-messages n m) (λ _. tick-messages n m)
+tick-messages (suc n) m = by-test (λ (x : Module). x .messages ≡ m .messages) (Ti.dueAt n (Ti.tickTo n m)) (λ _. tick-messages n m) (λ _. tick-messages n m)
 
-restart-keeps : (m : Module) (e : EventT) (i : ℕ) → eqb (numberOf (requestOf e .call)) 21 ≡ false → eqb (M.channel (m .table) i .destination) (numberOf (requestOf e .partition)) ≡ false
-    → M.message (St.step m e .state) i ≡ M.message m i
+restart-keeps : (m : Module) (e : EventT) (i : ℕ) → (e .call ≡ pos 21 → ⊥) → (e .partition ≡ pos (M.channel (m .table) i .destination) → ⊥) → M.message (St.step m e .state) i ≡ M.message m i
 unfolding St.step
 restart-keeps m e i w d =
     let r = requestOf e in
@@ -121,26 +122,267 @@ restart-keeps m e i w d =
     let u = call-in-range (m .table) r (q .formed) (ne-eqb k 0 (q .some)) in
     let made = callDecision (St.contextOf m k) x (numberOf (r .call)) r (M.part m (k - 1)) in
     let body = call-body x (numberOf (r .call)) (St.contextOf m k) r (M.part m (k - 1)) (u .0) (u .1) .is in
-    by-decision m k made (λ (y : Module). M.message y i ≡ M.message m i) refl ticked refl (erased-other k channelLimit m i d)
-    (λ j y e. absurd (eqb-false (numberOf (r .call)) 21 w (left-by x (numberOf (r .call)) made j y e body .call)))
+    by-decision m k made (λ (y : Module). M.message y i ≡ M.message m i) refl ticked refl
+    (erased-other k channelLimit m i (ne-eqb _ k (λ s. d (number-of (e .partition) (q .some) ∙ ap pos (sym s)))))
+    (λ j y s. absurd (w (number-of (e .call) (λ z. omega (arith, u .0)) ∙ ap pos (left-by x (numberOf (r .call)) made j y s body .call))))
   where
     left-by : (x : Port) (n : ℕ) (a : Decision) (j : ℕ) (y : Message) → a ≡ Written j y → Bodily x n a → FromSource x n j
     left-by x n a j y e b = rw e at b
 
-every-partition-ticks : (m : Module) → ValidModule m → (i : ℕ) → i < m .table .size → M.part (Ti.tickModule m) i ≡ noted (tickPartition (m .t + 1) (M.part m i))
-unfolding plainTick M.emptyModule M.emptyTable
-every-partition-ticks m (inl h) i l = absurd (let z : m .table .size ≡ 0 = ap (λ (x : Module). x .table .size) h in omega arith)
-every-partition-ticks m (inr s) i l =
+-- ---------------------------------------------------------------- waits
+waits : (w : Wait) → (w ≡ None → ⊥) → waitsForNothing w ≡ false
+waits None h = absurd (h refl)
+waits Normal h = refl
+waits Delay h = refl
+waits Timed h = refl
+waits Period h = refl
+waits (Semaphore j) h = refl
+waits (Event j) h = refl
+
+onto-is : (w : Wait) → onto w → (waitsForNothing w ≡ false) × (not (eqb (object w) 0) ≡ true)
+onto-is None h = absurd h
+onto-is Normal h = absurd h
+onto-is Delay h = absurd h
+onto-is Timed h = absurd h
+onto-is Period h = absurd h
+onto-is (Semaphore j) h = (refl, rw (ne-eqb (256 * 1 + j) 0 (λ e. omega arith)))
+onto-is (Event j) h = (refl, rw (ne-eqb (256 * 2 + j) 0 (λ e. omega arith)))
+
+time-is : (w : Wait) → forTime w → (waitsForNothing w ≡ false) × (not (eqb (object w) 0) ≡ false)
+time-is None h = absurd h
+time-is Normal h = absurd h
+time-is Delay h = (refl, refl)
+time-is Timed h = (refl, refl)
+time-is Period h = (refl, refl)
+time-is (Semaphore j) h = absurd h
+time-is (Event j) h = absurd h
+
+-- the wait that names semaphore j, event j
+semaphore-is : (w : Wait) (j : ℕ) → j ≤ 255 → object w ≡ object (Semaphore j) → w ≡ Semaphore j
+semaphore-is None j h e = absurd (omega arith)
+semaphore-is Normal j h e = absurd (omega arith)
+semaphore-is Delay j h e = absurd (omega arith)
+semaphore-is Timed j h e = absurd (omega arith)
+semaphore-is Period j h e = absurd (omega arith)
+semaphore-is (Semaphore i) j h e = ap Semaphore (omega arith)
+semaphore-is (Event i) j h e = absurd (omega arith)
+
+suspended-not-ready : (x : Process) → x .suspended ≡ true → ready x ≡ false
+suspended-not-ready x h = rw h (and-false (x .started))
+
+-- ---------------------------------------------------------------- the tick
+-- what a deadline leaves as it is
+record Past (x y : Process) : Type 0 where
+  wake : y .times .wake ≡ x .times .wake
+  wait : y .wait ≡ x .wait
+  codeIs : y .code ≡ x .code
+  mark : y .suspended ≡ x .suspended
+  started : y .started ≡ x .started
+
+module _ (t : ℕ) (x : Process) where
+  expired-past : Past x (expired t x)
+  unfolding expired
+  expired-past = by-test (Past x) (due t (x .times .deadline))
+      (λ _. record { wake = refl; wait = refl; codeIs = refl; mark = refl; started = refl })
+      (λ _. record { wake = refl; wait = refl; codeIs = refl; mark = refl; started = refl })
+
+  woken-deadline : woken t x .times .deadline ≡ x .times .deadline
+  unfolding woken
+  woken-deadline = by-test (λ (y : Process). y .times .deadline ≡ x .times .deadline) (due t (x .times .wake)) (λ _. by-test (λ (y : Process). y .times .deadline ≡ x .times .deadline) (onlyMarked x) (λ _. refl) (λ _. refl)) (λ _. refl)
+
+  -- a process that waits keeps its mark
+  woken-marked : waitsForNothing (x .wait) ≡ false → woken t x .suspended ≡ x .suspended
+  unfolding woken
+  woken-marked w = by-test (λ (y : Process). y .suspended ≡ x .suspended) (due t (x .times .wake)) (λ _. rw w) (λ _. refl)
+
+  come : (a : Time) (n : ℕ) → a ≡ At n → n ≤ t → due t a ≡ true
+  come a n e h = rw e (le-leb n t h)
+
+  woken-is : (n : ℕ) (code : ℕ) → x .times .wake ≡ At n → n ≤ t → waitsForNothing (x .wait) ≡ false → cond (onObject x) 6 0 ≡ code → woken t x ≡ waitEnded code x
+  unfolding woken
+  woken-is n code e h w c = rw (come (x .times .wake) n e h, w, c)
+
+-- what a tick makes of one process
+module _ (t : ℕ) (x : Process) where
+  wait-over : (n : ℕ) (code : ℕ) → x .times .wake ≡ At n → n ≤ t → waitsForNothing (x .wait) ≡ false → cond (onObject x) 6 0 ≡ code → WaitEnded code x (ticked t x)
+  wait-over n code e h w c =
+      let y = woken-is t x n code e h w c in
+      let k = expired-past t (woken t x) in
+      record {
+        wake = k .wake ∙ ap (λ (z : Process). z .times .wake) y;
+        wait = k .wait ∙ ap (λ (z : Process). z .wait) y;
+        codeIs = k .codeIs ∙ ap (λ (z : Process). z .code) y;
+        mark = k .mark ∙ ap (λ (z : Process). z .suspended) y;
+        started = k .started ∙ ap (λ (z : Process). z .started) y;
+      }
+
+  suspension-over : (n : ℕ) → x .times .wake ≡ At n → n ≤ t → x .wait ≡ None → x .suspended ≡ true → (ticked t x .suspended ≡ false) × (ticked t x .code ≡ 6) × (ticked t x .times .wake ≡ Never)
+  unfolding woken
+  suspension-over n e h w s =
+      let k = expired-past t (woken t x) in
+      let d = come t x (x .times .wake) n e h in
+      (k .mark ∙ rw (d, w, s), k .codeIs ∙ rw (d, w, s), k .wake ∙ rw (d, w, s))
+
+  deadline-over : (n : ℕ) → x .times .deadline ≡ At n → n ≤ t → (ticked t x .missed ≡ true) × (ticked t x .times .deadline ≡ Never)
+  unfolding expired
+  deadline-over n e h = let d : due t (woken t x .times .deadline) ≡ true = come t x (woken t x .times .deadline) n (woken-deadline t x ∙ e) h in (rw d, rw d)
+
+  ticks-of : Ticks t x (ticked t x)
+  ticks-of = record {
+    object = λ w e h o. let r = onto-is (x .wait) o in wait-over w 6 e h (r .0) (rw (r .1));
+    timer = λ w e h o. let r = time-is (x .wait) o in wait-over w 0 e h (r .0) (rw (r .1));
+    suspension = suspension-over;
+    deadline = deadline-over;
+    marked = λ w s. suspended-not-ready (ticked t x) (expired-past t (woken t x) .mark ∙ woken-marked t x (waits (x .wait) w) ∙ s);
+  }
+
+every-partition-ticks : (m : Module) → SoundModule m → (i : ℕ) → i < m .table .size → M.part (Ti.tickModule m) i ≡ noted (tickPartition (m .t + 1) (M.part m i))
+unfolding plainTick
+every-partition-ticks m s i l =
     rw (tick-module-plain m (inr s)) (plain-part (m .table .size) (M.withTime (m .t + 1) m) (omega (arith, s .partitionsSize, s .table .size .1)) i l)
+
+-- a tick is an event of its own
+tick-formed : (m : Module) → 1 ≤ m .table .size → Pl.malformed (m .table) (requestOf tick) ≡ false
+unfolding Pl.strayField
+tick-formed m h = rw (ne-eqb (m .table .size) 0 (λ z. omega arith), from-zero (m .table .size))
+
+module _ (m : Module) (u : SoundModule m) (room : m .t < timeLimit) (k id : ℕ) (b : Between 1 (m .table .size) k) (normal : own m k .mode ≡ 3) (c : Between 1 (own m k .processCount) id) where
+  ticked-process : process id (own (Ti.tickModule m) k) ≡ ticked (m .t + 1) (process id (own m k))
+  unfolding tickPartition
+  ticked-process =
+      ap (process id) (every-partition-ticks m u (k - 1) (omega (arith, b .0, b .1)))
+      ∙ rw (eq-eqb (own m k .mode) 3 normal) (each-process (ticked (m .t + 1)) (own m k) (u .eachPartition (k - 1) (omega (arith, b .0, b .1)) .lists) id c)
+
+  never-frozen : (St.step m tick .answer .code ≡ 0) × Ticks (m .t + 1) (process id (own m k)) (process id (own (St.step m tick .state) k))
+  unfolding St.step
+  never-frozen =
+      let d : St.decision m (requestOf tick) ≡ Ticked = ticks-decided m (requestOf tick) (tick-formed m (omega (arith, b .0, b .1))) refl room in
+      (rw d, rw (d, ticked-process) (ticks-of (m .t + 1) (process id (own m k))))
+
+-- ---------------------------------------------------------------- calls
+module _ (m : Module) (k : ℕ) (u : SoundModule m) (h : Calling m k) where
+  -- the caller's partition after a call that stored it
+  own-after : {e : EventT} {code value : ℕ} (p : Partition) → Puts m e code value k p → own (St.step m e .state) k ≡ noted p
+  own-after p g = rw (g .state) (getD-set-same (m .partitions) (k - 1) (noted p) M.noPartition (omega (arith, u .partitionsSize, u .table .size .1, calling-place m k u h)))
+
+  -- a wait on an object is of a process that was created
+  waiter-known : (id : ℕ) → onto (process id (own m k) .wait) → Between 1 (own m k .processCount) id
+  waiter-known id o = process-created onObject refl (own m k) (calling-valid m k u h .lists) id (onto-is (process id (own m k) .wait) o .1)
+
+  module _ (id n s : ℕ) (early : own m k .mode ≡ 3 → ⊥) (b : Between 1 (own m k .processCount) id) (w : process id (own m k) .wait ≡ Normal) (e : process id (own m k) .given .period ≡ At n) (f : FirstFlagged k s (windows (m .table))) where
+    enter-gives : Puts m (callBy k 1 (pos 3) (pos 0) (pos 0) (pos 0)) 0 0 k (enteredNormal (St.contextOf m k) (own m k))
+    unfolding callDecision services Pl.strayField C.setMode D.checked
+    enter-gives = gives m k u h 1 (pos 3) (pos 0) (pos 0) (pos 0) (omega arith) (omega arith) refl (D.changed (Entered (St.contextOf m k)))
+        (rw (normal-not m k u h early, ne-eqb (own m k .processCount) 0 (λ z. omega (arith, b .0, b .1))))
+
+    entered-mode : enteredNormal (St.contextOf m k) (own m k) .mode ≡ 3
+    unfolding enteredNormal
+    entered-mode = ap (λ (q : Partition). q .mode) (each-rest (entered (St.contextOf m k)) (withMode 3 (own m k)) (calling-valid m k u h .lists))
+
+    entered-process : process id (enteredNormal (St.contextOf m k) (own m k)) ≡ awaitsRelease (releaseAt m s (process id (own m k) .times .delay)) (process id (own m k) .times .delay) (process id (own m k) .current) (process id (own m k) .suspended) false (process id (own m k))
+    unfolding enteredNormal entered
+    entered-process =
+        let x = process id (own m k) in
+        each-process (entered (St.contextOf m k)) (withMode 3 (own m k)) (calling-valid m k u h .lists) id b
+        ∙ rw (started-is m k u h s f id (x .times .delay) n b e (calling-valid m k u h .eachProcess id b .lasting .delay), w)
+
+    enter-deadline : let a = callBy k 1 (pos 3) (pos 0) (pos 0) (pos 0) in
+        (St.step m a .answer .code ≡ 0) × (own (St.step m a .state) k .mode ≡ 3)
+        × (process id (own (St.step m a .state) k) ≡ awaitsRelease (releaseAt m s (process id (own m k) .times .delay)) (process id (own m k) .times .delay) (process id (own m k) .current) (process id (own m k) .suspended) false (process id (own m k)))
+    enter-deadline =
+        let q = own-after (enteredNormal (St.contextOf m k) (own m k)) enter-gives in
+        (enter-gives .codeIs, ap (λ (p : Partition). p .mode) q ∙ entered-mode, ap (process id) q ∙ entered-process)
+
+  -- ---------------------------------------------------------------- SIGNAL
+  module _ (j id : ℕ) (before after : List ℕ) (b : Between 1 (own m k .semaphoreCount) j) (below : semaphore j (own m k) .value ≡ semaphore j (own m k) .max → ⊥)
+      (split : members (own m k .waiting) ≡ before ++ (id ∷ after)) (w : process id (own m k) .wait ≡ Semaphore j)
+      (first : (y : ℕ) → contains y before ≡ true → process y (own m k) .wait ≡ Semaphore j → ⊥) where
+    few : j ≤ 255
+    few = omega (arith, b .1, calling-valid m k u h .objects .semaphores .few)
+
+    -- it is the first of the queue
+    queue-is : waiters (object (Semaphore j)) (own m k) ≡ id ∷ kept (waitsOn (object (Semaphore j)) (own m k)) after
+    unfolding waiters kept contains
+    queue-is = rw split (go before first)
+      where
+        go : (l : List ℕ) → ((y : ℕ) → contains y l ≡ true → process y (own m k) .wait ≡ Semaphore j → ⊥) → kept (waitsOn (object (Semaphore j)) (own m k)) (l ++ (id ∷ after)) ≡ id ∷ kept (waitsOn (object (Semaphore j)) (own m k)) after
+        go [] f = rw (w, eq-eqb (256 + j) (256 + j) refl)
+        go (y ∷ l) f =
+            let off : waitsOn (object (Semaphore j)) (own m k) y ≡ false = ne-eqb (object (process y (own m k) .wait)) (object (Semaphore j)) (λ q. f y (rw (eq-eqb y y refl)) (semaphore-is (process y (own m k) .wait) j few q)) in
+            rw off (go l (λ z c. f z (rw c (or-true (eqb y z)))))
+
+    signal-gives : Puts m (callBy k 16 (pos j) (pos 0) (pos 0) (pos 0)) 0 0 k (stored id (served (process id (own m k))) (own m k))
+    unfolding callDecision services Pl.strayField Ob.signal Ob.signalled D.checked
+    signal-gives =
+        gives m k u h 16 (pos j) (pos 0) (pos 0) (pos 0) (omega arith) (omega arith) refl (D.changed (Stored id (served (process id (own m k)))))
+        (rw (field-number j (omega (arith, few)), known m k u h j (own m k .semaphoreCount) b, ne-eqb (semaphore j (own m k) .value) (semaphore j (own m k) .max) below, queue-is))
+
+    signal-ends : let a = callBy k 16 (pos j) (pos 0) (pos 0) (pos 0) in
+        let y = process id (own (St.step m a .state) k) in
+        (St.step m a .answer .code ≡ 0) × WaitEnded 0 (process id (own m k)) y × ReadyUnmarked (process id (own m k)) y
+    signal-ends =
+        let x = process id (own m k) in
+        let known-waiter = waiter-known id (rw w tt) in
+        let q = ap (process id) (own-after _ signal-gives) ∙ process-stored (own m k) id (served x) (calling-valid m k u h .lists) known-waiter in
+        (signal-gives .codeIs, rw q (record { wake = refl; wait = refl; codeIs = refl; mark = refl; started = refl }), rw q (λ s. suspended-not-ready (served x) s))
+
+  -- ---------------------------------------------------------------- SET_EVENT
+  module _ (j id : ℕ) (b : Between 1 (own m k .eventCount) j) (w : process id (own m k) .wait ≡ Event j) where
+    -- the partition with the event UP
+    abbrev up : Partition
+    up = storedEvent j (record { name = event j (own m k) .name; up = true }) (own m k)
+
+    low : j ≤ eventLimit
+    low = omega (arith, b .1, calling-valid m k u h .objects .events .few)
+
+    up-in : up ≡ withEvents (set (own m k .events) (j - 1) (record { name = event j (own m k) .name; up = true })) (max (own m k .eventCount) j) (own m k)
+    up-in = event-in j (record { name = event j (own m k) .name; up = true }) (own m k) (within-in eventLimit j (b .0) low)
+
+    set-gives : Puts m (callBy k 18 (pos j) (pos 0) (pos 0) (pos 0)) 0 0 k (endedAll (waiters (object (Event j)) up) up)
+    unfolding callDecision services Pl.strayField Ob.setEvent D.checked
+    set-gives =
+        gives m k u h 18 (pos j) (pos 0) (pos 0) (pos 0) (omega arith) (omega arith) refl (Changed (StoredEvent j (record { name = event j (own m k) .name; up = true })) (Ended (object (Event j))) 0)
+        (rw (field-number j (omega (arith, low)), known m k u h j (own m k .eventCount) b))
+
+    up-listed : ListedIn up
+    up-listed = rw up-in (calling-valid m k u h .lists)
+
+    -- the waits end
+    set-process : process id (endedAll (waiters (object (Event j)) up) up) ≡ served (process id (own m k))
+    set-process =
+        let o = object (Event j) in
+        let same : process id up ≡ process id (own m k) = rw up-in in
+        let there : contains id (waiters o up) ≡ true = waiters-exact up up-listed o (λ z. omega arith) id ∙ rw (same, w) (eq-eqb (512 + j) (512 + j) refl) in
+        ap (process id) (ended-changed (waiters o up) up)
+        ∙ changed-process served (waiters o up) up up-listed (waiters-created up up-listed o) (waiters-distinct up up-listed o) id
+        ∙ rw (there, same)
+
+    set-up : event j (endedAll (waiters (object (Event j)) up) up) .up ≡ true
+    set-up =
+        let l = waiters (object (Event j)) up in
+        ap (λ (q : Partition). event j q .up) (ended-changed l up)
+        ∙ ap (λ (q : Partition). event j q .up) (changed-rest served l up)
+        ∙ ap (λ (q : Partition). event j q .up) up-in
+        ∙ ap (λ (x : EventState). x .up) (named-same eventLimit noEvent j _ (own m k .events) (b .0) low (omega (arith, low, calling-valid m k u h .objects .events .size)))
+
+    set-ends : let a = callBy k 18 (pos j) (pos 0) (pos 0) (pos 0) in
+        let y = process id (own (St.step m a .state) k) in
+        (St.step m a .answer .code ≡ 0) × (event j (own (St.step m a .state) k) .up ≡ true) × WaitEnded 0 (process id (own m k)) y × ReadyUnmarked (process id (own m k)) y
+    set-ends =
+        let x = process id (own m k) in
+        let r = own-after _ set-gives in
+        let q = ap (process id) r ∙ set-process in
+        (set-gives .codeIs, ap (λ (p : Partition). event j p .up) r ∙ set-up, rw q (record { wake = refl; wait = refl; codeIs = refl; mark = refl; started = refl }), rw q (λ s. suspended-not-ready (served x) s))
 
 pub mistakes : Mistakes
 mistakes = record {
-  frozen = every-partition-ticks;
+  frozen = λ m reached room k id b. never-frozen m (valid-sound m (reached-valid m reached) (k - 1) (omega (arith, b .0, b .1))) room k id b;
   neighbour = neighbour;
   neighbourInEight = neighbour-in-eight;
-  deadline = deadline-from-release;
-  suspended = λ code x h. suspended-not-ready (waitEnded code x) h;
-  suspendedTick = λ t x h w. suspended-not-ready (ticked t x) (ticked-suspended t x h w);
+  startDeadline = λ m k h id n s normal b off e f. let u = calling-sound m k h in (immediate-release m k u h s f id n normal b off e, λ delay below. delayed-release m k u h s f id delay n normal b off e below);
+  enterDeadline = λ m k h. enter-deadline m k (calling-sound m k h) h;
+  signalled = λ m k h. signal-ends m k (calling-sound m k h) h;
+  eventSet = λ m k h. set-ends m k (calling-sound m k h) h;
   restart = restart-keeps;
 }
 

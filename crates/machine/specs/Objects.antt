@@ -18,7 +18,7 @@ use Rattle.machine.specs.declared.Wait.the-variants.{Semaphore, Event}
 use Rattle.machine.specs.declared.Field.{Field}
 use Rattle.machine.specs.Limits.{semaphoreLimit, eventLimit, valueLimit, greatestValue}
 use Rattle.machine.specs.Fields.{between, isName, numberOf}
-use Rattle.machine.specs.Process.{object, waitEnded}
+use Rattle.machine.specs.Process.{object, served}
 use Rattle.machine.specs.Partition.{normalMode, process, semaphore, event, waiters}
 use Rattle.machine.specs.Decisions.{checked, changed, unchanged, unknown, nameTaken, creationChecks, awaiting}
 
@@ -70,7 +70,7 @@ oneMore n = cond (ltb n greatestValue) (n + 1) n
 -- First waiter's wait ends (w −1, wake code 0); none: value + 1.
 unfoldable pub signalled : List ℕ → ℕ → Partition → Change
 signalled [] k p = withValue k (oneMore (semaphore k p .value)) p
-signalled (id ∷ l) k p = Stored id (waitEnded 0 (process id p))
+signalled (id ∷ l) k p = Stored id (served (process id p))
 
 -- 16 SIGNAL id. 1: value = max.
 unfoldable pub signal : ℕ → Partition → Decision

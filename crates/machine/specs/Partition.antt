@@ -19,7 +19,7 @@ use Rattle.machine.specs.declared.Time.{Time}
 use Rattle.machine.specs.declared.Time.the-variants.{Never, At}
 use Rattle.machine.specs.Limits.{processLimit, semaphoreLimit, eventLimit, greatestTime}
 use Rattle.machine.specs.Ids.{members, idsOf, kept, appended, removed, follow}
-use Rattle.machine.specs.Process.{blankProcess, ready, object, onObject, ticked, waitEnded, entered}
+use Rattle.machine.specs.Process.{blankProcess, ready, object, onObject, ticked, served, entered}
 
 -- IDLE 0, COLD_START 1, WARM_START 2, NORMAL 3
 abbrev pub idleMode : Partition → Bool
@@ -189,7 +189,7 @@ waiters o p = kept (waitsOn o p) (members (p .waiting))
 
 -- the wait of process id ends (w −1, wake code 0)
 unfoldable pub ended : ℕ → Partition → Partition
-ended id p = stored id (waitEnded 0 (process id p)) p
+ended id p = stored id (served (process id p)) p
 
 unfoldable pub endedAll : List ℕ → Partition → Partition
 endedAll [] p = p

@@ -131,6 +131,10 @@ withSuspended b x = record { given = x .given; times = x .times; current = x .cu
 abbrev pub withCurrent : ℕ → Process → Process
 withCurrent n x = record { given = x .given; times = x .times; current = n; suspended = x .suspended; missed = x .missed; code = x .code; started = x .started; wait = x .wait }
 
+-- the wait ends because what it waits for came (w −1, wake code 0): SIGNAL, SET_EVENT
+abbrev pub served : Process → Process
+served x = waitEnded 0 x
+
 -- it waits, until this time
 abbrev pub waitingFor : Wait → Time → Process → Process
 waitingFor w until x = record { given = x .given; times = withWake until (x .times); current = x .current; suspended = x .suspended; missed = x .missed; code = x .code; started = x .started; wait = w }

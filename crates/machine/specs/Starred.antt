@@ -1,39 +1,33 @@
--- The cases of document 01 marked with a star, and its mistakes to shut out, as one list of claims: each for every record, table and
--- event to which it applies, the worked example and its continuation as computed runs from bytes.
-use Prim.Native.Nat.{ℕ, _+_, _-_, _%_, _≤_, _<_}
+-- The cases of document 01 marked with a star, and its mistakes to shut out, as one list of claims about `step`: each for every reached
+-- record, table and event to which it applies, with what the answer and the record then hold; the worked example and its
+-- continuation as computed runs from bytes. The premises speak of an event's numbers, the table, the record, the current partition and
+-- the running process.
+use Prim.Native.Nat.{ℕ, suc, _+_, _-_, _*_, _/_, _≤_, _<_}
 use mathlib.Core.Path.{_≡_}
-use mathlib.Core.Bool.{Bool, true, false, cond, not, _&&_, _||_}
+use mathlib.Core.Bool.{Bool, true, false, cond}
 use mathlib.Core.List.{List, [], _∷_, _++_}
-use lib.ListN.{take}
-use lib.Dec.{leb, ltb, eqb}
-use Rattle.machine.specs.declared.Context.{Context}
+use lib.ListN.{length, getD, set}
+use lib.IntN.{ℤ, pos}
 use Rattle.machine.specs.declared.Given.{Given}
+use Rattle.machine.specs.declared.Ids.{Ids}
 use Rattle.machine.specs.declared.Process.{Process}
 use Rattle.machine.specs.declared.Partition.{Partition}
-use Rattle.machine.specs.declared.Request.{Request}
 use Rattle.machine.specs.declared.Event.{Event as EventT}
-use Rattle.machine.specs.declared.Channel.{Channel}
-use Rattle.machine.specs.declared.Message.{Message}
 use Rattle.machine.specs.declared.Module.{Module}
+use Rattle.machine.specs.declared.Window.{Window}
 use Rattle.machine.specs.declared.Wait.{Wait}
-use Rattle.machine.specs.declared.Wait.the-variants.{Period}
+use Rattle.machine.specs.declared.Wait.the-variants.{None, Normal, Delay, Timed, Period, Semaphore, Event}
 use Rattle.machine.specs.declared.Time.{Time}
 use Rattle.machine.specs.declared.Time.the-variants.{Never, At}
-use Rattle.machine.specs.declared.Field.{Field}
-use Rattle.machine.specs.declared.Field.the-variants.{Number}
-use Rattle.machine.specs.Limits.{processLimit, semaphoreLimit, eventLimit, nameLimit, priorityLimit, valueLimit, durationLimit, timeLimit}
-use Rattle.machine.specs.Fields.{isNumber, between, isName, isMinusOne, numberOf, requestOf, isTimeout}
-use Rattle.machine.specs.Process.{later, periodic, ready, waitEnded, ticked, waitsForNothing, waitsForNormal, entered, nextRelease}
-use Rattle.machine.specs.Partition.{normalMode, process, semaphore, event, stored, arrivedLast, tickPartition, noted, partitionAfter}
-use Rattle.machine.specs.Decisions.{replyOf, unknown}
-use Rattle.machine.specs.Calls.{processNamed, above, admissible, isPriority, isMultiple, createProcess, start, setPriority, suspendSelf, timedWait, periodicWait}
-use Rattle.machine.specs.Objects.{semaphoreNamed, eventNamed, createSemaphore, createEvent, waitSemaphore, waitEvent, signal}
-use Rattle.machine.specs.Step.{contextOf, step, sees}
-use Rattle.machine.specs.Module.{part, message, channel}
-use Rattle.machine.specs.Channels.{portOf, read}
-use Rattle.machine.specs.Ticks.{tickModule}
-use Rattle.machine.specs.Valid.{ValidModule}
-use Rattle.machine.specs.Replay.{replayed, replayedRecord}
+use Rattle.machine.specs.Limits.{processLimit, semaphoreLimit, eventLimit, nameLimit, priorityLimit, valueLimit, timeLimit}
+use Rattle.machine.specs.Ids.{members, idsOf, kept, other}
+use Rattle.machine.specs.Process.{createdProcess, ready, withCurrent}
+use Rattle.machine.specs.Partition.{process, semaphore, event, running, withProcesses, withSemaphores, withEvents}
+use Rattle.machine.specs.Windows.{windows, noWindow}
+use Rattle.machine.specs.Module.{part, message, channel, current, withPart}
+use Rattle.machine.specs.Step.{step}
+use Rattle.machine.specs.Valid.{Between, SoundPeriod, SoundCapacity, Reached, contains, plainLater}
+use Rattle.machine.specs.Replay.{replayed, replayedRecord, timeNumber}
 use Rattle.machine.specs.Examples.{text, table, events, printed, toFour, tickLine, printedAfter}
 
 -- the worked example prints its six lines; continued, t = 4 runs 1, t = 5 sets missed, t = 6 current 2
@@ -43,112 +37,301 @@ pub record Worked : Type 0 where
   pub four : process 1 (part (replayedRecord (text (table ++ (events ++ toFour)))) 0) .missed ≡ false
   pub five : process 1 (part (replayedRecord (text (table ++ (events ++ (toFour ++ tickLine))))) 0) .missed ≡ true
 
+-- ---------------------------------------------------------------- events, and what they give
+-- partition k's record
+abbrev pub own : Module → ℕ → Partition
+own m k = part m (k - 1)
+
+-- call n of partition k with its four fields
+abbrev pub callBy : ℕ → ℕ → ℤ → ℤ → ℤ → ℤ → EventT
+callBy k n a b c e = record { partition = pos k; call = pos n; a = a; b = b; c = c; e = e }
+
+-- Partition 0, call 0 is a tick.
+abbrev pub tick : EventT
+tick = callBy 0 0 (pos 0) (pos 0) (pos 0) (pos 0)
+
+-- the answer begins with these three numbers, and this is the record after the event
+pub record Gives (m : Module) (e : EventT) (code value : ℕ) (extra : Time) (q : Module) : Type 0 where
+  pub codeIs : step m e .answer .code ≡ code
+  pub valueIs : step m e .answer .value ≡ value
+  pub extraIs : step m e .answer .extra ≡ extra
+  pub state : step m e .state ≡ q
+
+-- refused with this code; the whole record stays
+abbrev pub Refuses : Module → EventT → ℕ → Type 0
+Refuses m e code = Gives m e code 0 (At 0) m
+
+-- partition k has the record p from now on, and nothing else changes
+abbrev pub Puts : Module → EventT → ℕ → ℕ → ℕ → Partition → Type 0
+Puts m e code value k p = Gives m e code value (At 0) (withPart (k - 1) p m)
+
+-- a call of partition k comes to its body: the record is reached, the partition is current and not IDLE, and in NORMAL a process runs
+pub record Calling (m : Module) (k : ℕ) : Type 0 where
+  pub reached : Reached m
+  pub some : 1 ≤ k
+  pub now : current m ≡ k
+  pub active : own m k .mode ≡ 0 → ⊥
+  pub runs : own m k .mode ≡ 3 → running (own m k) ≡ 0 → ⊥
+
+-- ---------------------------------------------------------------- the record after
+-- process id, which waits on nothing before and after, has the record x; the arrival list is this one
+abbrev pub withProcess : ℕ → Process → Ids → Partition → Partition
+withProcess id x arrival p = withProcesses (set (p .processes) (id - 1) x) (p .processCount) arrival (p .waiting) p
+
+-- the arrival list without an id, and with it at its end
+abbrev pub without : ℕ → Ids → Ids
+without id q = idsOf (kept (other id) (members q))
+
+abbrev pub atEnd : ℕ → Ids → Ids
+atEnd id q = idsOf (kept (other id) (members q) ++ (id ∷ []))
+
+-- one more process
+abbrev pub withNew : Given → Partition → Partition
+withNew g p = withProcesses (set (p .processes) (p .processCount) (createdProcess g)) (p .processCount + 1) (p .arrival) (p .waiting) p
+
+-- one more semaphore, one more event (DOWN)
+abbrev pub withNewSemaphore : ℕ → ℕ → ℕ → Partition → Partition
+withNewSemaphore name start max p = withSemaphores (set (p .semaphores) (p .semaphoreCount) (record { name = name; value = start; max = max })) (p .semaphoreCount + 1) p
+
+abbrev pub withNewEvent : ℕ → Partition → Partition
+withNewEvent name p = withEvents (set (p .events) (p .eventCount) (record { name = name; up = false })) (p .eventCount + 1) p
+
+-- semaphore j has this value
+abbrev pub withSemaphoreAt : ℕ → ℕ → Partition → Partition
+withSemaphoreAt j n p = withSemaphores (set (p .semaphores) (j - 1) (record { name = semaphore j p .name; value = n; max = semaphore j p .max })) (p .semaphoreCount) p
+
 -- ---------------------------------------------------------------- creating
--- 4, 1 and 5 do not hold: only 3 is left to decide
-pub record CanCreate (c : Context) (r : Request) (p : Partition) : Type 0 where
-  pub room : leb processLimit (p .processCount) ≡ false
-  pub new : processNamed (r .a) (take (p .processCount) (p .processes)) ≡ false
-  pub early : normalMode p ≡ false
+-- neither 4 nor 5
+pub record Room (p : Partition) (count limit : ℕ) : Type 0 where
+  pub early : p .mode ≡ 3 → ⊥
+  pub less : count < limit
 
-pub record CanCreateSemaphore (r : Request) (p : Partition) : Type 0 where
-  pub room : leb semaphoreLimit (p .semaphoreCount) ≡ false
-  pub new : semaphoreNamed (r .a) (take (p .semaphoreCount) (p .semaphores)) ≡ false
-  pub early : normalMode p ≡ false
+-- no process, semaphore, event of the partition has this name
+abbrev pub NewProcess : Partition → ℕ → Type 0
+NewProcess p name = (id : ℕ) → Between 1 (p .processCount) id → process id p .given .name ≡ name → ⊥
 
-pub record CanCreateEvent (name : Field) (p : Partition) : Type 0 where
-  pub room : leb eventLimit (p .eventCount) ≡ false
-  pub new : eventNamed name (take (p .eventCount) (p .events)) ≡ false
-  pub early : normalMode p ≡ false
+abbrev pub NewSemaphore : Partition → ℕ → Type 0
+NewSemaphore p name = (j : ℕ) → Between 1 (p .semaphoreCount) j → semaphore j p .name ≡ name → ⊥
 
--- the rest of what CREATE_PROCESS admits, beside one of its fields
-abbrev pub periodFits : Context → Request → Bool
-periodFits c r = isMinusOne (r .c) || isMultiple (c .frame) (r .c)
+abbrev pub NewEvent : Partition → ℕ → Type 0
+NewEvent p name = (j : ℕ) → Between 1 (p .eventCount) j → event j p .name ≡ name → ⊥
 
-abbrev pub capacityFits : Request → Bool
-capacityFits r = (isMinusOne (r .e) || between 1 durationLimit (r .e)) && not (above (r .e) (r .c))
+-- CREATE_PROCESS name, priority, period, capacity
+abbrev pub createBy : ℕ → ℕ → ℕ → Time → Time → EventT
+createBy k name priority period capacity = callBy k 2 (pos name) (pos priority) (timeNumber period) (timeNumber capacity)
 
--- code 0 for one field value and 3 for the next
-abbrev pub Edge : ℕ → ℕ → Type 0
-Edge accepted refused = (accepted ≡ 0) × (refused ≡ 3)
+abbrev pub given : ℕ → ℕ → Time → Time → Given
+given name base period capacity = record { name = name; base = base; period = period; capacity = capacity }
 
--- the request with another field
-abbrev pub withName : ℕ → Request → Request
-withName n r = record { partition = r .partition; call = r .call; a = Number n; b = r .b; c = r .c; e = r .e }
+-- ---------------------------------------------------------------- releases
+-- s is the start of the partition's first window with flag 1
+pub record FirstFlagged (k s : ℕ) (ws : List Window) : Type 0 where
+  pub at : ℕ
+  pub inside : at < length ws
+  pub owner : getD ws at noWindow .partition ≡ k
+  pub flagged : getD ws at noWindow .flag ≡ true
+  pub starts : getD ws at noWindow .start ≡ s
+  pub first : (i : ℕ) → i < at → getD ws i noWindow .partition ≡ k → getD ws i noWindow .flag ≡ true → ⊥
 
-abbrev pub withPriority : ℕ → Request → Request
-withPriority n r = record { partition = r .partition; call = r .call; a = r .a; b = Number n; c = r .c; e = r .e }
+-- r = (t div M + 1) × M + start of the partition's first window with flag 1, plus delay
+abbrev pub releaseAt : Module → ℕ → ℕ → ℕ
+releaseAt m s delay = (m .t / m .table .frame + 1) * m .table .frame + s + delay
 
-abbrev pub withPeriod : ℕ → Request → Request
-withPeriod n r = record { partition = r .partition; call = r .call; a = r .a; b = r .b; c = Number n; e = r .e }
+-- it waits for its release r: w = r, d = r + capacity, or −1, whatever t is; priority and marks as given
+abbrev pub awaitsRelease : ℕ → ℕ → ℕ → Bool → Bool → Process → Process
+awaitsRelease r delay n mark missed x = record {
+  given = x .given;
+  times = record { release = At r; deadline = plainLater (At r) (x .given .capacity); wake = At r; delay = delay };
+  current = n;
+  suspended = mark;
+  missed = missed;
+  code = 0;
+  started = true;
+  wait = Period;
+}
 
-pub record Corners : Type 0 where
+-- it waits for its next release r, all else as it was
+abbrev pub awaitsNext : ℕ → Process → Process
+awaitsNext r x = record {
+  given = x .given;
+  times = record { release = At r; deadline = plainLater (At r) (x .given .capacity); wake = At r; delay = x .times .delay };
+  current = x .current;
+  suspended = x .suspended;
+  missed = x .missed;
+  code = x .code;
+  started = x .started;
+  wait = Period;
+}
+
+-- it waits for NORMAL with this delay
+abbrev pub awaitsNormal : ℕ → Process → Process
+awaitsNormal delay x = record {
+  given = x .given;
+  times = record { release = x .times .release; deadline = x .times .deadline; wake = x .times .wake; delay = delay };
+  current = x .given .base;
+  suspended = false;
+  missed = false;
+  code = 0;
+  started = true;
+  wait = Normal;
+}
+
+-- ---------------------------------------------------------------- the corners
+pub record Corners (m : Module) (k : ℕ) : Type 0 where
   -- priority 239/240, in CREATE_PROCESS and in SET_PRIORITY
-  pub priority : (c : Context) (r : Request) (p : Partition) → CanCreate c r p → isName (r .a) ≡ true → periodFits c r ≡ true → capacityFits r ≡ true
-      → Edge (replyOf (createProcess c (withPriority priorityLimit r) p) .code) (replyOf (createProcess c (withPriority (priorityLimit + 1) r) p) .code)
-  pub setPriority : (id : ℕ) (p : Partition) → unknown id (p .processCount) ≡ false → process id p .started ≡ true
-      → Edge (replyOf (setPriority id (Number priorityLimit) p) .code) (replyOf (setPriority id (Number (priorityLimit + 1)) p) .code)
+  pub priority : (name : ℕ) (period capacity : Time) → let p = own m k in
+      Room p (p .processCount) processLimit → NewProcess p name → Between 1 nameLimit name → SoundPeriod (m .table .frame) period → SoundCapacity period capacity
+      → Puts m (createBy k name priorityLimit period capacity) 0 (p .processCount + 1) k (withNew (given name priorityLimit period capacity) p)
+      × Refuses m (createBy k name (priorityLimit + 1) period capacity) 3
+  pub setPriority : (id : ℕ) → let p = own m k in
+      Between 1 (p .processCount) id → process id p .started ≡ true
+      → Puts m (callBy k 12 (pos id) (pos priorityLimit) (pos 0) (pos 0)) 0 0 k
+      (withProcess id (withCurrent priorityLimit (process id p)) (cond (ready (process id p)) (atEnd id (p .arrival)) (p .arrival)) p)
+      × Refuses m (callBy k 12 (pos id) (pos (priorityLimit + 1)) (pos 0) (pos 0)) 3
   -- name 255/256, of each kind
-  pub processName : (c : Context) (r : Request) (p : Partition) → CanCreate c (withName nameLimit r) p → CanCreate c (withName (nameLimit + 1) r) p → isPriority (r .b) ≡ true → periodFits c r ≡ true → capacityFits r ≡ true
-      → Edge (replyOf (createProcess c (withName nameLimit r) p) .code) (replyOf (createProcess c (withName (nameLimit + 1) r) p) .code)
-  pub semaphoreName : (r : Request) (p : Partition) → CanCreateSemaphore (withName nameLimit r) p → CanCreateSemaphore (withName (nameLimit + 1) r) p → (between 1 valueLimit (r .c) && between 0 (numberOf (r .c)) (r .b)) ≡ true
-      → Edge (replyOf (createSemaphore (withName nameLimit r) p) .code) (replyOf (createSemaphore (withName (nameLimit + 1) r) p) .code)
-  pub eventName : (p : Partition) → CanCreateEvent (Number nameLimit) p → CanCreateEvent (Number (nameLimit + 1)) p
-      → Edge (replyOf (createEvent (Number nameLimit) p) .code) (replyOf (createEvent (Number (nameLimit + 1)) p) .code)
-  -- period M/M + 1 (M above 1)
-  pub period : (c : Context) (r : Request) (p : Partition) → 1 < c .frame → c .frame ≤ durationLimit → CanCreate c r p → isName (r .a) ≡ true → isPriority (r .b) ≡ true → isMinusOne (r .e) ≡ true
-      → Edge (replyOf (createProcess c (withPeriod (c .frame) r) p) .code) (replyOf (createProcess c (withPeriod (c .frame + 1) r) p) .code)
-  -- delay period − 1/period
-  pub delay : (c : Context) (id n : ℕ) (p : Partition) → unknown id (p .processCount) ≡ false → process id p .started ≡ false → process id p .given .period ≡ At n → 1 ≤ n → n ≤ durationLimit
-      → Edge (replyOf (start c id (Number (n - 1)) p) .code) (replyOf (start c id (Number n) p) .code)
+  pub processName : (priority : ℕ) (period capacity : Time) → let p = own m k in
+      Room p (p .processCount) processLimit → NewProcess p nameLimit → Between 1 priorityLimit priority → SoundPeriod (m .table .frame) period → SoundCapacity period capacity
+      → Puts m (createBy k nameLimit priority period capacity) 0 (p .processCount + 1) k (withNew (given nameLimit priority period capacity) p)
+      × Refuses m (createBy k (nameLimit + 1) priority period capacity) 3
+  pub semaphoreName : (start max : ℕ) → let p = own m k in
+      Room p (p .semaphoreCount) semaphoreLimit → NewSemaphore p nameLimit → Between 1 valueLimit max → start ≤ max
+      → Puts m (callBy k 14 (pos nameLimit) (pos start) (pos max) (pos 0)) 0 (p .semaphoreCount + 1) k (withNewSemaphore nameLimit start max p)
+      × Refuses m (callBy k 14 (pos (nameLimit + 1)) (pos start) (pos max) (pos 0)) 3
+  pub eventName : let p = own m k in
+      Room p (p .eventCount) eventLimit → NewEvent p nameLimit
+      → Puts m (callBy k 17 (pos nameLimit) (pos 0) (pos 0) (pos 0)) 0 (p .eventCount + 1) k (withNewEvent nameLimit p)
+      × Refuses m (callBy k 17 (pos (nameLimit + 1)) (pos 0) (pos 0) (pos 0)) 3
+  -- period M/M + 1 (M above 1), with every capacity that M admits, and M + 1 whatever the capacity
+  pub period : (name priority : ℕ) (capacity : Time) (e : ℤ) → let p = own m k in
+      let M = m .table .frame in
+      1 < M → Room p (p .processCount) processLimit → NewProcess p name → Between 1 nameLimit name → Between 1 priorityLimit priority → SoundCapacity (At M) capacity
+      → Puts m (createBy k name priority (At M) capacity) 0 (p .processCount + 1) k (withNew (given name priority (At M) capacity) p)
+      × Refuses m (callBy k 2 (pos name) (pos priority) (pos (M + 1)) e) 3
+  -- delay period − 1/period: outside NORMAL, and in NORMAL
+  pub delayEarly : (id n : ℕ) → let p = own m k in
+      Between 1 (p .processCount) id → process id p .started ≡ false → process id p .given .period ≡ At n → (p .mode ≡ 3 → ⊥)
+      → Puts m (callBy k 4 (pos id) (pos (n - 1)) (pos 0) (pos 0)) 0 0 k (withProcess id (awaitsNormal (n - 1) (process id p)) (p .arrival) p)
+      × Refuses m (callBy k 4 (pos id) (pos n) (pos 0) (pos 0)) 3
+  pub delayNormal : (id n s : ℕ) → let p = own m k in
+      let x = process id p in
+      Between 1 (p .processCount) id → x .started ≡ false → x .given .period ≡ At n → p .mode ≡ 3 → FirstFlagged k s (windows (m .table))
+      → Puts m (callBy k 4 (pos id) (pos (n - 1)) (pos 0) (pos 0)) 0 0 k
+      (withProcess id (awaitsRelease (releaseAt m s (n - 1)) (x .times .delay) (x .given .base) false false x) (p .arrival) p)
+      × Refuses m (callBy k 4 (pos id) (pos n) (pos 0) (pos 0)) 3
   -- age refresh/refresh + 1
-  pub freshness : (m : Module) (k : ℕ) (r : Request) → let i = numberOf (r .a) - 1 in
-      between 1 (m .table .channelCount) (r .a) ≡ true → channel (m .table) i .destination ≡ k → message m i .present ≡ true
-      → let written = message m i .written in
-      let refresh = channel (m .table) i .refresh in
-      let reply = replyOf (read (contextOf m k) (portOf m k r)) in
-      (reply .code ≡ 0) × (m .t ≡ written + refresh → reply .extra ≡ At 1) × (m .t ≡ written + refresh + 1 → reply .extra ≡ At 0)
-  -- timeout 0
-  pub suspendSelf : (c : Context) (p : Partition) → normalMode p ≡ true → periodic (process (c .caller) p) ≡ false
-      → (replyOf (suspendSelf c (Number 0) p) .code ≡ 0) × (partitionAfter (suspendSelf c (Number 0) p) p ≡ p)
-  pub timedWait : (c : Context) (p : Partition) → normalMode p ≡ true
-      → (replyOf (timedWait c (Number 0) p) .code ≡ 0) × (partitionAfter (timedWait c (Number 0) p) p ≡ arrivedLast (c .caller) p)
-  pub waitSemaphore : (c : Context) (k : ℕ) (p : Partition) → normalMode p ≡ true → unknown k (p .semaphoreCount) ≡ false → semaphore k p .value ≡ 0
-      → (replyOf (waitSemaphore c k (Number 0) p) .code ≡ 2) × (partitionAfter (waitSemaphore c k (Number 0) p) p ≡ p)
-  pub waitEvent : (c : Context) (k : ℕ) (p : Partition) → normalMode p ≡ true → unknown k (p .eventCount) ≡ false → event k p .up ≡ false
-      → (replyOf (waitEvent c k (Number 0) p) .code ≡ 2) × (partitionAfter (waitEvent c k (Number 0) p) p ≡ p)
+  pub age : (i : ℕ) → let x = message m (i - 1) in
+      let refresh = channel (m .table) (i - 1) .refresh in
+      Between 1 (m .table .channelCount) i → channel (m .table) (i - 1) .destination ≡ k → x .present ≡ true
+      → (m .t ≡ x .written + refresh → Gives m (callBy k 22 (pos i) (pos 0) (pos 0) (pos 0)) 0 (x .value) (At 1) m)
+      × (m .t ≡ x .written + refresh + 1 → Gives m (callBy k 22 (pos i) (pos 0) (pos 0) (pos 0)) 0 (x .value) (At 0) m)
+  -- timeout 0: SUSPEND_SELF changes nothing, TIMED_WAIT puts the caller last, WAIT_SEMAPHORE and WAIT_EVENT answer 2 where they would wait, and
+  -- succeed where they need not
+  pub suspendSelf : let p = own m k in
+      p .mode ≡ 3 → process (running p) p .given .period ≡ Never
+      → Gives m (callBy k 8 (pos 0) (pos 0) (pos 0) (pos 0)) 0 0 (At 0) m
+  pub timedWait : let p = own m k in
+      p .mode ≡ 3
+      → Puts m (callBy k 9 (pos 0) (pos 0) (pos 0) (pos 0)) 0 0 k (withProcesses (p .processes) (p .processCount) (atEnd (running p) (p .arrival)) (p .waiting) p)
+  pub waitSemaphore : (j : ℕ) → let p = own m k in
+      p .mode ≡ 3 → Between 1 (p .semaphoreCount) j
+      → (semaphore j p .value ≡ 0 → Refuses m (callBy k 15 (pos j) (pos 0) (pos 0) (pos 0)) 2)
+      × ((n : ℕ) → semaphore j p .value ≡ suc n → Puts m (callBy k 15 (pos j) (pos 0) (pos 0) (pos 0)) 0 0 k (withSemaphoreAt j n p))
+  pub waitEvent : (j : ℕ) → let p = own m k in
+      p .mode ≡ 3 → Between 1 (p .eventCount) j
+      → (event j p .up ≡ false → Refuses m (callBy k 20 (pos j) (pos 0) (pos 0) (pos 0)) 2)
+      × (event j p .up ≡ true → Gives m (callBy k 20 (pos j) (pos 0) (pos 0) (pos 0)) 0 0 (At 0) m)
   -- SIGNAL at max
-  pub signal : (k : ℕ) (p : Partition) → unknown k (p .semaphoreCount) ≡ false → semaphore k p .value ≡ semaphore k p .max
-      → (replyOf (signal k p) .code ≡ 1) × (partitionAfter (signal k p) p ≡ p)
-  -- PERIODIC_WAIT with r ≤ t: it waits all the same, for a release that has passed
-  pub periodicWait : (c : Context) (r n : ℕ) (p : Partition) → normalMode p ≡ true → c .time ≤ timeLimit
-      → process (c .caller) p .times .release ≡ At r → process (c .caller) p .given .period ≡ At n → r + n ≤ c .time
-      → (replyOf (periodicWait c p) .code ≡ 7)
-      × (partitionAfter (periodicWait c p) p ≡ stored (c .caller) (nextRelease (process (c .caller) p)) p)
-      × (nextRelease (process (c .caller) p) .wait ≡ Period)
-      × (nextRelease (process (c .caller) p) .times .release ≡ At (r + n))
-      × (nextRelease (process (c .caller) p) .times .wake ≡ At (r + n))
+  pub signal : (j : ℕ) → let p = own m k in
+      Between 1 (p .semaphoreCount) j → semaphore j p .value ≡ semaphore j p .max
+      → Refuses m (callBy k 16 (pos j) (pos 0) (pos 0) (pos 0)) 1
+  -- PERIODIC_WAIT, also with r ≤ t: r rises by the period; it waits all the same, w = r, d = r + capacity or −1
+  pub periodicWait : (r n : ℕ) → let p = own m k in
+      let id = running p in
+      let x = process id p in
+      p .mode ≡ 3 → x .times .release ≡ At r → x .given .period ≡ At n
+      → Puts m (callBy k 10 (pos 0) (pos 0) (pos 0) (pos 0)) 7 0 k (withProcess id (awaitsNext (r + n) x) (without id (p .arrival)) p)
 
 -- ---------------------------------------------------------------- mistakes to shut out
+-- what a wake time that has come makes of x: a wait ends with w −1 and this wake code, and the mark stays
+pub record WaitEnded (code : ℕ) (x y : Process) : Type 0 where
+  pub wake : y .times .wake ≡ Never
+  pub wait : y .wait ≡ None
+  pub codeIs : y .code ≡ code
+  pub mark : y .suspended ≡ x .suspended
+  pub started : y .started ≡ x .started
+
+-- it is READY only where the mark is not set
+abbrev pub ReadyUnmarked : Process → Process → Type 0
+ReadyUnmarked x y = x .suspended ≡ true → ready y ≡ false
+
+-- it waits on an object: semaphore or event
+abbrev pub onto : Wait → Type 0
+onto None = ⊥
+onto Normal = ⊥
+onto Delay = ⊥
+onto Timed = ⊥
+onto Period = ⊥
+onto (Semaphore j) = Unit {0}
+onto (Event j) = Unit {0}
+
+-- it waits for a time
+abbrev pub forTime : Wait → Type 0
+forTime None = ⊥
+forTime Normal = ⊥
+forTime Delay = Unit {0}
+forTime Timed = Unit {0}
+forTime Period = Unit {0}
+forTime (Semaphore j) = ⊥
+forTime (Event j) = ⊥
+
+-- what a tick makes of process x of a NORMAL partition, whatever window it falls into: y
+pub record Ticks (t : ℕ) (x y : Process) : Type 0 where
+  pub object : (w : ℕ) → x .times .wake ≡ At w → w ≤ t → onto (x .wait) → WaitEnded 6 x y
+  pub timer : (w : ℕ) → x .times .wake ≡ At w → w ≤ t → forTime (x .wait) → WaitEnded 0 x y
+  pub suspension : (w : ℕ) → x .times .wake ≡ At w → w ≤ t → x .wait ≡ None → x .suspended ≡ true → (y .suspended ≡ false) × (y .code ≡ 6) × (y .times .wake ≡ Never)
+  pub deadline : (d : ℕ) → x .times .deadline ≡ At d → d ≤ t → (y .missed ≡ true) × (y .times .deadline ≡ Never)
+  pub marked : (x .wait ≡ None → ⊥) → ReadyUnmarked x y
+
 pub record Mistakes : Type 0 where
-  -- freezing timers outside a partition's window: a tick works on every partition, whatever window it falls into
-  pub frozen : (m : Module) → ValidModule m → (i : ℕ) → i < m .table .size
-      → part (tickModule m) i ≡ noted (tickPartition (m .t + 1) (part m i))
+  -- freezing timers outside a partition's window: a tick acts on every NORMAL partition. An ended wait making a suspended process READY:
+  -- not by a tick
+  pub frozen : (m : Module) → Reached m → m .t < timeLimit → (k id : ℕ) → Between 1 (m .table .size) k → own m k .mode ≡ 3 → Between 1 (own m k .processCount) id
+      → (step m tick .answer .code ≡ 0) × Ticks (m .t + 1) (process id (own m k)) (process id (own (step m tick .state) k))
   -- showing a neighbour's running process: whatever the code, it reads 0 where the event's partition is neither 0 nor current
-  pub neighbour : (m : Module) (e : EventT) → sees (requestOf e) (step m e .answer .current) ≡ false → step m e .answer .running ≡ 0
+  pub neighbour : (m : Module) (e : EventT) → (e .partition ≡ pos 0 → ⊥) → (e .partition ≡ pos (step m e .answer .current) → ⊥) → step m e .answer .running ≡ 0
   pub neighbourInEight : (m : Module) (e : EventT) → step m e .answer .code ≡ 8 → step m e .answer .running ≡ 0
-  -- computing a periodic deadline from t: on entering NORMAL too it is r + capacity
-  pub deadline : (c : Context) (x : Process) → waitsForNormal (x .wait) ≡ true → periodic x ≡ true
-      → (entered c x .times .release ≡ later (At (c .release)) (At (x .times .delay)))
-      × (entered c x .times .deadline ≡ later (entered c x .times .release) (x .given .capacity))
-  -- an ended wait making a suspended process READY
-  pub suspended : (code : ℕ) (x : Process) → x .suspended ≡ true → ready (waitEnded code x) ≡ false
-  pub suspendedTick : (t : ℕ) (x : Process) → x .suspended ≡ true → waitsForNothing (x .wait) ≡ false → ready (ticked t x) ≡ false
-  -- a source's restart erasing a message: a call leaves the message of each channel into another partition, but for WRITE
-  pub restart : (m : Module) (e : EventT) (i : ℕ) → eqb (numberOf (requestOf e .call)) 21 ≡ false → eqb (channel (m .table) i .destination) (numberOf (requestOf e .partition)) ≡ false
+  -- computing a periodic deadline from t: START and DELAYED_START in NORMAL
+  pub startDeadline : (m : Module) (k : ℕ) → Calling m k → (id n s : ℕ) → let p = own m k in
+      let x = process id p in
+      p .mode ≡ 3 → Between 1 (p .processCount) id → x .started ≡ false → x .given .period ≡ At n → FirstFlagged k s (windows (m .table))
+      → Puts m (callBy k 3 (pos id) (pos 0) (pos 0) (pos 0)) 0 0 k (withProcess id (awaitsRelease (releaseAt m s 0) (x .times .delay) (x .given .base) false false x) (p .arrival) p)
+      × ((delay : ℕ) → delay < n → Puts m (callBy k 4 (pos id) (pos delay) (pos 0) (pos 0)) 0 0 k (withProcess id (awaitsRelease (releaseAt m s delay) (x .times .delay) (x .given .base) false false x) (p .arrival) p))
+  -- and on entering NORMAL
+  pub enterDeadline : (m : Module) (k : ℕ) → Calling m k → (id n s : ℕ) → let p = own m k in
+      let x = process id p in
+      let e = callBy k 1 (pos 3) (pos 0) (pos 0) (pos 0) in
+      (p .mode ≡ 3 → ⊥) → Between 1 (p .processCount) id → x .wait ≡ Normal → x .given .period ≡ At n → FirstFlagged k s (windows (m .table))
+      → (step m e .answer .code ≡ 0) × (own (step m e .state) k .mode ≡ 3)
+      × (process id (own (step m e .state) k) ≡ awaitsRelease (releaseAt m s (x .times .delay)) (x .times .delay) (x .current) (x .suspended) false x)
+  -- an ended wait making a suspended process READY: SIGNAL ends the first wait of the queue, w −1 and wake code 0, and the mark stays
+  pub signalled : (m : Module) (k : ℕ) → Calling m k → (j id : ℕ) (before after : List ℕ) → let p = own m k in
+      let e = callBy k 16 (pos j) (pos 0) (pos 0) (pos 0) in
+      Between 1 (p .semaphoreCount) j → (semaphore j p .value ≡ semaphore j p .max → ⊥)
+      → members (p .waiting) ≡ before ++ (id ∷ after) → process id p .wait ≡ Semaphore j → ((y : ℕ) → contains y before ≡ true → process y p .wait ≡ Semaphore j → ⊥)
+      → let y = process id (own (step m e .state) k) in
+      (step m e .answer .code ≡ 0) × WaitEnded 0 (process id p) y × ReadyUnmarked (process id p) y
+  -- SET_EVENT ends every wait on the event the same way
+  pub eventSet : (m : Module) (k : ℕ) → Calling m k → (j id : ℕ) → let p = own m k in
+      let e = callBy k 18 (pos j) (pos 0) (pos 0) (pos 0) in
+      Between 1 (p .eventCount) j → process id p .wait ≡ Event j
+      → let y = process id (own (step m e .state) k) in
+      (step m e .answer .code ≡ 0) × (event j (own (step m e .state) k) .up ≡ true) × WaitEnded 0 (process id p) y × ReadyUnmarked (process id p) y
+  -- a source's restart erasing a message: an event that is no WRITE leaves the message of each channel into another partition
+  pub restart : (m : Module) (e : EventT) (i : ℕ) → (e .call ≡ pos 21 → ⊥) → (e .partition ≡ pos (channel (m .table) i .destination) → ⊥)
       → message (step m e .state) i ≡ message m i
 
 -- the whole list
 pub record Starred : Type 0 where
   pub worked : Worked
-  pub corners : Corners
+  pub corners : (m : Module) (k : ℕ) → Calling m k → Corners m k
   pub mistakes : Mistakes

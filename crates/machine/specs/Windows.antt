@@ -43,9 +43,13 @@ unfoldable pub firstFlagged : ℕ → List Window → ℕ
 firstFlagged k [] = 0
 firstFlagged k (w ∷ ws) = cond (flaggedFor k w) (w .start) (firstFlagged k ws)
 
--- (t div M + 1) × M + start of the partition's first window with flag 1. Bound: 0 where M is 0.
+-- (t div M + 1) × M + start of the partition's first window with flag 1
+unfoldable pub releaseAfter : Table → ℕ → ℕ → ℕ
+releaseAfter T t k = (t / T .frame + 1) * T .frame + firstFlagged k (windows T)
+
+-- bound: 0 where M is 0, and no time is past the greatest
 unfoldable pub releasePoint : Table → ℕ → ℕ → ℕ
-releasePoint T t k = cond (eqb (T .frame) 0) 0 (capped ((t / T .frame + 1) * T .frame + firstFlagged k (windows T)))
+releasePoint T t k = cond (eqb (T .frame) 0) 0 (capped (releaseAfter T t k))
 
 -- ---------------------------------------------------------------- the waiting time
 -- a window of partition k, with flag 1 where it is asked for, that does not start before this place of the frame

@@ -3,7 +3,7 @@ use mathlib.Core.Path.{_≡_, ap, sym, _∙_}
 use native.Mathlib.Omega.{arith}
 use borrow.Author.Needs.{needs}
 use borrow.Author.Tests.{eq-eqb, ne-eqb}
-use Rattle.machine.specs.Windows.{windows, firstFlagged, releasePoint}
+use Rattle.machine.specs.Windows.{windows, firstFlagged, releaseAfter, releasePoint}
 use Rattle.machine.proofs.Starts.{orZero, first-flagged}
 use Rattle.windows.proofs.Laws.{frames, next-frame}
 use Rattle.windows.proofs.release_point.Statement.{statement}
@@ -26,7 +26,7 @@ add-capped-time-2 : tie.Need-add-capped-time-2
 add-capped-time-2 c = record { fits = omega (arith, next-frame (c .before .before .before .before .before .args .t) (c .before .before .before .before .before .args .table .frame)) }
 
 returns-2 : tie.Need-returns-2
-unfolding releasePoint
+unfolding releasePoint releaseAfter
 returns-2 c =
     let a = c .before .before .before .before .before .before .args in
     let found : c .before .before .match .first ≡ orZero (c .before .before .before .first-start .result) = ⊎-elim (λ h. h .2 ∙ ap orZero (sym (h .1 .given .1))) (λ h. h .3 ∙ ap orZero (sym (h .1 .given .1))) (c .before .before .match .came) in

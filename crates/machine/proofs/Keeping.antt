@@ -16,6 +16,7 @@ use Rattle.machine.specs.Ids.{members, other, removed, follow}
 use Rattle.machine.specs.Process.{blankProcess, ready, onObject, served}
 use Rattle.machine.specs.Partition.{within, byId, process, withProcesses, stored, arrivedLast, ended, endedAll, eachFrom, each}
 use Rattle.machine.specs.Valid.{Between, contains, Distinct, Tracks, Numbered, ListedIn, ObjectsIn, SoundProcess, settingOf, Valid}
+use Rattle.machine.specs.Plain.{idsFrom}
 use Rattle.machine.proofs.Tests.{by-test, not-both}
 use Rattle.machine.proofs.Bounds.{not-so, same-or-not, and-true-parts, within-in, within-out, named-in, named-same, named-other, stored-in, stored-out, either}
 use Rattle.machine.proofs.Tracking.{Ranged, tracks-room, tracks-append, tracks-remove, tracks-follow}
@@ -100,11 +101,6 @@ unfoldable pub changedAll : (Process → Process) → List ℕ → Partition →
 changedAll f [] p = p
 changedAll f (id ∷ l) p = changedAll f l (stored id (f (process id p)) p)
 
--- n ids from id on
-unfoldable pub idsFrom : ℕ → ℕ → List ℕ
-idsFrom zero id = []
-idsFrom (suc n) id = id ∷ idsFrom n (id + 1)
-
 pub each-changed : (f : Process → Process) (n id : ℕ) (p : Partition) → eachFrom f n id p ≡ changedAll f (idsFrom n id) p
 unfolding eachFrom changedAll idsFrom
 each-changed f zero id p = refl
@@ -141,7 +137,7 @@ AllCreated l n = (x : ℕ) → contains x l ≡ true → Between 1 n x
 rest-trans : (p q r : Partition) → Rest p q → Rest q r → Rest p r
 rest-trans p q r e f = f ∙ ap (withProcesses (r .processes) (q .processCount) (r .arrival) (r .waiting)) e ∙ ap (λ n. withProcesses (r .processes) n (r .arrival) (r .waiting) p) (ap (λ (q : Partition). q .processCount) e)
 
-rest-count : (p q : Partition) → Rest p q → q .processCount ≡ p .processCount
+pub rest-count : (p q : Partition) → Rest p q → q .processCount ≡ p .processCount
 rest-count p q e = ap (λ (q : Partition). q .processCount) e
 
 module _ (f : Process → Process) where

@@ -155,7 +155,7 @@ module _ (p : Partition) (v : ListedIn p) (o : ℕ) where
       (λ e. rw (e, ne-eqb (object (process id p .wait)) 0 (λ z. some (sym (eqb-true _ o e) ∙ z))))
       (λ e. rw e))
 
-  waiters-on : (id : ℕ) → contains id (waiters o p) ≡ true → onObject (process id p) ≡ true
+  pub waiters-on : (id : ℕ) → contains id (waiters o p) ≡ true → onObject (process id p) ≡ true
   unfolding waiters
   waiters-on id h = sym (v .waitings .exact id) ∙ and-true-parts (waitsOn o p id) _ (sym (contains-kept (waitsOn o p) id (members (p .waiting))) ∙ h) .1
 

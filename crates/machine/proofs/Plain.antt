@@ -1,100 +1,118 @@
--- On a valid record no bound and no cap acts: the definitions are document 01's plain ones there. Assumes nothing.
-use Prim.Native.Nat.{ℕ, zero, suc, _+_, _-_, _%_, _≤_, _<_, max}
+-- On a reached record no bound and no cap acts at any event: the definitions are document 01's plain ones there. Assumes nothing.
+use Prim.Native.Nat.{ℕ, zero, suc, _+_, _-_, _≤_, _<_, max}
 use mathlib.Core.Path.{_≡_, refl, ap, sym, _∙_}
-use mathlib.Core.Bool.{Bool, true, false, _&&_, and-false}
+use mathlib.Core.Bool.{Bool, true, false, cond, not, _&&_, and-false, or-true}
 use mathlib.Core.List.{List, [], _∷_, _++_}
+use mathlib.Core.Logic.{_⊎_, inl, inr, ⊎-elim}
 use native.Mathlib.Omega.{arith}
-use lib.ListN.{length, getD, set}
-use lib.Dec.{eqb, leb}
+use lib.ListN.{length, getD, List·getD-eq-default}
+use lib.Seq.{ext-getD}
+use lib.Dec.{eqb, leb, ltb}
 use lib.IntN.{ℤ, pos, negsuc}
-use borrow.Author.Tests.{lt-ltb, lt-leb, leb-false, ne-eqb, not-true}
+use borrow.Author.Tests.{lt-ltb, le-ltb, le-leb, lt-leb, ltb-true, ltb-false, leb-true, leb-false, eq-eqb, ne-eqb, not-true, not-false}
 use Rattle.machine.specs.declared.Ids.{Ids}
 use Rattle.machine.specs.declared.Process.{Process}
-use Rattle.machine.specs.declared.Semaphore.{Semaphore as SemaphoreT}
-use Rattle.machine.specs.declared.EventState.{EventState}
 use Rattle.machine.specs.declared.Partition.{Partition}
 use Rattle.machine.specs.declared.Context.{Context}
+use Rattle.machine.specs.declared.Change.{Change}
+use Rattle.machine.specs.declared.Change.the-variants.{Nothing, Stored, Created, Last, StoredSemaphore, StoredEvent, Ended, Entered}
+use Rattle.machine.specs.declared.Decision.{Decision}
+use Rattle.machine.specs.declared.Decision.the-variants.{Refused, Unchanged, Ticked, Blocked, Changed, Restarted, Written}
+use Rattle.machine.specs.declared.Request.{Request}
+use Rattle.machine.specs.declared.Event.{Event as EventT}
+use Rattle.machine.specs.declared.Module.{Module}
 use Rattle.machine.specs.declared.Table.{Table}
+use Rattle.machine.specs.declared.Stepped.{Stepped}
 use Rattle.machine.specs.declared.Field.{Field}
-use Rattle.machine.specs.declared.Field.the-variants.{Number, MinusOne, Other}
 use Rattle.machine.specs.declared.Time.{Time}
 use Rattle.machine.specs.declared.Time.the-variants.{Never, At}
-use Rattle.machine.specs.Limits.{processLimit, semaphoreLimit, eventLimit, durationLimit, timeLimit, greatestTime, greatestValue}
-use Rattle.machine.specs.Fields.{field, isNumber, between, isMinusOne, isTimeout, timeOf}
+use Rattle.machine.specs.Limits.{processLimit, semaphoreLimit, eventLimit, durationLimit, timeLimit, partitionLimit, greatestTime, greatestValue}
+use Rattle.machine.specs.Fields.{field, requestOf, isNumber, between, isMinusOne, numberOf}
 use Rattle.machine.specs.Ids.{members, idsOf, kept, other, removed, follow}
-use Rattle.machine.specs.Process.{blankProcess, later, isNever, periodic, ready, onObject}
-use Rattle.machine.specs.Partition.{noSemaphore, noEvent, process, semaphore, event, within, replaced, withProcesses, withSemaphores, withEvents, stored, storedSemaphore, storedEvent, arrivedLast}
+use Rattle.machine.specs.Process.{blankProcess, later, isNever, periodic, ready, onObject, served, ticked, entered}
+use Rattle.machine.specs.Partition.{normalMode, byId, noSemaphore, noEvent, process, withMode, withProcesses, stored, arrivedLast, waiters, each, tickPartition, enteredNormal, applied, noted}
+use Rattle.machine.specs.Decisions.{checked, unknown}
 use Rattle.machine.specs.Objects.{oneMore}
-use Rattle.machine.specs.Windows.{windows, owner, lookup}
-use Rattle.machine.specs.Valid.{Between, Tracks, NotAfter, latestWake, Setting, LastingIn, SoundProcess, Numbered, ListedIn, Valid, SoundContext, SoundTable, plainLater}
-use Rattle.machine.proofs.Tests.{by-test}
+use Rattle.machine.specs.Windows.{lookup, releaseAfter, nextStart}
+use Rattle.machine.specs.Module.{noPartition, emptyTable, emptyModule, part, withTime}
+use Rattle.machine.specs.Channels.{portOf}
+use Rattle.machine.specs.Ticks.{tickModule}
+use Rattle.machine.specs.Places.{malformed}
+use Rattle.machine.specs.Step.{contextOf, decision, moduleAfter, sees, step}
+use Rattle.machine.specs.Valid.{Between, contains, Tracks, NotAfter, latestWake, latestDeadline, Setting, LastingIn, SoundProcess, ListedIn, Valid, SoundContext, SoundTable, SoundModule, Reached, SoundChange, SoundDecision, plainLater, plainTick, plainTickTo}
+use Rattle.machine.specs.Plain.{plainById, followed, idsFrom, changedFirst, plainStored, plainCreated, plainLast, countWith, plainSemaphore, plainEvent, plainAll, plainApplied, InPlace, plainTickPartition, plainTicked, plainAfter, AllInPlace, Uncapped, plainBetween, plainNumber, plainMinusOne, plainUnknown, Lossless, PlainReads, PlainNumbers, PlainTable, CapsSeen, NoBoundActs, EmptyStays}
+use Rattle.machine.proofs.Tests.{by-test, by-tests, or-left, or-right}
 use Rattle.machine.proofs.Fields.{in-limits}
-use Rattle.machine.proofs.Bounds.{within-in, named-in, replaced-in, stored-in, semaphore-in, event-in}
+use Rattle.machine.proofs.Bounds.{either, within-in, outside-high, named-in, named-out, stored-in, created-in, semaphore-in, event-in}
 use Rattle.machine.proofs.Tracking.{tracks-room, appended-plain}
 use Rattle.machine.proofs.Lists.{members-idsOf, appended-idsOf}
-use Rattle.machine.proofs.Keeping.{process-ranged, removed-room}
-use Rattle.machine.proofs.Sound.{later-plain, later-not-after, at-most-more, at-most-not-after, capacity-bound, period-bound, at-most-released, ready-released}
-use Rattle.machine.proofs.Reached.{frame-some}
+use Rattle.machine.proofs.Keeping.{process-ranged, process-created, removed-room, changedAll, each-changed, ended-changed, AllCreated, from-range, stored-rest, rest-count, stored-listed}
+use Rattle.machine.proofs.Sound.{later-plain, later-not-after, at-most-more, at-most-not-after, capacity-bound, period-bound, at-most-released, ready-released, times-bounded}
+use Rattle.machine.proofs.Dispatch.{Calls, by-event}
+use Rattle.machine.proofs.Bodies.{Bodily}
+use Rattle.machine.proofs.Kept.{change-valid, waiters-created}
+use Rattle.machine.proofs.Reached.{frame-some, release-plain, plain-around, plain-size, plain-other, plain-part, tick-module-plain, place, context-sound, made, made-sound, made-body, decided-sound, reached-valid}
+use Rattle.machine.proofs.Answers.{decided-table}
 
 -- ---------------------------------------------------------------- what an id names
--- a list after an id joined last or left, with no limit
-abbrev pub plainly : Bool → Bool → ℕ → Ids → Ids
-plainly true true id q = q
-plainly true false id q = idsOf (kept (other id) (members q))
-plainly false true id q = idsOf (members q ++ (id ∷ []))
-plainly false false id q = q
+-- in a list as long as its limit, an id names what stands at its place
+module _ {A : Type 0} (limit : ℕ) (d : A) (l : List A) (long : length l ≡ limit) where
+  pub by-id-plain : (id : ℕ) → byId limit d id l ≡ plainById d id l
+  unfolding byId
+  by-id-plain zero = refl
+  by-id-plain (suc i) =
+      let e : suc i - 1 ≡ i = omega arith in
+      either (leb limit i)
+      (λ h. let k = leb-true limit i h in named-out limit (suc i) d l (outside-high limit (suc i) (λ z. omega arith) (omega arith)) ∙ sym (List·getD-eq-default l d (omega arith)))
+      (λ h. let k = leb-false limit i h in named-in limit (suc i) d l (within-in limit (suc i) (omega arith) k) ∙ ap (λ j. getD l j d) e)
 
--- an id that has been created names what stands at its place, and the next id has a place
-module _ {A : Type 0} {limit : ℕ} {d : A} {l : List A} {n : ℕ} (h : Numbered limit d l n) where
-  pub created-plain : n < limit → (a : A) → replaced limit (n + 1) a l ≡ set l n a
-  created-plain room a = let e : n + 1 - 1 ≡ n = omega arith in replaced-in limit (n + 1) a l (within-in limit (n + 1) (omega arith) (omega arith)) ∙ rw e
+pub reads-plain : (frame t : ℕ) (p : Partition) → Valid frame t p → PlainReads p
+reads-plain frame t p v = record {
+  processes = by-id-plain processLimit blankProcess (p .processes) (v .lists .numbered .size);
+  semaphores = by-id-plain semaphoreLimit noSemaphore (p .semaphores) (v .objects .semaphores .size);
+  events = by-id-plain eventLimit noEvent (p .events) (v .objects .events .size);
+}
+
+-- ---------------------------------------------------------------- one process stored
+-- a list after an id joined last or left: one that lacks the id has room for it
+follow-plain : (f : ℕ → Bool) (q : Ids) → Tracks f q → (now next : Bool) (id : ℕ) → (now ≡ false → length (members q) < processLimit) → follow now next id q ≡ idsOf (followed now next id (members q))
+unfolding removed
+follow-plain f q tr true true id room = tr .canonical
+follow-plain f q tr true false id room = refl
+follow-plain f q tr false true id room = appended-plain f q tr id (room refl)
+follow-plain f q tr false false id room = tr .canonical
 
 module _ (p : Partition) (v : ListedIn p) (id : ℕ) (b : Between 1 (p .processCount) id) where
   high : id ≤ processLimit
   high = omega (arith, b .1, v .numbered .few)
 
-  pub process-plain : process id p ≡ getD (p .processes) (id - 1) blankProcess
-  process-plain = named-in processLimit id blankProcess (p .processes) (within-in processLimit id (b .0) high)
-
   -- a list that lacks the id has room for it
-  pub room : (f : Process → Bool) → f blankProcess ≡ false → (q : Ids) → Tracks (λ y. f (process y p)) q → f (process id p) ≡ false → length (members q) < processLimit
-  room f blank q tr e = tracks-room (λ y. f (process y p)) q tr (process-ranged f blank (p .processes)) id (b .0) high e
+  list-plain : (f : Process → Bool) → f blankProcess ≡ false → (q : Ids) → Tracks (λ y. f (process y p)) q → (next : Bool) → follow (f (process id p)) next id q ≡ idsOf (followed (f (process id p)) next id (members q))
+  list-plain f blank q tr next =
+      follow-plain (λ y. f (process y p)) q tr (f (process id p)) next id
+      (tracks-room (λ y. f (process y p)) q tr (process-ranged f blank (p .processes)) id (b .0) high)
 
-  follow-plain : (f : Process → Bool) → f blankProcess ≡ false → (q : Ids) → Tracks (λ y. f (process y p)) q → (now next : Bool) → f (process id p) ≡ now → follow now next id q ≡ plainly now next id q
-  unfolding removed
-  follow-plain f blank q tr true true e = refl
-  follow-plain f blank q tr true false e = refl
-  follow-plain f blank q tr false true e = appended-plain (λ y. f (process y p)) q tr id (room f blank q tr e)
-  follow-plain f blank q tr false false e = refl
-
-  pub stored-plain : (x : Process) → stored id x p ≡ withProcesses (set (p .processes) (id - 1) x) (p .processCount) (plainly (ready (process id p)) (ready x) id (p .arrival)) (plainly (onObject (process id p)) (onObject x) id (p .waiting)) p
+  pub stored-plain : (x : Process) → stored id x p ≡ plainStored id x p
+  unfolding plainStored
   stored-plain x =
-      stored-in id x p (within-in processLimit id (b .0) high)
-      ∙ rw (← process-plain, follow-plain ready refl (p .arrival) (v .arrivals) (ready (process id p)) (ready x) refl, follow-plain onObject refl (p .waiting) (v .waitings) (onObject (process id p)) (onObject x) refl)
+      let inside = within-in processLimit id (b .0) high in
+      stored-in id x p inside
+      ∙ rw (← named-in processLimit id blankProcess (p .processes) inside, list-plain ready refl (p .arrival) (v .arrivals) (ready x), list-plain onObject refl (p .waiting) (v .waitings) (onObject x), by-id-plain processLimit blankProcess (p .processes) (v .numbered .size) id)
 
-module _ (frame t : ℕ) (p : Partition) (v : Valid frame t p) (k : ℕ) where
-  module _ (b : Between 1 (p .semaphoreCount) k) where
-    in-semaphores : within semaphoreLimit k ≡ true
-    in-semaphores = within-in semaphoreLimit k (b .0) (omega (arith, b .1, v .objects .semaphores .few))
+-- ---------------------------------------------------------------- the other changes
+pub all-plain : (f : Process → Process) (l : List ℕ) (p : Partition) → ListedIn p → AllCreated l (p .processCount) → changedAll f l p ≡ plainAll f l p
+unfolding changedAll plainAll contains
+all-plain f [] p v all = refl
+all-plain f (id ∷ l) p v all =
+    let x = f (process id p) in
+    let b = all id (rw (eq-eqb id id refl)) in
+    all-plain f l (stored id x p) (stored-listed p id x v b) (λ y c. rw (rest-count p _ (stored-rest p id x)) (all y (rw c (or-true (eqb id y)))))
+    ∙ rw (stored-plain p v id b x, by-id-plain processLimit blankProcess (p .processes) (v .numbered .size) id)
 
-    pub semaphore-plain : semaphore k p ≡ getD (p .semaphores) (k - 1) noSemaphore
-    semaphore-plain = named-in semaphoreLimit k noSemaphore (p .semaphores) in-semaphores
-
-    pub store-semaphore-plain : (s : SemaphoreT) → storedSemaphore k s p ≡ withSemaphores (set (p .semaphores) (k - 1) s) (p .semaphoreCount) p
-    store-semaphore-plain s = let e : max (p .semaphoreCount) k ≡ p .semaphoreCount = omega (arith, b .1) in semaphore-in k s p in-semaphores ∙ rw e
-
-    pub one-more-plain : oneMore (semaphore k p .value) ≡ semaphore k p .value + 1
-    one-more-plain = let s = v .objects .eachSemaphore k b in rw (lt-ltb (semaphore k p .value) greatestValue (omega (arith, s .value, s .max .1)))
-
-  module _ (b : Between 1 (p .eventCount) k) where
-    in-events : within eventLimit k ≡ true
-    in-events = within-in eventLimit k (b .0) (omega (arith, b .1, v .objects .events .few))
-
-    pub event-plain : event k p ≡ getD (p .events) (k - 1) noEvent
-    event-plain = named-in eventLimit k noEvent (p .events) in-events
-
-    pub store-event-plain : (s : EventState) → storedEvent k s p ≡ withEvents (set (p .events) (k - 1) s) (p .eventCount) p
-    store-event-plain s = let e : max (p .eventCount) k ≡ p .eventCount = omega (arith, b .1) in event-in k s p in-events ∙ rw e
+pub each-plain : (f : Process → Process) (p : Partition) → ListedIn p → each f p ≡ plainAll f (idsFrom (p .processCount) 1) p
+each-plain f p v =
+    each-changed f (p .processCount) 1 p
+    ∙ all-plain f (idsFrom (p .processCount) 1) p v (λ y h. let r = from-range (p .processCount) 1 y h in (r .0, omega arith))
 
 -- a READY process that goes to the end of the arrival list
 pub arrived-plain : (p : Partition) → ListedIn p → (id : ℕ) → ready (process id p) ≡ true → arrivedLast id p ≡ withProcesses (p .processes) (p .processCount) (idsOf (kept (other id) (members (p .arrival)) ++ (id ∷ []))) (p .waiting) p
@@ -103,22 +121,163 @@ arrived-plain p v id h =
     let l = kept (other id) (members (p .arrival)) in
     rw (appended-idsOf l id (rw (members-idsOf l) at (removed-room p v id h)))
 
+-- how many there are after one that is known, or the next, has been stored
+count-with : (n id : ℕ) → id ≤ n + 1 → max n id ≡ countWith id n
+count-with n id h = by-test (λ (k : ℕ). max n id ≡ k) (ltb n id) (λ e. omega (arith, ltb-true n id e)) (λ e. omega (arith, ltb-false n id e))
+
+-- each change of a valid partition is the plain one
+module _ (c : Context) {o : Partition} (k : SoundContext c o) where
+  pub change-plain : (p : Partition) → Valid (c .frame) (c .time) p → (a : Change) → SoundChange c p a → applied a p ≡ plainApplied a p
+  unfolding plainCreated plainLast plainSemaphore plainEvent enteredNormal
+  change-plain p v Nothing h = refl
+  change-plain p v (Stored id x) h = stored-plain p (v .lists) id (h .0) x
+  change-plain p v (Created id x) h =
+      let e : max (p .processCount) id ≡ p .processCount + 1 = omega (arith, h .next) in
+      created-in id x p (within-in processLimit id (omega (arith, h .next)) (omega (arith, h .next, h .room))) ∙ rw e
+  change-plain p v (Last id) h = arrived-plain p (v .lists) id h
+  change-plain p v (StoredSemaphore j s) h = semaphore-in j s p (within-in semaphoreLimit j (h .0 .0 .0) (h .0 .1)) ∙ rw (count-with (p .semaphoreCount) j (h .0 .0 .1))
+  change-plain p v (StoredEvent j e) h = event-in j e p (within-in eventLimit j (h .0 .0 .0) (h .0 .1)) ∙ rw (count-with (p .eventCount) j (h .0 .0 .1))
+  change-plain p v (Ended o) h = ended-changed (waiters o p) p ∙ all-plain served (waiters o p) p (v .lists) (waiters-created p (v .lists) o)
+  change-plain p v (Entered d) h = each-plain (entered d) (withMode 3 p) (v .lists)
+
+  -- and what it stores has its place
+  pub change-in-place : (p : Partition) → Valid (c .frame) (c .time) p → (a : Change) → SoundChange c p a → InPlace a p
+  change-in-place p v Nothing h = tt
+  change-in-place p v (Stored id x) h = (h .0 .0, omega (arith, h .0 .1, v .lists .numbered .few, v .lists .numbered .size))
+  change-in-place p v (Created id x) h = (omega (arith, h .next), omega (arith, h .next, h .room, v .lists .numbered .size))
+  change-in-place p v (Last id) h = let b = process-created ready refl p (v .lists) id h in (b .0, omega (arith, b .1, v .lists .numbered .few, v .lists .numbered .size))
+  change-in-place p v (StoredSemaphore j s) h = (h .0 .0 .0, omega (arith, h .0 .1, v .objects .semaphores .size))
+  change-in-place p v (StoredEvent j e) h = (h .0 .0 .0, omega (arith, h .0 .1, v .objects .events .size))
+  change-in-place p v (Ended o) h = tt
+  change-in-place p v (Entered d) h = omega (arith, v .lists .numbered .few, v .lists .numbered .size)
+
+-- ---------------------------------------------------------------- the tick
+length-first : {A : Type 0} (n : ℕ) (f : A → A) (l : List A) → length (changedFirst n f l) ≡ length l
+unfolding changedFirst
+length-first zero f l = refl
+length-first (suc n) f [] = refl
+length-first (suc n) f (a ∷ l) = ap suc (length-first n f l)
+
+-- what stands at place i of a list whose first n have been changed
+first-at : {A : Type 0} (n : ℕ) (f : A → A) (l : List A) (d : A) (i : ℕ) → i < length l → getD (changedFirst n f l) i d ≡ cond (ltb i n) (f (getD l i d)) (getD l i d)
+unfolding changedFirst
+first-at zero f l d i h = rw (le-ltb i 0 (omega arith))
+first-at (suc n) f [] d i h = absurd (omega arith)
+first-at (suc n) f (a ∷ l) d zero h = rw (lt-ltb 0 (suc n) (omega arith))
+first-at (suc n) f (a ∷ l) d (suc i) h = first-at n f l d i (omega arith) ∙ ap (λ b. cond b (f (getD l i d)) (getD l i d)) (ltb-suc i n)
+  where
+    ltb-suc : (i n : ℕ) → ltb i n ≡ ltb (suc i) (suc n)
+    ltb-suc i n = either (ltb i n)
+        (λ e. let k = ltb-true i n e in rw (e, lt-ltb (suc i) (suc n) (omega arith)))
+        (λ e. let k = ltb-false i n e in rw (e, le-ltb (suc i) (suc n) (omega arith)))
+
+-- one partition: each process of it is stored plainly
+pub tick-partition-plain : (t frame now : ℕ) (p : Partition) → Valid frame now p → tickPartition t p ≡ plainTickPartition t p
+unfolding tickPartition
+tick-partition-plain t frame now p v = by-tests (λ (a b : Partition). a ≡ b) (normalMode p) (normalMode p) refl (λ _. each-plain (ticked t) p (v .lists)) (λ _. refl)
+
+module _ (m : Module) (s : SoundModule m) where
+  pub tick-plain : tickModule m ≡ plainTicked m
+  unfolding plainTick
+  tick-plain =
+      let n = m .table .size in
+      let q = withTime (m .t + 1) m in
+      let f : Partition → Partition = λ p. noted (plainTickPartition (m .t + 1) p) in
+      let long : n ≤ length (m .partitions) = omega (arith, s .partitionsSize, s .table .size .1) in
+      tick-module-plain m (inr s) ∙ plain-around n q ∙ ap (λ (l : List Partition). record { table = m .table; t = m .t + 1; messages = m .messages; partitions = l })
+      (ext-getD noPartition (plainTickTo n q .partitions) (changedFirst n f (m .partitions)) (plain-size n q ∙ sym (length-first n f (m .partitions))) (λ i h.
+      sym (first-at n f (m .partitions) noPartition i (rw (plain-size n q) at h) ∙ either (ltb i n)
+      (λ e. rw (e, plain-part n q long i (ltb-true i n e), tick-partition-plain (m .t + 1) (m .table .frame) (m .t) (part m i) (s .eachPartition i (ltb-true i n e))))
+      (λ e. rw (e, plain-other n i q (ltb-false i n e))))))
+
+-- ---------------------------------------------------------------- decisions
+-- what a call decides of its partition is applied plainly, and what it stores has its place
+module _ (m : Module) (s : SoundModule m) (r : Request) (q : Calls m r) where
+  abbrev k : ℕ
+  k = numberOf (r .partition)
+
+  abbrev now : Partition
+  now = part m (k - 1)
+
+  valid : Valid (m .table .frame) (m .t) now
+  valid = s .eachPartition (k - 1) (place m s r q)
+
+  -- one change, and another after it
+  one-plain : (a : Change) → SoundChange (contextOf m k) now a → applied a now ≡ plainApplied a now
+  one-plain a h = change-plain (contextOf m k) (context-sound m s r q) now valid a h
+
+  after-one : (a : Change) → SoundChange (contextOf m k) now a → Valid (m .table .frame) (m .t) (applied a now)
+  after-one a h = change-valid (contextOf m k) (context-sound m s r q) now valid a h
+
+  pub decided-plain : (d : Decision) → SoundDecision (contextOf m k) now d → Bodily (portOf m k r) (numberOf (r .call)) d → moduleAfter m k d ≡ plainAfter m k d
+  decided-plain (Refused n) h b = refl
+  decided-plain (Unchanged n e) h b = refl
+  decided-plain Ticked h b = absurd b
+  decided-plain (Blocked id x) h b = rw (one-plain (Stored id x) h)
+  decided-plain (Changed x y n) h b = rw (change-plain (contextOf m k) (context-sound m s r q) (applied x now) (after-one x (h .0)) y (h .1), one-plain x (h .0))
+  decided-plain (Restarted mode) h b = refl
+  decided-plain (Written i x) h b = refl
+
+  pub decided-in-place : (d : Decision) → SoundDecision (contextOf m k) now d → Bodily (portOf m k r) (numberOf (r .call)) d → AllInPlace m k d
+  decided-in-place (Refused n) h b = tt
+  decided-in-place (Unchanged n e) h b = tt
+  decided-in-place Ticked h b = absurd b
+  decided-in-place (Blocked id x) h b = change-in-place (contextOf m k) (context-sound m s r q) now valid (Stored id x) h
+  decided-in-place (Changed x y n) h b = (
+    change-in-place (contextOf m k) (context-sound m s r q) now valid x (h .0),
+    rw (one-plain x (h .0)) at (change-in-place (contextOf m k) (context-sound m s r q) (applied x now) (after-one x (h .0)) y (h .1)),
+  )
+  decided-in-place (Restarted mode) h b = tt
+  decided-in-place (Written i x) h b =
+      let c = in-limits 1 (m .table .channelCount) (r .a) (b .there) in
+      (omega (arith, b .place, c .0, c .1), omega (arith, b .place, c .0, c .1, s .table .channelCount, s .messagesSize))
+
 -- ---------------------------------------------------------------- sums of times
+pub caps-seen : CapsSeen
+caps-seen = record { sum = sum; sums = sums; more = more }
+  where
+    sum : (a b : Time) → (later a b ≡ plainLater a b) ⊎ (later a b ≡ At greatestTime)
+    sum Never b = inl refl
+    sum (At m) Never = inl refl
+    sum (At m) (At n) = by-test (λ (k : ℕ). (At k ≡ At (m + n)) ⊎ (At k ≡ At greatestTime)) (leb (m + n) greatestTime) (λ _. inl refl) (λ _. inr refl)
+
+    -- the greatest time stays the greatest whatever is added
+    greatest : (n : ℕ) (c : Time) → (later (At greatestTime) c ≡ plainLater (At n) c) ⊎ (later (At greatestTime) c ≡ At greatestTime)
+    greatest n Never = inl refl
+    greatest n (At j) = inr (by-test (λ (k : ℕ). At k ≡ At greatestTime) (leb (greatestTime + j) greatestTime) (λ e. ap At (let h = leb-true (greatestTime + j) greatestTime e in omega arith)) (λ _. refl))
+
+    sums : (a b c : Time) → (later (later a b) c ≡ plainLater (plainLater a b) c) ⊎ (later (later a b) c ≡ At greatestTime)
+    sums Never b c = inl refl
+    sums (At m) Never c = inl refl
+    sums (At m) (At n) c = by-test (λ (k : ℕ). (later (At k) c ≡ plainLater (At (m + n)) c) ⊎ (later (At k) c ≡ At greatestTime)) (leb (m + n) greatestTime) (λ _. sum (At (m + n)) c) (λ _. greatest (m + n) c)
+
+    more : (n : ℕ) → (oneMore n ≡ n + 1) ⊎ (greatestValue ≤ oneMore n)
+    more n = by-test (λ (k : ℕ). (k ≡ n + 1) ⊎ (greatestValue ≤ k)) (ltb n greatestValue) (λ _. inl refl) (λ e. inr (ltb-false n greatestValue e))
+
+uncapped : (n : ℕ) (w : Time) → NotAfter n w → n < greatestTime → Uncapped w
+uncapped n Never h k = tt
+uncapped n (At a) h k = omega arith
+
+-- no number of a valid partition is one that a cap made
+pub numbers-plain : (frame t : ℕ) (p : Partition) → Valid frame t p → t ≤ timeLimit → PlainNumbers p
+numbers-plain frame t p v ends = record {
+  times = λ id b.
+      let u = times-bounded _ (process id p) (v .eachProcess id b) ends in
+      let s = process id p .times in
+      record { release = uncapped latestWake (s .release) (u .release) (omega arith); deadline = uncapped latestDeadline (s .deadline) (u .deadline) (omega arith); wake = uncapped latestWake (s .wake) (u .wake) (omega arith) };
+  values = λ k b. let u = v .objects .eachSemaphore k b in omega (arith, u .value, u .max .1);
+}
+
+-- the sums of a call, each said by itself
 pub later-uncapped : (m n : ℕ) (a b : Time) → NotAfter m a → NotAfter n b → m + n ≤ greatestTime → later a b ≡ plainLater a b
 later-uncapped m n Never b ha hb h = refl
 later-uncapped m n (At a) Never ha hb h = refl
 later-uncapped m n (At a) (At b) ha hb h = later-plain a b (omega arith)
 
--- the sums of the start rule, delay n; the process's capacity
+-- the sums of the start rule for a periodic process, delay n
 module _ (c : Context) (p : Partition) (k : SoundContext c p) (x : Process) (l : LastingIn (c .frame) x) (n : ℕ) (short : n ≤ durationLimit) where
   cap : NotAfter durationLimit (x .given .capacity)
   cap = capacity-bound (x .given .period) (x .given .capacity) (l .given .capacity)
-
-  pub start-plain : later (At (c .time)) (At n) ≡ At (c .time + n)
-  start-plain = later-plain (c .time) n (omega (arith, k .time))
-
-  pub start-deadline-plain : later (later (At (c .time)) (At n)) (x .given .capacity) ≡ plainLater (At (c .time + n)) (x .given .capacity)
-  start-deadline-plain = ap (λ at. later at (x .given .capacity)) start-plain ∙ later-uncapped (c .time + n) durationLimit (At (c .time + n)) (x .given .capacity) (omega arith) cap (omega (arith, k .time))
 
   pub release-point-plain : later (At (c .release)) (At n) ≡ At (c .release + n)
   release-point-plain = later-plain (c .release) n (omega (arith, k .time, k .near, k .frame .1))
@@ -147,47 +306,96 @@ module _ (s : Setting) (x : Process) (h : SoundProcess s x) (normal : s .normal 
       (capacity-bound (x .given .period) (x .given .capacity) (h .lasting .given .capacity)) (omega arith)
       ∙ ap (λ at. plainLater at (x .given .capacity)) next-plain
 
--- a time-out, −1 or a number of D
-pub timeout-plain : (t : ℕ) (a : Field) → t ≤ timeLimit → isTimeout a ≡ true → later (At t) (timeOf a) ≡ plainLater (At t) (timeOf a)
-timeout-plain t (Number n) ends h = later-plain t n (omega (arith, in-limits 0 durationLimit (Number n) h .1))
-timeout-plain t MinusOne ends h = refl
-timeout-plain t Other ends h = refl
-
 -- ---------------------------------------------------------------- the table
-pub lookup-plain : (T : Table) → SoundTable T → (t : ℕ) → lookup T t .partition ≡ owner (windows T) (t % T .frame)
-unfolding lookup
-lookup-plain T s t = rw (frame-some T s t)
+pub table-plain : (T : Table) → SoundTable T → (t : ℕ) → t ≤ timeLimit → PlainTable T t
+unfolding lookup nextStart releaseAfter
+table-plain T s t ends = record {
+  frame = s .frame .0;
+  current = λ u. rw (frame-some T s u);
+  starts = λ u k flagged. rw (frame-some T s u);
+  count = rw (le-leb (T .size) partitionLimit (s .size .1));
+  flagged = s .flagged;
+  release = release-plain T s t ends;
+}
 
--- ---------------------------------------------------------------- fields
--- the tests on a number itself
-abbrev pub plainBetween : ℕ → ℕ → ℤ → Bool
-plainBetween low high (pos n) = leb low n && leb n high
-plainBetween low high (negsuc n) = false
-
-abbrev pub plainNumber : ℕ → ℤ → Bool
-plainNumber n (pos m) = eqb m n
-plainNumber n (negsuc m) = false
-
-abbrev pub plainMinusOne : ℤ → Bool
-plainMinusOne (pos n) = false
-plainMinusOne (negsuc n) = eqb n 0
-
+-- ---------------------------------------------------------------- the event's numbers
 -- no limit is above the greatest time, so what a field loses no rule admits
-pub between-plain : (low high : ℕ) → high ≤ greatestTime → (z : ℤ) → between low high (field z) ≡ plainBetween low high z
-between-plain low high h (pos n) = by-test (λ (f : Field). between low high f ≡ (leb low n && leb n high)) (leb n greatestTime)
-    (λ _. refl)
-    (λ e. rw (lt-leb n high (omega (arith, leb-false n greatestTime e))) (sym (and-false (leb low n))))
-between-plain low high h (negsuc zero) = refl
-between-plain low high h (negsuc (suc n)) = refl
+pub lossless : (z : ℤ) → Lossless z
+lossless z = record { number = λ n h e. rw (e, le-leb n greatestTime h); minusOne = λ e. rw e; between = within z; isNumber = number z; isMinusOne = minus z; unknown = named z }
+  where
+    within : (z : ℤ) (low high : ℕ) → high ≤ greatestTime → between low high (field z) ≡ plainBetween low high z
+    within (pos n) low high h = by-test (λ (f : Field). between low high f ≡ (leb low n && leb n high)) (leb n greatestTime)
+        (λ _. refl)
+        (λ e. rw (lt-leb n high (omega (arith, leb-false n greatestTime e))) (sym (and-false (leb low n))))
+    within (negsuc zero) low high h = refl
+    within (negsuc (suc n)) low high h = refl
 
-pub number-plain : (k : ℕ) → k ≤ greatestTime → (z : ℤ) → isNumber k (field z) ≡ plainNumber k z
-number-plain k h (pos n) = by-test (λ (f : Field). isNumber k f ≡ eqb n k) (leb n greatestTime)
-    (λ _. refl)
-    (λ e. sym (ne-eqb n k (λ q. omega (arith, leb-false n greatestTime e))))
-number-plain k h (negsuc zero) = refl
-number-plain k h (negsuc (suc n)) = refl
+    number : (z : ℤ) (k : ℕ) → k ≤ greatestTime → isNumber k (field z) ≡ plainNumber k z
+    number (pos n) k h = by-test (λ (f : Field). isNumber k f ≡ eqb n k) (leb n greatestTime)
+        (λ _. refl)
+        (λ e. sym (ne-eqb n k (λ q. omega (arith, leb-false n greatestTime e))))
+    number (negsuc zero) k h = refl
+    number (negsuc (suc n)) k h = refl
 
-pub minus-plain : (z : ℤ) → isMinusOne (field z) ≡ plainMinusOne z
-minus-plain (pos n) = by-test (λ (f : Field). isMinusOne f ≡ false) (leb n greatestTime) (λ _. refl) (λ _. refl)
-minus-plain (negsuc zero) = refl
-minus-plain (negsuc (suc n)) = sym (ne-eqb (suc n) 0 (λ q. omega arith))
+    minus : (z : ℤ) → isMinusOne (field z) ≡ plainMinusOne z
+    minus (pos n) = by-test (λ (f : Field). isMinusOne f ≡ false) (leb n greatestTime) (λ _. refl) (λ _. refl)
+    minus (negsuc zero) = refl
+    minus (negsuc (suc n)) = sym (ne-eqb (suc n) 0 (λ q. omega arith))
+
+    named : (z : ℤ) (count : ℕ) → count ≤ greatestTime → unknown (numberOf (field z)) count ≡ plainUnknown z count
+    named (pos n) count h = by-test (λ (f : Field). unknown (numberOf f) count ≡ unknown n count) (leb n greatestTime)
+        (λ _. refl)
+        (λ e. let k = leb-false n greatestTime e in rw (lt-ltb count n (omega arith)) (sym (or-true (eqb n 0))))
+    named (negsuc zero) count h = refl
+    named (negsuc (suc n)) count h = refl
+
+-- ---------------------------------------------------------------- every event of every reached record
+-- the partition that an event names: 13 where there is none such
+event-partition : (m : Module) (r : Request) → (decision m r ≡ Refused 13) ⊎ (numberOf (r .partition) ≤ m .table .size)
+unfolding decision checked
+event-partition m r = either (malformed (m .table) r)
+    (λ e. inl (rw e))
+    (λ e. inr (in-limits 0 (m .table .size) (r .partition) (not-false _ (or-left (not (between 0 (m .table .size) (r .partition))) _ (or-right (eqb (m .table .size) 0) _ e))) .1))
+
+-- a tick of each partition finds its processes in their places
+ticks-in-place : (m : Module) → SoundModule m → (i : ℕ) → i < m .table .size → part m i .processCount ≤ length (part m i .processes)
+ticks-in-place m s i h = let n = s .eachPartition i h .lists .numbered in omega (arith, n .few, n .size)
+
+module _ (m : Module) (s : SoundModule m) (e : EventT) where
+  abbrev r : Request
+  r = requestOf e
+
+  applied-plain : moduleAfter m (numberOf (r .partition)) (decision m r) ≡ plainAfter m (numberOf (r .partition)) (decision m r)
+  applied-plain =
+      by-event m r (λ (d : Decision). moduleAfter m (numberOf (r .partition)) d ≡ plainAfter m (numberOf (r .partition)) d)
+      (λ n _. refl)
+      (λ _ _ _. tick-plain m s)
+      (λ q. decided-plain m s r q (made m s r q) (made-sound m s r q) (made-body m s r q))
+
+  abbrev after : Module
+  after = moduleAfter m (numberOf (r .partition)) (decision m r)
+
+  after-sound : SoundModule after
+  after-sound = decided-sound m s r
+
+  sound-plain : NoBoundActs m e
+  unfolding step
+  sound-plain = record {
+    numbers = (lossless (e .partition), lossless (e .call), lossless (e .a), lossless (e .b), lossless (e .c), lossless (e .e));
+    table = table-plain (m .table) (s .table) (m .t) (s .time);
+    partition = event-partition m r;
+    partitions = omega (arith, s .partitionsSize, s .table .size .1);
+    reads = λ i h. reads-plain (m .table .frame) (m .t) (part m i) (s .eachPartition i h);
+    places = by-event m r (AllInPlace m (numberOf (r .partition))) (λ n _. tt) (λ _ _ _. ticks-in-place m s) (λ q. decided-in-place m s r q (made m s r q) (made-sound m s r q) (made-body m s r q));
+    steps = rw applied-plain;
+    caps = caps-seen;
+    uncapped = λ i h. numbers-plain (after .table .frame) (after .t) (part after i) (after-sound .eachPartition i (rw (decided-table m (numberOf (r .partition)) (decision m r)) h)) (after-sound .time);
+  }
+
+empty-refused : (e : EventT) → step emptyModule e ≡ record { state = emptyModule; answer = record { code = 13; value = 0; extra = At 0; t = 0; current = 0; running = 0 } }
+unfolding step decision checked emptyModule emptyTable lookup
+empty-refused e = by-test (λ (n : ℕ). _≡_ {A = Stepped} (record { state = emptyModule; answer = record { code = 13; value = 0; extra = At 0; t = 0; current = 0; running = n } }) (record { state = emptyModule; answer = record { code = 13; value = 0; extra = At 0; t = 0; current = 0; running = 0 } })) (sees (requestOf e) 0) (λ _. refl) (λ _. refl)
+
+-- Law. At every event of every reached record no bound acts; the empty record apart, which answers 13 and stays.
+pub no-bound-acts : (m : Module) → Reached m → (e : EventT) → EmptyStays m e ⊎ NoBoundActs m e
+no-bound-acts m h e = ⊎-elim (λ (z : m ≡ emptyModule). inl (record { empty = z; refused = rw z (empty-refused e) })) (λ (s : SoundModule m). inr (sound-plain m s e)) (reached-valid m h)

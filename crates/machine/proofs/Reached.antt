@@ -140,12 +140,12 @@ unfolding plainTickTo
 plain-around zero m = refl
 plain-around (suc n) m = ap (withPart n (tickPartition (plainTickTo n m .t) (part (plainTickTo n m) n))) (plain-around n m)
 
-plain-size : (n : ℕ) (m : Module) → length (plainTickTo n m .partitions) ≡ length (m .partitions)
+pub plain-size : (n : ℕ) (m : Module) → length (plainTickTo n m .partitions) ≡ length (m .partitions)
 unfolding plainTickTo
 plain-size zero m = refl
 plain-size (suc n) m = simp length-set (plain-size n m)
 
-plain-other : (n i : ℕ) (m : Module) → n ≤ i → part (plainTickTo n m) i ≡ part m i
+pub plain-other : (n i : ℕ) (m : Module) → n ≤ i → part (plainTickTo n m) i ≡ part m i
 unfolding plainTickTo
 plain-other zero i m h = refl
 plain-other (suc n) i m h = getD-set-other (plainTickTo n m .partitions) n i _ noPartition (λ e. omega arith) ∙ plain-other n i m (omega arith)
@@ -202,7 +202,7 @@ module _ (m : Module) (s : SoundModule m) (r : Request) (q : Calls m r) where
   abbrev caller : ℕ
   caller = numberOf (r .partition)
 
-  place : caller - 1 < m .table .size
+  pub place : caller - 1 < m .table .size
   place = let some = q .some in omega (arith, current-known (m .table) (s .table) (m .t), q .now)
 
   pub context-sound : SoundContext (contextOf m caller) (part m (caller - 1))

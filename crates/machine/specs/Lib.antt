@@ -21,3 +21,4 @@ pub mod TwoRuns
 pub mod LeftRight
 pub mod Valid
 pub mod Starred
+pub mod Plain

@@ -1,0 +1,254 @@
+-- The machine with no bound. So as to be total, the definitions carry bounds: an id outside its limit names the default and stores nothing,
+-- a full list stays as it is, sums of times and a semaphore's value stop at the greatest, at most 8 partitions are ticked, M = 0 gives 0, and
+-- a number past the greatest time is no number. Here the same is said without them, and what it means that none of them acts at an event:
+-- `no-bound-acts` proves it of every event at every record that a run reaches. Nothing of the machine rests on it.
+use Prim.Native.Nat.{ℕ, zero, suc, _+_, _-_, _*_, _/_, _%_, _≤_, _<_}
+use mathlib.Core.Path.{_≡_}
+use mathlib.Core.Bool.{Bool, true, false, cond, _&&_}
+use mathlib.Core.List.{List, [], _∷_, _++_}
+use mathlib.Core.Logic.{_⊎_}
+use lib.ListN.{length, getD, set}
+use lib.Dec.{eqb, leb, ltb}
+use lib.IntN.{ℤ, pos, negsuc}
+use Rattle.machine.specs.declared.Time.{Time}
+use Rattle.machine.specs.declared.Time.the-variants.{Never, At}
+use Rattle.machine.specs.declared.Field.the-variants.{Number, MinusOne}
+use Rattle.machine.specs.declared.Times.{Times}
+use Rattle.machine.specs.declared.Process.{Process}
+use Rattle.machine.specs.declared.Semaphore.{Semaphore as SemaphoreT}
+use Rattle.machine.specs.declared.EventState.{EventState}
+use Rattle.machine.specs.declared.Partition.{Partition}
+use Rattle.machine.specs.declared.Change.{Change}
+use Rattle.machine.specs.declared.Change.the-variants.{Nothing, Stored, Created, Last, StoredSemaphore, StoredEvent, Ended, Entered}
+use Rattle.machine.specs.declared.Decision.{Decision}
+use Rattle.machine.specs.declared.Decision.the-variants.{Refused, Unchanged, Ticked, Blocked, Changed, Restarted, Written}
+use Rattle.machine.specs.declared.Event.{Event as EventT}
+use Rattle.machine.specs.declared.Request.{Request}
+use Rattle.machine.specs.declared.Module.{Module}
+use Rattle.machine.specs.declared.Table.{Table}
+use Rattle.machine.specs.declared.Stepped.{Stepped}
+use Rattle.machine.specs.Limits.{channelLimit, greatestTime, greatestValue}
+use Rattle.machine.specs.Fields.{field, requestOf, isNumber, between, isMinusOne, numberOf}
+use Rattle.machine.specs.Ids.{members, idsOf, kept, other}
+use Rattle.machine.specs.Process.{blankProcess, later, ready, onObject, served, ticked, entered}
+use Rattle.machine.specs.Partition.{normalMode, nothingCreated, noSemaphore, noEvent, process, semaphore, event, withMode, withProcesses, withSemaphores, withEvents, waiters, noted}
+use Rattle.machine.specs.Decisions.{replyOf, unknown}
+use Rattle.machine.specs.Objects.{oneMore}
+use Rattle.machine.specs.Windows.{windows, owner, lookup, firstFlagged, releasePoint, startsFrom, firstStart, aheadOf, nextStart}
+use Rattle.machine.specs.Table.{hasFlagged}
+use Rattle.machine.specs.Module.{emptyModule, part, withPart, withMessage}
+use Rattle.machine.specs.Ticks.{partitionCount}
+use Rattle.machine.specs.Channels.{erasedTo}
+use Rattle.machine.specs.Step.{decision, answerTo, step}
+use Rattle.machine.specs.Valid.{Between, plainLater}
+
+-- ---------------------------------------------------------------- lists
+-- what an id names: ids count from 1, and 0 names none
+abbrev pub plainById : {A : Type 0} → A → ℕ → List A → A
+plainById d zero l = d
+plainById d (suc i) l = getD l i d
+
+-- a list of ids after an id went from belonging to it or not to belonging to it or not: it joins last, or leaves
+abbrev pub followed : Bool → Bool → ℕ → List ℕ → List ℕ
+followed true true id l = l
+followed true false id l = kept (other id) l
+followed false true id l = l ++ (id ∷ [])
+followed false false id l = l
+
+-- n ids from id on
+unfoldable pub idsFrom : ℕ → ℕ → List ℕ
+idsFrom zero id = []
+idsFrom (suc n) id = id ∷ idsFrom n (id + 1)
+
+-- the first n of a list changed
+unfoldable pub changedFirst : {A : Type 0} → ℕ → (A → A) → List A → List A
+changedFirst zero f l = l
+changedFirst (suc n) f [] = []
+changedFirst (suc n) f (a ∷ l) = f a ∷ changedFirst n f l
+
+-- ---------------------------------------------------------------- the changes
+-- process id has this record from now on; the arrival list and the waiting list follow
+unfoldable pub plainStored : ℕ → Process → Partition → Partition
+plainStored id x p =
+    let old = plainById blankProcess id (p .processes) in
+    withProcesses (set (p .processes) (id - 1) x) (p .processCount)
+    (idsOf (followed (ready old) (ready x) id (members (p .arrival))))
+    (idsOf (followed (onObject old) (onObject x) id (members (p .waiting)))) p
+
+-- the next process
+unfoldable pub plainCreated : ℕ → Process → Partition → Partition
+plainCreated id x p = withProcesses (set (p .processes) (id - 1) x) (p .processCount + 1) (p .arrival) (p .waiting) p
+
+-- process id goes to the end of the arrival list
+unfoldable pub plainLast : ℕ → Partition → Partition
+plainLast id p = withProcesses (p .processes) (p .processCount) (idsOf (kept (other id) (members (p .arrival)) ++ (id ∷ []))) (p .waiting) p
+
+-- how many there are after one has been stored: one more where it is the next
+abbrev pub countWith : ℕ → ℕ → ℕ
+countWith id count = cond (ltb count id) (count + 1) count
+
+unfoldable pub plainSemaphore : ℕ → SemaphoreT → Partition → Partition
+plainSemaphore k s p = withSemaphores (set (p .semaphores) (k - 1) s) (countWith k (p .semaphoreCount)) p
+
+unfoldable pub plainEvent : ℕ → EventState → Partition → Partition
+plainEvent k e p = withEvents (set (p .events) (k - 1) e) (countWith k (p .eventCount)) p
+
+-- a change of these processes, one after the other
+unfoldable pub plainAll : (Process → Process) → List ℕ → Partition → Partition
+plainAll f [] p = p
+plainAll f (id ∷ l) p = plainAll f l (plainStored id (f (plainById blankProcess id (p .processes))) p)
+
+-- of every process, by ascending id
+abbrev pub plainEach : (Process → Process) → Partition → Partition
+plainEach f p = plainAll f (idsFrom (p .processCount) 1) p
+
+abbrev pub plainApplied : Change → Partition → Partition
+plainApplied Nothing p = p
+plainApplied (Stored id x) p = plainStored id x p
+plainApplied (Created id x) p = plainCreated id x p
+plainApplied (Last id) p = plainLast id p
+plainApplied (StoredSemaphore k s) p = plainSemaphore k s p
+plainApplied (StoredEvent k e) p = plainEvent k e p
+plainApplied (Ended o) p = plainAll served (waiters o p) p
+plainApplied (Entered c) p = plainEach (entered c) (withMode 3 p)
+
+-- what is stored has its place in its list
+abbrev pub InPlace : Change → Partition → Type 0
+InPlace Nothing p = Unit {0}
+InPlace (Stored id x) p = Between 1 (length (p .processes)) id
+InPlace (Created id x) p = Between 1 (length (p .processes)) id
+InPlace (Last id) p = Between 1 (length (p .processes)) id
+InPlace (StoredSemaphore k s) p = Between 1 (length (p .semaphores)) k
+InPlace (StoredEvent k e) p = Between 1 (length (p .events)) k
+InPlace (Ended o) p = Unit {0}
+InPlace (Entered c) p = p .processCount ≤ length (p .processes)
+
+-- ---------------------------------------------------------------- an event
+abbrev pub plainTickPartition : ℕ → Partition → Partition
+plainTickPartition t p = cond (normalMode p) (plainEach (ticked t) p) p
+
+-- t rises by one; each of the P partitions is ticked
+abbrev pub plainTicked : Module → Module
+plainTicked m = record {
+  table = m .table;
+  t = m .t + 1;
+  messages = m .messages;
+  partitions = changedFirst (m .table .size) (λ p. noted (plainTickPartition (m .t + 1) p)) (m .partitions);
+}
+
+-- what a decision of partition k leaves of the module
+abbrev pub plainAfter : Module → ℕ → Decision → Module
+plainAfter m k (Refused code) = m
+plainAfter m k (Unchanged value extra) = m
+plainAfter m k Ticked = plainTicked m
+plainAfter m k (Blocked id x) = withPart (k - 1) (plainStored id x (part m (k - 1))) m
+plainAfter m k (Changed a b value) = withPart (k - 1) (plainApplied b (plainApplied a (part m (k - 1)))) m
+plainAfter m k (Restarted mode) = withPart (k - 1) (nothingCreated mode) (erasedTo k channelLimit m)
+plainAfter m k (Written i x) = withMessage i x m
+
+-- what it stores has its place: in the partition's lists, and a message on a channel of the table
+abbrev pub AllInPlace : Module → ℕ → Decision → Type 0
+AllInPlace m k (Refused code) = Unit {0}
+AllInPlace m k (Unchanged value extra) = Unit {0}
+AllInPlace m k Ticked = (i : ℕ) → i < m .table .size → part m i .processCount ≤ length (part m i .processes)
+AllInPlace m k (Blocked id x) = InPlace (Stored id x) (part m (k - 1))
+AllInPlace m k (Changed a b value) = InPlace a (part m (k - 1)) × InPlace b (plainApplied a (part m (k - 1)))
+AllInPlace m k (Restarted mode) = Unit {0}
+AllInPlace m k (Written i x) = (i < m .table .channelCount) × (i < length (m .messages))
+
+-- the decision, applied so, and the answer read off the record then
+abbrev pub plainStepped : Module → Request → Decision → Stepped
+plainStepped m r d =
+    let q = plainAfter m (numberOf (r .partition)) d in
+    record { state = q; answer = answerTo r (replyOf d) q }
+
+-- ---------------------------------------------------------------- numbers
+-- a time that no cap has made
+abbrev pub Uncapped : Time → Type 0
+Uncapped Never = Unit {0}
+Uncapped (At n) = n < greatestTime
+
+pub record UncappedTimes (s : Times) : Type 0 where
+  pub release : Uncapped (s .release)
+  pub deadline : Uncapped (s .deadline)
+  pub wake : Uncapped (s .wake)
+
+-- the rules' tests of a field, on the number itself
+abbrev pub plainBetween : ℕ → ℕ → ℤ → Bool
+plainBetween low high (pos n) = leb low n && leb n high
+plainBetween low high (negsuc n) = false
+
+abbrev pub plainNumber : ℕ → ℤ → Bool
+plainNumber n (pos m) = eqb m n
+plainNumber n (negsuc m) = false
+
+abbrev pub plainMinusOne : ℤ → Bool
+plainMinusOne (pos n) = false
+plainMinusOne (negsuc n) = eqb n 0
+
+abbrev pub plainUnknown : ℤ → ℕ → Bool
+plainUnknown (pos id) count = unknown id count
+plainUnknown (negsuc n) count = true
+
+-- one of an event's numbers is looked at without loss: −1 and a number up to the greatest time are kept, and every test of a rule, whose
+-- limits lie below that time, says of the field what it says of the number
+pub record Lossless (z : ℤ) : Type 0 where
+  pub number : (n : ℕ) → n ≤ greatestTime → z ≡ pos n → field z ≡ Number n
+  pub minusOne : z ≡ negsuc 0 → field z ≡ MinusOne
+  pub between : (low high : ℕ) → high ≤ greatestTime → between low high (field z) ≡ plainBetween low high z
+  pub isNumber : (n : ℕ) → n ≤ greatestTime → isNumber n (field z) ≡ plainNumber n z
+  pub isMinusOne : isMinusOne (field z) ≡ plainMinusOne z
+  pub unknown : (count : ℕ) → count ≤ greatestTime → unknown (numberOf (field z)) count ≡ plainUnknown z count
+
+-- ---------------------------------------------------------------- no bound acts
+-- what an id names, whatever the id
+pub record PlainReads (p : Partition) : Type 0 where
+  pub processes : (id : ℕ) → process id p ≡ plainById blankProcess id (p .processes)
+  pub semaphores : (k : ℕ) → semaphore k p ≡ plainById noSemaphore k (p .semaphores)
+  pub events : (k : ℕ) → event k p ≡ plainById noEvent k (p .events)
+
+-- no number that the partition holds is one that a cap made
+pub record PlainNumbers (p : Partition) : Type 0 where
+  pub times : (id : ℕ) → Between 1 (p .processCount) id → UncappedTimes (process id p .times)
+  pub values : (k : ℕ) → Between 1 (p .semaphoreCount) k → semaphore k p .value < greatestValue
+
+-- M is not 0: the current partition and the next start of a window are the plain ones at every time; P is at most 8; every partition has a
+-- window with flag 1, and its release point is (t div M + 1) × M + start of the first of them
+pub record PlainTable (T : Table) (t : ℕ) : Type 0 where
+  pub frame : 1 ≤ T .frame
+  pub current : (t : ℕ) → lookup T t .partition ≡ owner (windows T) (t % T .frame)
+  pub starts : (t k : ℕ) (flagged : Bool) → let x = t % T .frame in
+      nextStart T t k flagged ≡ aheadOf (T .frame) x (firstStart (startsFrom k flagged (x + 1)) (windows T)) (firstStart (startsFrom k flagged 0) (windows T))
+  pub count : partitionCount T ≡ T .size
+  pub flagged : (k : ℕ) → Between 1 (T .size) k → hasFlagged k (windows T) ≡ true
+  pub release : (k : ℕ) → releasePoint T t k ≡ (t / T .frame + 1) * T .frame + firstFlagged k (windows T)
+
+-- a cap that acts is seen: a sum of times is the plain one or the greatest time, also where one more is added to it, and one more than a
+-- semaphore's value is the plain one or not below the greatest
+pub record CapsSeen : Type 0 where
+  pub sum : (a b : Time) → (later a b ≡ plainLater a b) ⊎ (later a b ≡ At greatestTime)
+  pub sums : (a b c : Time) → (later (later a b) c ≡ plainLater (plainLater a b) c) ⊎ (later (later a b) c ≡ At greatestTime)
+  pub more : (n : ℕ) → (oneMore n ≡ n + 1) ⊎ (greatestValue ≤ oneMore n)
+
+-- at event e none of the bounds acts
+pub record NoBoundActs (m : Module) (e : EventT) : Type 0 where
+  -- the event's numbers
+  pub numbers : Lossless (e .partition) × Lossless (e .call) × Lossless (e .a) × Lossless (e .b) × Lossless (e .c) × Lossless (e .e)
+  -- the table
+  pub table : PlainTable (m .table) (m .t)
+  -- the event is refused with 13, or its partition is 0 or one of 1..P, which lie in the list of partitions
+  pub partition : (decision m (requestOf e) ≡ Refused 13) ⊎ (numberOf (requestOf e .partition) ≤ m .table .size)
+  pub partitions : m .table .size ≤ length (m .partitions)
+  -- what a call reads by id of any partition
+  pub reads : (i : ℕ) → i < m .table .size → PlainReads (part m i)
+  -- what the event stores has its place, and answer and whole record are those of the plain changes
+  pub places : AllInPlace m (numberOf (requestOf e .partition)) (decision m (requestOf e))
+  pub steps : step m e ≡ plainStepped m (requestOf e) (decision m (requestOf e))
+  -- a cap that acts is seen, and in the record after the event none is
+  pub caps : CapsSeen
+  pub uncapped : (i : ℕ) → i < m .table .size → PlainNumbers (part (step m e .state) i)
+
+-- the empty record apart: every event answers 13 and leaves it
+pub record EmptyStays (m : Module) (e : EventT) : Type 0 where
+  pub empty : m ≡ emptyModule
+  pub refused : step m e ≡ record { state = emptyModule; answer = record { code = 13; value = 0; extra = At 0; t = 0; current = 0; running = 0 } }

@@ -31,3 +31,4 @@ pub mod Taken
 pub mod Replays
 pub mod Applied
 pub mod Starts
+pub mod Queues

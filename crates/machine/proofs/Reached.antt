@@ -96,7 +96,7 @@ noted-noted p = soonest-noted (soonestOf p) (p .processCount) 1 p
 
 -- what stands at place i of a list after place j has been set
 module _ {A : Type 0} (P : ℕ → A → Type 0) (l : List A) (j : ℕ) (a d : A) where
-  at-set : j < length l → (i : ℕ) → P j a → ((i ≡ j → ⊥) → P i (getD l i d)) → P i (getD (set l j a) i d)
+  pub at-set : j < length l → (i : ℕ) → P j a → ((i ≡ j → ⊥) → P i (getD l i d)) → P i (getD (set l j a) i d)
   at-set inside i new old = ⊎-elim
       (λ (e : i ≡ j). rw (e, getD-set-same l j a d inside) new)
       (λ (ne : i ≡ j → ⊥). rw (getD-set-other l j i a d ne) (old ne))

@@ -1,7 +1,7 @@
 -- Laws of what a list tracks; a list of process ids that lacks one has room. Assumes nothing.
 use Prim.Native.Nat.{ℕ, zero, suc, _≤_, _<_}
 use mathlib.Core.Path.{_≡_, refl, ap, sym, _∙_}
-use mathlib.Core.Bool.{Bool, true, false, not, _&&_, _||_, or-false, and-false}
+use mathlib.Core.Bool.{Bool, true, false, not, _&&_, _||_, or-false, or-true, and-true, and-false}
 use mathlib.Core.List.{List, [], _∷_, _++_}
 use mathlib.Core.Logic.{⊎-elim}
 use native.Mathlib.Omega.{arith}
@@ -14,7 +14,7 @@ use Rattle.machine.specs.Ids.{members, idsOf, keptIf, kept, other, appen
 use Rattle.machine.specs.Valid.{contains, Distinct, Tracks}
 use Rattle.machine.proofs.Lists.{members-idsOf, appended-idsOf}
 use Rattle.machine.proofs.Tests.{not-both}
-use Rattle.machine.proofs.Bounds.{same-or-not, or-false-parts}
+use Rattle.machine.proofs.Bounds.{either, same-or-not, or-false-parts}
 
 contains-snoc : (x : ℕ) (l : List ℕ) (id : ℕ) → contains x (l ++ (id ∷ [])) ≡ (contains x l || eqb id x)
 unfolding contains
@@ -52,12 +52,32 @@ distinct-kept f (y ∷ l) d = go (f y) (distinct-kept f l (d .1))
     go true h = (contains-kept f y l ∙ rw (d .0) (and-false (f y)), h)
     go false h = h
 
-kept-whole : (id : ℕ) (l : List ℕ) → contains id l ≡ false → kept (other id) l ≡ l
-unfolding contains kept
-kept-whole id [] h = refl
-kept-whole id (y ∷ l) h =
-    let r = or-false-parts (eqb y id) (contains id l) h in
-    rw (r .0, kept-whole id l (r .1))
+-- two tests that agree on a list keep the same of it
+pub kept-same : (f g : ℕ → Bool) (l : List ℕ) → ((x : ℕ) → contains x l ≡ true → f x ≡ g x) → kept f l ≡ kept g l
+unfolding kept contains
+kept-same f g [] h = refl
+kept-same f g (x ∷ l) h = rw (h x (rw (eq-eqb x x refl)), kept-same f g l (λ y c. h y (rw c (or-true (eqb x y)))))
+
+pub kept-kept : (f g : ℕ → Bool) (l : List ℕ) → kept f (kept g l) ≡ kept (λ x. f x && g x) l
+unfolding kept
+kept-kept f g [] = refl
+kept-kept f g (x ∷ l) = either (g x)
+    (λ e. rw (e, kept, kept-kept f g l, and-true (f x)))
+    (λ e. rw (e, and-false (f x)) (kept-kept f g l))
+
+pub kept-all : (f : ℕ → Bool) (l : List ℕ) → ((x : ℕ) → contains x l ≡ true → f x ≡ true) → kept f l ≡ l
+unfolding kept contains
+kept-all f [] h = refl
+kept-all f (x ∷ l) h = rw (h x (rw (eq-eqb x x refl)), kept-all f l (λ y c. h y (rw c (or-true (eqb x y)))))
+
+pub kept-no : (f : ℕ → Bool) (l : List ℕ) → ((x : ℕ) → contains x l ≡ true → f x ≡ false) → kept f l ≡ []
+unfolding kept contains
+kept-no f [] h = refl
+kept-no f (x ∷ l) h = rw (h x (rw (eq-eqb x x refl))) (kept-no f l (λ y c. h y (rw c (or-true (eqb x y)))))
+
+-- a list without an id that it lacks
+pub kept-whole : (id : ℕ) (l : List ℕ) → contains id l ≡ false → kept (other id) l ≡ l
+kept-whole id l h = kept-all (other id) l (λ y c. rw (ne-eqb y id (λ e. not-both _ (rw e at c) h)))
 
 length-kept-one : (id : ℕ) (l : List ℕ) → Distinct l → length l ≤ suc (length (kept (other id) l))
 unfolding Distinct kept
@@ -86,6 +106,10 @@ pigeonhole (suc n) l d h =
 -- f is a property of the ids 1 to processLimit
 abbrev pub Ranged : (ℕ → Bool) → Type 0
 Ranged f = (x : ℕ) → f x ≡ true → (1 ≤ x) × (x ≤ processLimit)
+
+-- the list of these ids
+tracks-list : (f : ℕ → Bool) (l : List ℕ) → Distinct l → ((x : ℕ) → contains x l ≡ f x) → Tracks f (idsOf l)
+tracks-list f l d e = record { canonical = ap idsOf (sym (members-idsOf l)); distinct = rw (members-idsOf l) d; exact = λ x. rw (members-idsOf l) (e x) }
 
 module _ (f : ℕ → Bool) (q : Ids) (tr : Tracks f q) where
   pub tracks-room : Ranged f → (id : ℕ) → 1 ≤ id → id ≤ processLimit → f id ≡ false → length (members q) < processLimit
@@ -122,28 +146,18 @@ module _ (f : ℕ → Bool) (q : Ids) (tr : Tracks f q) where
 
     pub tracks-append : length (members q) < processLimit → f id ≡ false → g id ≡ true → Tracks g (appended id q)
     tracks-append room was now =
-        let m = members q ++ (id ∷ []) in
-        rw (appended-plain id room) (record {
-          canonical = ap idsOf (sym (members-idsOf m));
-          distinct = rw (members-idsOf m) (distinct-snoc (members q) id (tr .distinct) (tr .exact id ∙ was));
-          exact = λ x. rw (members-idsOf m, contains-snoc, tr .exact x) (⊎-elim
-              (λ (s : x ≡ id). rw (s, now, was, eq-eqb id id refl))
-              (λ (ne : x ≡ id → ⊥). rw (ne-eqb id x (λ s. ne (sym s)), others x ne) (or-false (f x)))
-              (same-or-not x id));
-        })
+        rw (appended-plain id room) (tracks-list g (members q ++ (id ∷ [])) (distinct-snoc (members q) id (tr .distinct) (tr .exact id ∙ was)) (λ x. rw (contains-snoc, tr .exact x) (⊎-elim
+        (λ (s : x ≡ id). rw (s, now, was, eq-eqb id id refl))
+        (λ (ne : x ≡ id → ⊥). rw (ne-eqb id x (λ s. ne (sym s)), others x ne) (or-false (f x)))
+        (same-or-not x id))))
 
     pub tracks-remove : g id ≡ false → Tracks g (removed id q)
     unfolding removed
     tracks-remove now =
-        let m = kept (other id) (members q) in
-        record {
-          canonical = ap idsOf (sym (members-idsOf m));
-          distinct = rw (members-idsOf m) (distinct-kept (other id) (members q) (tr .distinct));
-          exact = λ x. rw (members-idsOf m, contains-kept, tr .exact x) (⊎-elim
-              (λ (s : x ≡ id). rw (s, now, eq-eqb id id refl))
-              (λ (ne : x ≡ id → ⊥). rw (ne-eqb x id ne, others x ne))
-              (same-or-not x id));
-        }
+        tracks-list g (kept (other id) (members q)) (distinct-kept (other id) (members q) (tr .distinct)) (λ x. rw (contains-kept, tr .exact x) (⊎-elim
+        (λ (s : x ≡ id). rw (s, now, eq-eqb id id refl))
+        (λ (ne : x ≡ id → ⊥). rw (ne-eqb x id ne, others x ne))
+        (same-or-not x id)))
 
     pub tracks-follow : Ranged f → 1 ≤ id → id ≤ processLimit → (a b : Bool) → f id ≡ a → g id ≡ b → Tracks g (follow a b id q)
     tracks-follow r lo hi true true was now = tracks-same (now ∙ sym was)

@@ -22,3 +22,4 @@ pub mod LeftRight
 pub mod Valid
 pub mod Starred
 pub mod Plain
+pub mod Queues

@@ -1,0 +1,767 @@
+-- Queues: a waiter joins its object's queue last, ended waits leave it and the others keep their order, and the first is served first: over
+-- an object's number, for each change, for every event of every reached record, and for the calls. Assumes nothing.
+use Prim.Native.Nat.{ℕ, zero, suc, _+_, _-_, _≤_, _<_, max}
+use mathlib.Core.Path.{_≡_, refl, ap, sym, _∙_}
+use mathlib.Core.Bool.{Bool, true, false, cond, not, _&&_, and-true, and-false, or-true}
+use mathlib.Core.List.{List, [], _∷_, _++_, append-nil, append-assoc}
+use mathlib.Core.Logic.{_⊎_, inl, inr, ⊎-elim}
+use native.Mathlib.Omega.{arith}
+use lib.ListN.{length, getD, set}
+use lib.Seq.{getD-set-same}
+use lib.Dec.{eqb, leb}
+use lib.IntN.{ℤ, pos, negsuc}
+use borrow.Author.Tests.{lt-ltb, eq-eqb, ne-eqb, eqb-true, le-leb, leb-true, not-false}
+use Rattle.machine.specs.declared.Ids.{Ids}
+use Rattle.machine.specs.declared.Process.{Process}
+use Rattle.machine.specs.declared.Partition.{Partition}
+use Rattle.machine.specs.declared.Context.{Context}
+use Rattle.machine.specs.declared.Change.{Change}
+use Rattle.machine.specs.declared.Change.the-variants.{Nothing, Stored, Created, Last, StoredSemaphore, StoredEvent, Ended, Entered}
+use Rattle.machine.specs.declared.Decision.{Decision}
+use Rattle.machine.specs.declared.Decision.the-variants.{Refused, Unchanged, Ticked, Blocked, Changed, Restarted, Written}
+use Rattle.machine.specs.declared.Semaphore.{Semaphore as SemaphoreT}
+use Rattle.machine.specs.declared.EventState.{EventState}
+use Rattle.machine.specs.declared.Wait.{Wait}
+use Rattle.machine.specs.declared.Wait.the-variants.{Semaphore, Event}
+use Rattle.machine.specs.declared.Time.{Time}
+use Rattle.machine.specs.declared.Time.the-variants.{At}
+use Rattle.machine.specs.declared.Field.{Field}
+use Rattle.machine.specs.declared.Field.the-variants.{Number}
+use Rattle.machine.specs.declared.Port.{Port}
+use Rattle.machine.specs.declared.Request.{Request}
+use Rattle.machine.specs.declared.Event.{Event as EventT}
+use Rattle.machine.specs.declared.Module.{Module}
+use Rattle.machine.specs.Limits.{callLimit, processLimit, semaphoreLimit, eventLimit, durationLimit, greatestValue}
+use Rattle.machine.specs.Ids.{members, keptIf, kept, other}
+use Rattle.machine.specs.Process.{Class, classOf, objectIn, forNormal, blankProcess, later, object, onObject, periodic, ready, due, waitsForNothing, waitsForNormal, onlyMarked, served, waitingFor, woken, expired, ticked, entered, startRule, startedEarly}
+use Rattle.machine.specs.Partition.{within, byId, nothingCreated, idleMode, normalMode, noSemaphore, noEvent, process, semaphore, event, stored, created, storedSemaphore, storedEvent, arrivedLast, endedAll, waitsOn, waiters, running, applied, tickPartition, enteredNormal, withMode, withEvents, each, noted}
+use Rattle.machine.specs.Fields.{field, requestOf, isNumber, isTimeout, numberOf, timeOf}
+use Rattle.machine.specs.Decisions.{checked, replyOf, changed, unchanged, unknown, blocked, startMode, queued, awaiting}
+use Rattle.machine.specs.Calls.{setMode, createProcess, start, stop, stopSelf, suspend, suspendSelf, timedWait, periodicWait, resume, setPriority, getStatus}
+use Rattle.machine.specs.Objects.{oneMore, withValue, withUp, createSemaphore, waitSemaphore, signalled, signal, createEvent, setEvent, resetEvent, waitEvent}
+use Rattle.machine.specs.Channels.{portOf, channelChecks, write, read}
+use Rattle.machine.specs.Services.{services, serviceOf, callDecision}
+use Rattle.machine.specs.Places.{strayField}
+use Rattle.machine.specs.Module.{noPartition, part, withPart, withTime}
+use Rattle.machine.specs.Ticks.{tickModule}
+use Rattle.machine.specs.Step.{contextOf, decision, moduleAfter, step}
+use Rattle.machine.specs.Valid.{Between, contains, Distinct, ListedIn, Valid, SoundChange, SoundDecision, SoundModule, Reached, plainTick}
+use Rattle.machine.specs.Plain.{plainById, followed, plainStored}
+use Rattle.machine.specs.Starred.{own, callBy, Calling, Gives, WaitEnded}
+use Rattle.machine.specs.Queues.{Queue, KeepsOrEnds, NotExchanged, QueueChanges, joining, QueueAfter, WaitsFor, Queued, FirstServed, NoneServed, AllServed, Queues}
+use Rattle.machine.proofs.Tests.{by-test, not-both, or-left, or-right, and-left, and-right, Passed, passed-parts, by-checks}
+use Rattle.machine.proofs.Bounds.{either, same-or-not, not-so, within-in, within-out, named-same, named-other, semaphore-in, event-in, created-in, created-out}
+use Rattle.machine.proofs.Lists.{members-idsOf, kept-snoc}
+use Rattle.machine.proofs.Tracking.{contains-kept, kept-same, kept-kept, kept-all, kept-no, kept-whole}
+use Rattle.machine.proofs.Keeping.{process-other, process-stored, stored-rest, rest-count, stored-listed, changedAll, ended-changed, each-changed, from-range, changed-rest, changed-listed, changed-process, each-listed, each-process, AllCreated}
+use Rattle.machine.proofs.Sound.{ready-parts}
+use Rattle.machine.proofs.Dispatch.{by-call, Calls, by-event}
+use Rattle.machine.proofs.Bodies.{Bodily, bodyRefusal}
+use Rattle.machine.proofs.Kept.{tick-valid, change-valid, nothing-valid, Caller, running-caller, waiters-distinct, waiters-exact, waiters-on, waiters-created}
+use Rattle.machine.proofs.Calling.{field-number, from-zero, calling-sound, calling-place, calling-valid, asked, decides, gives}
+use Rattle.machine.proofs.Corners.{known}
+use Rattle.machine.proofs.Reached.{at-set, plain-part, tick-module-plain, place, context-sound, made, made-sound, made-body, decided-sound, valid-sound, reached-valid}
+use Rattle.machine.proofs.Answers.{decided-table}
+use Rattle.machine.proofs.Plain.{by-id-plain, stored-plain}
+
+-- ---------------------------------------------------------------- a process stored
+followed-same : (b : Bool) (id : ℕ) (l : List ℕ) → followed b b id l ≡ l
+followed-same true id l = refl
+followed-same false id l = refl
+
+-- one that waits on no object does not wait on o
+off-object : (o : ℕ) → (o ≡ 0 → ⊥) → (x : Process) → onObject x ≡ false → eqb (object (x .wait)) o ≡ false
+off-object o some x h = ne-eqb (object (x .wait)) o (λ e. some (sym e ∙ eqb-true _ 0 (not-false _ h)))
+
+on-some : (x : Process) → onObject x ≡ true → object (x .wait) ≡ 0 → ⊥
+on-some x h e = not-both _ h (rw e)
+
+module _ (p : Partition) (v : ListedIn p) (id : ℕ) (b : Between 1 (p .processCount) id) (x : Process) where
+  -- the two lists follow
+  old-is : plainById blankProcess id (p .processes) ≡ process id p
+  old-is = sym (by-id-plain processLimit blankProcess (p .processes) (v .numbered .size) id)
+
+  pub stored-waiting : members (stored id x p .waiting) ≡ followed (onObject (process id p)) (onObject x) id (members (p .waiting))
+  unfolding plainStored
+  stored-waiting = ap (λ (q : Partition). members (q .waiting)) (stored-plain p v id b x) ∙ members-idsOf _ ∙ ap (λ (y : Process). followed (onObject y) (onObject x) id (members (p .waiting))) old-is
+
+  pub stored-arrival : members (stored id x p .arrival) ≡ followed (ready (process id p)) (ready x) id (members (p .arrival))
+  unfolding plainStored
+  stored-arrival = ap (λ (q : Partition). members (q .arrival)) (stored-plain p v id b x) ∙ members-idsOf _ ∙ ap (λ (y : Process). followed (ready y) (ready x) id (members (p .arrival))) old-is
+
+  module _ (o : ℕ) (some : o ≡ 0 → ⊥) where
+    abbrev waits : ℕ → Bool
+    waits y = waitsOn o (stored id x p) y
+
+    abbrev waited : ℕ → Bool
+    waited y = waitsOn o p y
+
+    abbrev list : List ℕ
+    list = members (p .waiting)
+
+    waits-other : (y : ℕ) → (y ≡ id → ⊥) → waits y ≡ waited y
+    waits-other y ne = ap (λ (z : Process). eqb (object (z .wait)) o) (process-other p id x y ne)
+
+    waits-same : waits id ≡ eqb (object (x .wait)) o
+    waits-same = ap (λ (z : Process). eqb (object (z .wait)) o) (process-stored p id x v b)
+
+    -- where it is not in the waiting list, nothing changes for those who are
+    without : onObject (process id p) ≡ false → kept waits list ≡ kept waited list
+    without h = kept-same waits waited list (λ y c. waits-other y (λ e. not-both _ (rw e at c) (v .waitings .exact id ∙ h)))
+
+    with-same : waits id ≡ waited id → (y : ℕ) → waits y ≡ waited y
+    with-same e y = ⊎-elim (λ (s : y ≡ id). rw s e) (λ (ne : y ≡ id → ⊥). waits-other y ne) (same-or-not y id)
+
+    leaving : (w : Bool) → waited id ≡ w → kept waits (kept (other id) list) ≡ followed w false id (kept waited list)
+    leaving true e =
+        kept-kept waits (other id) list
+        ∙ kept-same (λ y. waits y && other id y) (λ y. other id y && waited y) list (λ y _. ⊎-elim
+        (λ (s : y ≡ id). rw (s, eq-eqb id id refl) (and-false (waits id)))
+        (λ (ne : y ≡ id → ⊥). rw (ne-eqb y id ne, waits-other y ne) (and-true (waited y)))
+        (same-or-not y id))
+        ∙ sym (kept-kept (other id) waited list)
+    leaving false e =
+        kept-kept waits (other id) list
+        ∙ kept-same (λ y. waits y && other id y) waited list (λ y _. ⊎-elim
+        (λ (s : y ≡ id). rw (s, eq-eqb id id refl) (and-false (waits id) ∙ sym e))
+        (λ (ne : y ≡ id → ⊥). rw (ne-eqb y id ne, waits-other y ne) (and-true (waited y)))
+        (same-or-not y id))
+
+    joining-last : (w : Bool) → eqb (object (x .wait)) o ≡ w → onObject (process id p) ≡ false → kept waits (list ++ (id ∷ [])) ≡ followed false w id (kept waited list)
+    joining-last true e h = kept-snoc waits list id ∙ rw (waits-same, e, without h)
+    joining-last false e h = kept-snoc waits list id ∙ rw (waits-same, e, without h) (append-nil (kept waited list))
+
+    by-lists : (a c : Bool) → onObject (process id p) ≡ a → onObject x ≡ c → NotExchanged (process id p) x
+        → kept waits (followed a c id list) ≡ followed (waited id) (eqb (object (x .wait)) o) id (kept waited list)
+    by-lists true true e f k =
+        let same : object (x .wait) ≡ object (process id p .wait) = ⊎-elim (λ (z : object (process id p .wait) ≡ 0). absurd (on-some (process id p) e z)) (⊎-elim (λ (z : object (x .wait) ≡ 0). absurd (on-some x f z)) (λ (s : object (x .wait) ≡ object (process id p .wait)). s)) k in
+        let t : eqb (object (x .wait)) o ≡ waited id = ap (λ n. eqb n o) same in
+        kept-same waits waited list (λ y _. with-same (waits-same ∙ t) y) ∙ rw t (sym (followed-same (waited id) id (kept waited list)))
+    by-lists true false e f k = leaving (waited id) refl ∙ rw (off-object o some x f)
+    by-lists false true e f k = joining-last (eqb (object (x .wait)) o) refl e ∙ rw (off-object o some (process id p) e)
+    by-lists false false e f k = without e ∙ rw (off-object o some x f, off-object o some (process id p) e)
+
+    pub stored-queue : NotExchanged (process id p) x → waiters o (stored id x p) ≡ followed (waitsOn o p id) (eqb (object (x .wait)) o) id (waiters o p)
+    unfolding waiters
+    stored-queue k = ap (kept waits) stored-waiting ∙ by-lists (onObject (process id p)) (onObject x) refl refl k
+
+-- ---------------------------------------------------------------- waits that are kept or end
+-- a list is a part of another, in the same order
+pub record Part (l k : List ℕ) : Type 0 where
+  pub by : ℕ → Bool
+  pub is : k ≡ kept by l
+
+part-whole : (l : List ℕ) → Part l l
+part-whole l = record { by = λ _. true; is = sym (kept-all (λ _. true) l (λ _ _. refl)) }
+
+part-trans : {l k j : List ℕ} → Part l k → Part k j → Part l j
+part-trans {l} a b = record { by = λ x. b .by x && a .by x; is = b .is ∙ ap (kept (b .by)) (a .is) ∙ kept-kept (b .by) (a .by) l }
+
+-- a queue that is a part of another list holds those of the list that wait on the object
+pub part-waits : (o : ℕ) (q : Partition) → Queue o q → (l : List ℕ) → Part l (waiters o q) → waiters o q ≡ kept (waitsOn o q) l
+part-waits o q h l a = a .is ∙ kept-same (a .by) (waitsOn o q) l (λ y c. sym (sym (h .exact y) ∙ ap (contains y) (a .is) ∙ contains-kept (a .by) y l ∙ rw c (and-true (a .by y))))
+
+pub queue-of : (p : Partition) → ListedIn p → (o : ℕ) → (o ≡ 0 → ⊥) → Queue o p
+queue-of p v o some = record { exact = waiters-exact p v o some; once = waiters-distinct p v o }
+
+-- process id keeps its wait or ends it: the queue is a part of what it was
+module _ (o : ℕ) (some : o ≡ 0 → ⊥) where
+  followed-part : (w n : Bool) → (n ≡ true → w ≡ true) → (id : ℕ) (l : List ℕ) → Part l (followed w n id l)
+  followed-part true true h id l = part-whole l
+  followed-part true false h id l = record { by = other id; is = refl }
+  followed-part false true h id l = not-both _ (h refl) refl
+  followed-part false false h id l = part-whole l
+
+  pub stored-part : (p : Partition) → ListedIn p → (id : ℕ) → Between 1 (p .processCount) id → (x : Process) → KeepsOrEnds (process id p) x → Part (waiters o p) (waiters o (stored id x p))
+  stored-part p v id b x k =
+      let a = followed-part (waitsOn o p id) (eqb (object (x .wait)) o) (λ e. ⊎-elim
+      (λ (z : object (x .wait) ≡ 0). absurd (some (sym (eqb-true _ o e) ∙ z)))
+      (λ (s : object (x .wait) ≡ object (process id p .wait)). rw (← s) e) k) id (waiters o p) in
+      record { by = a .by; is = stored-queue p v id b x o some (inr k) ∙ a .is }
+
+  pub all-part : (f : Process → Process) → ((x : Process) → KeepsOrEnds x (f x)) → (l : List ℕ) (p : Partition) → ListedIn p → AllCreated l (p .processCount) → Part (waiters o p) (waiters o (changedAll f l p))
+  unfolding changedAll contains
+  all-part f k [] p v all = part-whole (waiters o p)
+  all-part f k (id ∷ l) p v all =
+      let x = f (process id p) in
+      let b = all id (rw (eq-eqb id id refl)) in
+      part-trans (stored-part p v id b x (k (process id p)))
+      (all-part f k l (stored id x p) (stored-listed p id x v b) (λ y c. rw (rest-count p _ (stored-rest p id x)) (all y (rw c (or-true (eqb id y))))))
+
+-- ---------------------------------------------------------------- what the rules make of a wait
+expired-wait : (t : ℕ) (x : Process) → expired t x .wait ≡ x .wait
+unfolding expired
+expired-wait t x = by-test (λ (y : Process). y .wait ≡ x .wait) (due t (x .times .deadline)) (λ _. refl) (λ _. refl)
+
+-- a tick ends the wait whose time has come
+ticked-object : (t : ℕ) (x : Process) → object (ticked t x .wait) ≡ cond (due t (x .times .wake)) 0 (object (x .wait))
+unfolding woken
+ticked-object t x = ap object (expired-wait t (woken t x)) ∙ either (due t (x .times .wake))
+    (λ e. rw e (by-test (λ (y : Process). object (y .wait) ≡ 0) (onlyMarked x) (λ _. refl) (λ _. refl)))
+    (λ e. rw e)
+
+ticked-ends : (t : ℕ) (x : Process) → KeepsOrEnds x (ticked t x)
+ticked-ends t x = either (due t (x .times .wake)) (λ e. inl (ticked-object t x ∙ rw e)) (λ e. inr (ticked-object t x ∙ rw e))
+
+start-object : (c : Context) (delay : ℕ) (x : Process) → object (startRule c delay x .wait) ≡ 0
+unfolding startRule
+start-object c delay x = by-test (λ (y : Process). object (y .wait) ≡ 0) (periodic x) (λ _. refl) (λ _. by-test (λ (y : Process). object (y .wait) ≡ 0) (eqb delay 0) (λ _. refl) (λ _. refl))
+
+entered-ends : (c : Context) (x : Process) → KeepsOrEnds x (entered c x)
+unfolding entered
+entered-ends c x = by-test (KeepsOrEnds x) (waitsForNormal (x .wait)) (λ _. inl (start-object c (x .times .delay) x)) (λ _. inr refl)
+
+-- one that waits on an object is left
+normal-off : (v : Class) → forNormal v ≡ true → objectIn v ≡ 0
+normal-off Class.nothing e = refl
+normal-off Class.normal e = refl
+normal-off Class.timer e = refl
+normal-off Class.release e = refl
+normal-off (Class.onto kind k) e = not-both _ e refl
+
+entered-on : (c : Context) (x : Process) → (object (x .wait) ≡ 0 → ⊥) → entered c x ≡ x
+unfolding entered
+entered-on c x some = by-test (λ (y : Process). y ≡ x) (waitsForNormal (x .wait)) (λ e. absurd (some (normal-off (classOf (x .wait)) e))) (λ _. refl)
+
+-- ---------------------------------------------------------------- the changes
+-- a partition with the same waiting list, whose processes wait as before
+same-queue : (o : ℕ) (p q : Partition) → q .waiting ≡ p .waiting → ((y : ℕ) → object (process y q .wait) ≡ object (process y p .wait)) → waiters o q ≡ waiters o p
+unfolding waiters
+same-queue o p q e f = ap (λ (a : Ids). kept (waitsOn o q) (members a)) e ∙ kept-same (waitsOn o q) (waitsOn o p) (members (p .waiting)) (λ y _. ap (λ n. eqb n o) (f y))
+
+module _ (p : Partition) (v : ListedIn p) (o : ℕ) (some : o ≡ 0 → ⊥) where
+  created-queue : (x : Process) → object (x .wait) ≡ 0 → waiters o (created (p .processCount + 1) x p) ≡ waiters o p
+  created-queue x off =
+      let n = p .processCount + 1 in
+      either (within processLimit n)
+      (λ e.
+      let hi = within-out processLimit n e .1 in
+      rw (created-in n x p e) (same-queue o p _ refl (λ y. ⊎-elim
+      (λ (s : y ≡ n). rw (s, named-same processLimit blankProcess n x (p .processes) (omega arith) hi (omega (arith, v .numbered .size)), v .numbered .past n (omega arith)) off)
+      (λ (ne : y ≡ n → ⊥). ap (λ (z : Process). object (z .wait)) (named-other processLimit blankProcess n x (p .processes) (omega arith) y ne))
+      (same-or-not y n))))
+      (λ e. rw (created-out n x p e))
+
+  arrived-queue : (id : ℕ) → waiters o (arrivedLast id p) ≡ waiters o p
+  unfolding arrivedLast
+  arrived-queue id = same-queue o p _ refl (λ _. refl)
+
+  semaphore-queue : (k : ℕ) (s : SemaphoreT) → waiters o (storedSemaphore k s p) ≡ waiters o p
+  unfolding storedSemaphore
+  semaphore-queue k s = by-test (λ (q : Partition). waiters o q ≡ waiters o p) (within semaphoreLimit k) (λ _. same-queue o p _ refl (λ _. refl)) (λ _. refl)
+
+  event-queue : (k : ℕ) (e : EventState) → waiters o (storedEvent k e p) ≡ waiters o p
+  unfolding storedEvent
+  event-queue k e = by-test (λ (q : Partition). waiters o q ≡ waiters o p) (within eventLimit k) (λ _. same-queue o p _ refl (λ _. refl)) (λ _. refl)
+
+  -- every process changed, so that waits are kept or end
+  pub each-queue : (f : Process → Process) → ((x : Process) → KeepsOrEnds x (f x)) → waiters o (each f p) ≡ kept (λ y. eqb (object (f (process y p) .wait)) o) (waiters o p)
+  each-queue f k =
+      let q = each f p in
+      part-waits o q (queue-of q (each-listed f p v) o some) (waiters o p) (rw (each-changed f (p .processCount) 1 p) (all-part o some f k _ p v (λ y h. let r = from-range (p .processCount) 1 y h in (r .0, omega arith))))
+      ∙ kept-same (waitsOn o q) (λ y. eqb (object (f (process y p) .wait)) o) (waiters o p) (λ y c. ap (λ (z : Process). eqb (object (z .wait)) o) (each-process f p v y (waiters-created p v o y c)))
+
+  -- one of the queue waits on the object
+  in-queue : (y : ℕ) → contains y (waiters o p) ≡ true → object (process y p .wait) ≡ o
+  in-queue y c = eqb-true _ o (sym (waiters-exact p v o some y) ∙ c)
+
+  -- the waits on object u end
+  module _ (u : ℕ) where
+    abbrev after : Partition
+    after = endedAll (waiters u p) p
+
+    pub ended-process : (y : ℕ) → process y after ≡ cond (contains y (waiters u p)) (served (process y p)) (process y p)
+    ended-process y = rw (ended-changed (waiters u p) p) (changed-process served (waiters u p) p v (waiters-created p v u) (waiters-distinct p v u) y)
+
+    ended-listed : ListedIn after
+    ended-listed = rw (ended-changed (waiters u p) p) (changed-listed served (waiters u p) p v (waiters-created p v u))
+
+    ended-waits : waiters o after ≡ kept (waitsOn o after) (waiters o p)
+    ended-waits = part-waits o after (queue-of after ended-listed o some) (waiters o p) (rw (ended-changed (waiters u p) p) (all-part o some served (λ _. inl refl) (waiters u p) p v (waiters-created p v u)))
+
+    pub ended-other : (u ≡ o → ⊥) → waiters o after ≡ waiters o p
+    unfolding waiters
+    ended-other ne = ended-waits ∙ kept-all (waitsOn o after) (waiters o p) (λ y c.
+        let is = in-queue y c in
+        let out : contains y (waiters u p) ≡ false = contains-kept (waitsOn u p) y (members (p .waiting)) ∙ rw (ne-eqb (object (process y p .wait)) u (λ e. ne (sym e ∙ is))) in
+        rw (ended-process y, out) (eq-eqb _ o is))
+
+  pub ended-queue : waiters o (endedAll (waiters o p) p) ≡ []
+  ended-queue = ended-waits o ∙ kept-no (waitsOn o (after o)) (waiters o p) (λ y c. rw (ended-process o y, c) (ne-eqb 0 o (λ e. some (sym e))))
+
+  pub ticked-queue : (t : ℕ) → normalMode p ≡ true → waiters o (tickPartition t p) ≡ kept (λ id. not (due t (process id p .times .wake))) (waiters o p)
+  unfolding tickPartition
+  ticked-queue t n = rw n (each-queue (ticked t) (ticked-ends t) ∙ kept-same _ (λ id. not (due t (process id p .times .wake))) (waiters o p) (λ y c. rw (ticked-object t (process y p)) (either (due t (process y p .times .wake))
+      (λ e. rw e (ne-eqb 0 o (λ e. some (sym e))))
+      (λ e. rw e (eq-eqb _ o (in-queue y c))))))
+
+entered-queue : (p : Partition) → ListedIn p → (o : ℕ) → (o ≡ 0 → ⊥) → (c : Context) → waiters o (enteredNormal c p) ≡ waiters o p
+unfolding enteredNormal
+entered-queue p v o some c =
+    let q = withMode 3 p in
+    each-queue q v o some (entered c) (entered-ends c)
+    ∙ kept-all _ (waiters o q) (λ y h. let is = in-queue q v o some y h in rw (entered-on c (process y q) (λ z. some (sym is ∙ z))) (eq-eqb _ o is))
+    ∙ same-queue o p q refl (λ _. refl)
+
+pub changes-queue : (p : Partition) → ListedIn p → (o : ℕ) → (o ≡ 0 → ⊥) → QueueChanges o p
+changes-queue p v o some = record {
+  stored = λ id x b k. stored-queue p v id b x o some k;
+  created = created-queue p v o some;
+  arrived = arrived-queue p v o some;
+  semaphore = semaphore-queue p v o some;
+  event = event-queue p v o some;
+  ended = ended-queue p v o some;
+  endedOther = ended-other p v o some;
+  entered = entered-queue p v o some;
+  ticked = ticked-queue p v o some;
+}
+
+-- ---------------------------------------------------------------- what calls decide
+-- a change that lets no process wait on another object
+abbrev pub OrderlyChange : Partition → Change → Type 0
+OrderlyChange p Nothing = Unit {0}
+OrderlyChange p (Stored id x) = KeepsOrEnds (process id p) x
+OrderlyChange p (Created id x) = Unit {0}
+OrderlyChange p (Last id) = Unit {0}
+OrderlyChange p (StoredSemaphore k s) = Unit {0}
+OrderlyChange p (StoredEvent k e) = Unit {0}
+OrderlyChange p (Ended o) = Unit {0}
+OrderlyChange p (Entered c) = Unit {0}
+
+-- only the caller begins to wait, in NORMAL, and the answer is 7 then
+abbrev pub Orderly : Context → Partition → Decision → Type 0
+Orderly c p (Refused code) = Unit {0}
+Orderly c p (Unchanged value extra) = Unit {0}
+Orderly c p Ticked = Unit {0}
+Orderly c p (Blocked id x) = (id ≡ c .caller) × (normalMode p ≡ true)
+Orderly c p (Changed a b value) = OrderlyChange p a × OrderlyChange (applied a p) b
+Orderly c p (Restarted mode) = Unit {0}
+Orderly c p (Written i x) = Unit {0}
+
+pub record InOrder (c : Context) (p : Partition) (d : Decision) : Type 0 where
+  pub is : Orderly c p d
+
+module _ (c : Context) (p : Partition) where
+  in-order : (l : List (Bool × ℕ)) (d : Decision) → (Passed l → InOrder c p d) → InOrder c p (checked Refused l d)
+  in-order l d f = by-checks (InOrder c p) Refused l d (λ n. record { is = tt }) f
+
+  fine : {d : Decision} → Orderly c p d → InOrder c p d
+  fine h = record { is = h }
+
+  normal : startMode p ≡ false → normalMode p ≡ true
+  normal h = not-false (normalMode p) h
+
+  await-order : (before : List (Bool × ℕ)) (beside : Bool) (after : List (Bool × ℕ)) (a : Field) (b : Bool) (success : Decision) (w : Wait) → InOrder c p success → InOrder c p (awaiting c before beside after a b success w p)
+  unfolding awaiting queued blocked Passed
+  await-order before beside after a b success w f = in-order _ _ (λ h. by-test (InOrder c p) b (λ _. f) (λ _. in-order _ _ (λ _. fine (refl, normal (passed-parts before _ h .1 .0)))))
+
+  signalled-order : (l : List ℕ) (k : ℕ) → OrderlyChange p (signalled l k p)
+  unfolding signalled
+  signalled-order [] k = tt
+  signalled-order (id ∷ l) k = inl refl
+
+  pub call-order : (x : Port) (n : ℕ) (r : Request) → InOrder c p (callDecision c x n r p)
+  unfolding setMode createProcess start stop stopSelf suspend suspendSelf timedWait periodicWait resume setPriority getStatus createSemaphore createEvent blocked waitSemaphore waitEvent signal setEvent resetEvent write read channelChecks Passed
+  call-order x n r =
+      by-call c x n r p (InOrder c p)
+      (λ a. in-order _ _ (λ _. by-test (InOrder c p) (isNumber 3 a) (λ _. fine (tt, tt)) (λ _. fine tt)))
+      (λ _. in-order _ _ (λ _. fine (tt, tt)))
+      (λ id delay. in-order _ _ (λ _. fine (starts id (numberOf delay), tt)))
+      (λ _. in-order _ _ (λ _. fine (inl refl, tt)))
+      (in-order _ _ (λ _. fine (inl refl, tt)))
+      (λ _. in-order _ _ (λ _. fine (inr refl, tt)))
+      (λ a. in-order _ _ (λ h. by-test (InOrder c p) (isNumber 0 a) (λ _. fine tt) (λ _. fine (refl, normal (or-left (startMode p) _ (h .0))))))
+      (λ a. in-order _ _ (λ h. by-test (InOrder c p) (isNumber 0 a) (λ _. fine (tt, tt)) (λ _. fine (refl, normal (h .0)))))
+      (in-order _ _ (λ h. fine (refl, normal (or-left (startMode p) _ (h .0)))))
+      (λ id. in-order _ _ (λ _. fine (by-test (KeepsOrEnds (process id p)) (waitsForNothing (process id p .wait)) (λ _. inl refl) (λ _. inr refl), tt)))
+      (λ id _. in-order _ _ (λ _. fine (inr refl, by-test (OrderlyChange _) (ready (process id p)) (λ _. tt) (λ _. tt))))
+      (λ _. in-order _ _ (λ _. fine tt))
+      (λ _. in-order _ _ (λ _. fine (tt, tt)))
+      (λ _ _. await-order _ _ _ _ _ _ _ (fine (tt, tt)))
+      (λ _. in-order _ _ (λ _. fine (signalled-order _ _, tt)))
+      (λ _. in-order _ _ (λ _. fine (tt, tt)))
+      (λ _. in-order _ _ (λ _. fine (tt, tt)))
+      (λ _. in-order _ _ (λ _. fine (tt, tt)))
+      (λ _ _. await-order _ _ _ _ _ _ _ (fine tt))
+      (λ _ _. in-order _ _ (λ _. in-order _ _ (λ _. fine tt)))
+      (in-order _ _ (λ _. in-order _ _ (λ _. fine tt)))
+      (λ _. fine tt)
+    where
+      starts : (id delay : ℕ) → KeepsOrEnds (process id p) (cond (normalMode p) (startRule c delay (process id p)) (startedEarly delay (process id p)))
+      starts id delay = by-test (KeepsOrEnds (process id p)) (normalMode p) (λ _. inl (start-object c delay (process id p))) (λ _. inl refl)
+
+-- ---------------------------------------------------------------- a partition after a decision
+module _ (o : ℕ) (some : o ≡ 0 → ⊥) where
+  part-of : (l k : List ℕ) → k ≡ l → Part l k
+  part-of l k e = let w = part-whole l in record { by = w .by; is = e ∙ w .is }
+
+  unticked : (t : ℕ) (p : Partition) → normalMode p ≡ false → waiters o (tickPartition t p) ≡ waiters o p
+  unfolding tickPartition
+  unticked t p e = rw e
+
+  tick-part : (t : ℕ) (p : Partition) → ListedIn p → Part (waiters o p) (waiters o (tickPartition t p))
+  tick-part t p v = either (normalMode p) (λ e. record { by = _; is = ticked-queue p v o some t e }) (λ e. part-of _ _ (unticked t p e))
+
+  change-part : (c : Context) (p : Partition) → Valid (c .frame) (c .time) p → (a : Change) → SoundChange c p a → OrderlyChange p a → Part (waiters o p) (waiters o (applied a p))
+  change-part c p v Nothing h k = part-whole (waiters o p)
+  change-part c p v (Stored id x) h k = stored-part o some p (v .lists) id (h .0) x k
+  change-part c p v (Created id x) h k = part-of _ _ (rw (h .next) (created-queue p (v .lists) o some x (rw (h .dormant))))
+  change-part c p v (Last id) h k = part-of _ _ (arrived-queue p (v .lists) o some id)
+  change-part c p v (StoredSemaphore j s) h k = part-of _ _ (semaphore-queue p (v .lists) o some j s)
+  change-part c p v (StoredEvent j e) h k = part-of _ _ (event-queue p (v .lists) o some j e)
+  change-part c p v (Ended u) h k = record { by = _; is = ended-waits p (v .lists) o some u }
+  change-part c p v (Entered d) h k = part-of _ _ (entered-queue p (v .lists) o some d)
+
+-- a READY process that begins to wait: it joins last, where it waits on the object
+ready-off : (x : Process) → ready x ≡ true → object (x .wait) ≡ 0
+ready-off x h = ap objectIn (ready-parts x h .2)
+
+module _ (o : ℕ) (some : o ≡ 0 → ⊥) (p : Partition) (v : ListedIn p) (id : ℕ) (b : Between 1 (p .processCount) id) (x : Process) (h : ready (process id p) ≡ true) where
+  pub joins-last : waiters o (stored id x p) ≡ waiters o p ++ cond (eqb (object (x .wait)) o) (id ∷ []) []
+  joins-last = stored-queue p v id b x o some (inl (ready-off (process id p) h)) ∙ rw (off) (go (eqb (object (x .wait)) o))
+    where
+      off : waitsOn o p id ≡ false
+      off = rw (ready-off (process id p) h) (ne-eqb 0 o (λ e. some (sym e)))
+
+      go : (w : Bool) → followed false w id (waiters o p) ≡ waiters o p ++ cond w (id ∷ []) []
+      go true = refl
+      go false = sym (append-nil (waiters o p))
+
+  -- and the others stay
+  pub others-stay : kept (waitsOn o (stored id x p)) (waiters o p) ≡ waiters o p
+  others-stay = kept-all (waitsOn o (stored id x p)) (waiters o p) (λ y c.
+      let is = in-queue p v o some y c in
+      waits-other p v id b x o some y (λ e. some (sym is ∙ rw e (ready-off (process id p) h))) ∙ eq-eqb _ o is)
+
+-- ---------------------------------------------------------------- every event
+module _ (m : Module) (s : SoundModule m) (o : ℕ) (some : o ≡ 0 → ⊥) where
+  -- partition number i + 1 has the record q after an event of partition k that answers code
+  abbrev Follows : ℕ → ℕ → ℕ → Partition → Type 0
+  Follows code k i q = waiters o q ≡ kept (waitsOn o q) (waiters o (part m i)) ++ joining code k i o (part m i) q
+
+  listed : (i : ℕ) → i < m .table .size → ListedIn (part m i)
+  listed i l = s .eachPartition i l .lists
+
+  none-joins : (code k i : ℕ) (q : Partition) → (eqb code 7 ≡ false) ⊎ (eqb k (i + 1) ≡ false) → ListedIn q → Part (waiters o (part m i)) (waiters o q) → Follows code k i q
+  none-joins code k i q e v a = part-waits o q (queue-of q v o some) (waiters o (part m i)) a ∙ sym (ap (λ (l : List ℕ). kept (waitsOn o q) (waiters o (part m i)) ++ l) (no-one e) ∙ append-nil _)
+    where
+      no-one : (eqb code 7 ≡ false) ⊎ (eqb k (i + 1) ≡ false) → joining code k i o (part m i) q ≡ []
+      no-one (inl e) = rw e
+      no-one (inr e) = rw (e, and-false (eqb code 7))
+
+  same-joins : (code k i : ℕ) → i < m .table .size → (eqb code 7 ≡ false) ⊎ (eqb k (i + 1) ≡ false) → Follows code k i (part m i)
+  same-joins code k i l e = none-joins code k i (part m i) e (listed i l) (part-whole (waiters o (part m i)))
+
+  -- a partition as it is noted
+  noted-part : (l : List ℕ) (p : Partition) → Part l (waiters o p) → Part l (waiters o (noted p))
+  noted-part l p a = part-trans a (part-of o some _ _ (same-queue o p (noted p) refl (λ _. refl)))
+
+  tick-follows : (k i : ℕ) → i < m .table .size → Follows 0 k i (part (tickModule m) i)
+  unfolding plainTick
+  tick-follows k i l =
+      let long : m .table .size ≤ length (m .partitions) = omega (arith, s .partitionsSize, s .table .size .1) in
+      let p = part m i in
+      let v = tick-valid (m .table .frame) (m .t) p (s .eachPartition i l) in
+      rw (tick-module-plain m (inr s), plain-part (m .table .size) (withTime (m .t + 1) m) long i l)
+      (none-joins 0 k i (noted (tickPartition (m .t + 1) p)) (inl refl) (v .lists) (noted-part (waiters o p) _ (tick-part o some (m .t + 1) p (listed i l))))
+
+  module _ (r : Request) (c : Calls m r) where
+    abbrev k : ℕ
+    k = numberOf (r .partition)
+
+    abbrev now : Partition
+    now = part m (k - 1)
+
+    here : k - 1 < m .table .size
+    here = place m s r c
+
+    now-valid : Valid (m .table .frame) (m .t) now
+    now-valid = s .eachPartition (k - 1) here
+
+    -- the caller's partition is stored, the others stay
+    puts : (code : ℕ) (p : Partition) → Follows code k (k - 1) (noted p) → (i : ℕ) → i < m .table .size → Follows code k i (getD (set (m .partitions) (k - 1) (noted p)) i noPartition)
+    puts code p new i l =
+        at-set (λ i q. Follows code k i q) (m .partitions) (k - 1) (noted p) noPartition (omega (arith, here, s .partitionsSize, s .table .size .1)) i new
+        (λ ne. same-joins code k i l (inr (ne-eqb k (i + 1) (λ e. ne (omega arith)))))
+
+    changes-follow : (p : Partition) → ListedIn p → Part (waiters o now) (waiters o p) → (i : ℕ) → i < m .table .size → Follows 0 k i (getD (set (m .partitions) (k - 1) (noted p)) i noPartition)
+    changes-follow p v a = puts 0 p (none-joins 0 k (k - 1) (noted p) (inl refl) v (noted-part (waiters o now) p a))
+
+    blocks-follow : (id : ℕ) (x : Process) → Between 1 (now .processCount) id → id ≡ running now → ready (process id now) ≡ true → (i : ℕ) → i < m .table .size → Follows 7 k i (getD (set (m .partitions) (k - 1) (noted (stored id x now))) i noPartition)
+    blocks-follow id x b is h =
+        let v = now-valid .lists in
+        let q = stored id x now in
+        let e : joining 7 k (k - 1) o now (noted q) ≡ cond (eqb (object (x .wait)) o) (id ∷ []) [] = rw (eq-eqb k (k - 1 + 1) (omega (arith, c .some)), ← is, waits-same now v id b x o some) in
+        puts 7 q (same-queue o q (noted q) refl (λ _. refl) ∙ joins-last o some now v id b x h ∙ sym (ap (λ (l : List ℕ). l ++ joining 7 k (k - 1) o now (noted q)) (others-stay o some now v id b x h) ∙ ap (λ (l : List ℕ). waiters o now ++ l) e))
+
+    -- the caller in NORMAL
+    caller-is : (id : ℕ) → id ≡ running now → normalMode now ≡ true → Caller id now
+    caller-is id e n = rw e (running-caller now (now-valid .lists) (λ z. not-both _ (rw (n, z)) (or-right (idleMode now) _ (c .caller))))
+
+    restart-part : (mode : ℕ) → Part (waiters o now) (waiters o (nothingCreated mode))
+    unfolding waiters kept
+    restart-part mode = record { by = λ _. false; is = sym (kept-no (λ _. false) (waiters o now) (λ _ _. refl)) }
+
+    follows : (d : Decision) → SoundDecision (contextOf m k) now d → Bodily (portOf m k r) (numberOf (r .call)) d → Orderly (contextOf m k) now d → (i : ℕ) → i < m .table .size → Follows (replyOf d .code) k i (part (moduleAfter m k d) i)
+    follows (Refused n) h b g i l = same-joins n k i l (inl (low n b))
+      where
+        low : (n : ℕ) → bodyRefusal n ≡ true → eqb n 7 ≡ false
+        low n e = let u = leb-true n 5 (and-right (leb 1 n) (leb n 5) e) in ne-eqb n 7 (λ z. omega arith)
+    follows (Unchanged n e) h b g i l = same-joins 0 k i l (inl refl)
+    follows Ticked h b g i l = absurd b
+    follows (Blocked id x) h b g i l = blocks-follow id x (h .0) (g .0) (caller-is id (g .0) (g .1) .isReady) i l
+    follows (Changed x y n) h b g i l =
+        let v = change-valid (contextOf m k) (context-sound m s r c) now now-valid x (h .0) in
+        changes-follow (applied y (applied x now)) (change-valid (contextOf m k) (context-sound m s r c) (applied x now) v y (h .1) .lists)
+        (part-trans (change-part o some (contextOf m k) now now-valid x (h .0) (g .0)) (change-part o some (contextOf m k) (applied x now) v y (h .1) (g .1))) i l
+    follows (Restarted mode) h b g i l = changes-follow (nothingCreated mode) (nothing-valid (m .table .frame) (m .t) mode h .lists) (restart-part mode) i l
+    follows (Written j x) h b g i l = same-joins 0 k i l (inl refl)
+
+  pub event-follows : (r : Request) (i : ℕ) → i < m .table .size → Follows (replyOf (decision m r) .code) (numberOf (r .partition)) i (part (moduleAfter m (numberOf (r .partition)) (decision m r)) i)
+  event-follows r =
+      by-event m r (λ (d : Decision). (i : ℕ) → i < m .table .size → Follows (replyOf d .code) (numberOf (r .partition)) i (part (moduleAfter m (numberOf (r .partition)) d) i))
+      (λ n e i l. same-joins n (numberOf (r .partition)) i l (inl (let h = leb-true 8 n (and-left (leb 8 n) (leb n 13) e) in ne-eqb n 7 (λ z. omega arith))))
+      (λ _ _ _ i l. tick-follows (numberOf (r .partition)) i l)
+      (λ c. follows r c (made m s r c) (made-sound m s r c) (made-body m s r c) (call-order (contextOf m (numberOf (r .partition))) (part m (numberOf (r .partition) - 1)) (portOf m (numberOf (r .partition)) r) (numberOf (r .call)) r .is))
+
+-- every event of every reached record
+pub queue-after : (m : Module) → Reached m → (e : EventT) (i : ℕ) → i < m .table .size → (o : ℕ) → (o ≡ 0 → ⊥) → QueueAfter m e i o
+unfolding step
+queue-after m h e i l o some =
+    let s = valid-sound m (reached-valid m h) i l in
+    let r = requestOf e in
+    let d = decision m r in
+    let after = moduleAfter m (numberOf (r .partition)) d in
+    let u = decided-sound m s r in
+    record {
+      before = queue-of (part m i) (s .eachPartition i l .lists) o some;
+      after = queue-of (part after i) (u .eachPartition i (rw (decided-table m (numberOf (r .partition)) d) l) .lists) o some;
+      order = event-follows m s o some r i l;
+    }
+
+-- ---------------------------------------------------------------- waits that end, and the arrival list
+-- several processes, none of them READY, are changed: those READY then join the arrival list in the order of the changes
+pub all-arrive : (f : Process → Process) (l : List ℕ) (p : Partition) → ListedIn p → AllCreated l (p .processCount) → Distinct l → ((y : ℕ) → contains y l ≡ true → ready (process y p) ≡ false)
+    → members (changedAll f l p .arrival) ≡ members (p .arrival) ++ kept (λ y. ready (f (process y p))) l
+unfolding changedAll contains Distinct kept
+all-arrive f [] p v all dis none = sym (append-nil (members (p .arrival)))
+all-arrive f (id ∷ l) p v all dis none =
+    let x = f (process id p) in
+    let b = all id (rw (eq-eqb id id refl)) in
+    let q = stored id x p in
+    let apart : (y : ℕ) → contains y l ≡ true → y ≡ id → ⊥ = λ y c e. not-both _ (rw e at c) (dis .0) in
+    let left : (y : ℕ) → contains y l ≡ true → process y q ≡ process y p = λ y c. process-other p id x y (apart y c) in
+    all-arrive f l q (stored-listed p id x v b) (λ y c. rw (rest-count p _ (stored-rest p id x)) (all y (rw c (or-true (eqb id y))))) (dis .1)
+    (λ y c. rw (left y c) (none y (rw c (or-true (eqb id y)))))
+    ∙ rw (stored-arrival p v id b x, none id (rw (eq-eqb id id refl)), kept-same (λ y. ready (f (process y q))) (λ y. ready (f (process y p))) l (λ y c. ap (λ (z : Process). ready (f z)) (left y c)))
+    (go (ready x) (members (p .arrival)) (kept (λ y. ready (f (process y p))) l))
+  where
+    go : (b : Bool) (a k : List ℕ) → followed false b id a ++ k ≡ a ++ keptIf b id k
+    go true a k = append-assoc a (id ∷ []) k
+    go false a k = refl
+
+-- one that waits on an object is not READY
+on-not-ready : (x : Process) → onObject x ≡ true → ready x ≡ false
+on-not-ready x h = not-so (ready x) (λ k. on-some x h (ready-off x k))
+
+-- the first of a queue is served: its wait ends, and the rest stay in their order
+module _ (o : ℕ) (some : o ≡ 0 → ⊥) (p : Partition) (v : ListedIn p) (id : ℕ) (rest : List ℕ) (e : waiters o p ≡ id ∷ rest) where
+  first-in : contains id (waiters o p) ≡ true
+  unfolding contains
+  first-in = rw (e, eq-eqb id id refl)
+
+  pub first-created : Between 1 (p .processCount) id
+  first-created = waiters-created p v o id first-in
+
+  pub first-served : waiters o (stored id (served (process id p)) p) ≡ rest
+  unfolding kept Distinct
+  first-served =
+      let d : Distinct (id ∷ rest) = rw e at (waiters-distinct p v o) in
+      stored-queue p v id first-created (served (process id p)) o some (inr (inl refl))
+      ∙ rw (eq-eqb (object (process id p .wait)) o (in-queue p v o some id first-in), ne-eqb 0 o (λ z. some (sym z)), e, eq-eqb id id refl)
+      (kept-whole id rest (d .0))
+
+-- all of a queue are served: those READY then join the arrival list in queue order
+pub all-served : (o : ℕ) → (o ≡ 0 → ⊥) → (p : Partition) → ListedIn p → members (endedAll (waiters o p) p .arrival) ≡ members (p .arrival) ++ kept (λ y. ready (process y (endedAll (waiters o p) p))) (waiters o p)
+all-served o some p v =
+    let f = served in
+    let l = waiters o p in
+    ap (λ (q : Partition). members (q .arrival)) (ended-changed l p)
+    ∙ all-arrive f l p v (waiters-created p v o) (waiters-distinct p v o) (λ y c. on-not-ready (process y p) (waiters-on p v o y c))
+    ∙ ap (λ (k : List ℕ). members (p .arrival) ++ k) (kept-same (λ y. ready (f (process y p))) (λ y. ready (process y (endedAll l p))) l (λ y c. let is : process y (endedAll l p) ≡ f (process y p) = ended-process p v o some o y ∙ rw c in ap ready (sym is)))
+
+-- ---------------------------------------------------------------- the calls
+-- a time-out other than 0
+waits-for : (a : ℤ) → WaitsFor a → (isTimeout (field a) ≡ true) × (isNumber 0 (field a) ≡ false)
+waits-for (pos n) h =
+    let lo = leb-true 1 n (and-left (leb 1 n) (leb n durationLimit) h) in
+    let hi = leb-true n durationLimit (and-right (leb 1 n) (leb n durationLimit) h) in
+    rw (field-number n (omega arith)) (rw (from-zero n, le-leb n durationLimit hi), ne-eqb n 0 (λ z. omega arith))
+waits-for (negsuc zero) h = (refl, refl)
+waits-for (negsuc (suc n)) h = not-both _ h (rw (ne-eqb (suc n) 0 (λ z. omega arith)))
+
+ended-is : (x : Process) → WaitEnded 0 x (served x)
+ended-is x = record { wake = refl; wait = refl; codeIs = refl; mark = refl; started = refl }
+
+module _ (m : Module) (k : ℕ) (u : SoundModule m) (h : Calling m k) where
+  abbrev p : Partition
+  p = own m k
+
+  valid : Valid (m .table .frame) (m .t) p
+  valid = calling-valid m k u h
+
+  -- the caller's partition after a call that stores it
+  after-is : {e : EventT} {code value : ℕ} {extra : Time} (q : Partition) → Gives m e code value extra (withPart (k - 1) q m) → own (step m e .state) k ≡ noted q
+  after-is q g = ap (λ (n : Module). own n k) (g .state) ∙ getD-set-same (m .partitions) (k - 1) (noted q) noPartition (omega (arith, calling-place m k u h, u .partitionsSize, u .table .size .1))
+
+  -- a call that waits for the object that w names, where it has to wait
+  module _ (n j count : ℕ) (a : ℤ) (w : Wait) (lo : 1 ≤ n) (hi : n ≤ callLimit) (some : object w ≡ 0 → ⊥) (success : Decision) where
+    abbrev asks : EventT
+    asks = callBy k n (pos j) a (pos 0) (pos 0)
+
+    pub queued-last : strayField (serviceOf n .fields) (asked m k u h n (field (pos j)) (field a) (Number 0) (Number 0)) ≡ false
+        → decides m k u h n (pos j) a (pos 0) (pos 0) lo hi ≡ awaiting (contextOf m k) ((unknown j count, 3) ∷ []) true [] (field a) false success w p
+        → Between 1 count j → p .mode ≡ 3 → WaitsFor a → Queued m k asks w
+    unfolding awaiting queued blocked checked
+    queued-last stray is b normal t =
+        let c = running-caller p (valid .lists) (h .runs normal) in
+        let x = waitingFor w (later (At (m .t)) (timeOf (field a))) (process (running p) p) in
+        let q = stored (running p) x p in
+        let f = waits-for a t in
+        let g = gives m k u h n (pos j) a (pos 0) (pos 0) lo hi stray (Blocked (running p) x) (is ∙ rw (known m k u h j count b, eq-eqb (p .mode) 3 normal, f .0, f .1)) in
+        record {
+          code = g .codeIs;
+          wait = rw (after-is q g) (ap (λ (y : Process). y .wait) (process-stored p (running p) x (valid .lists) (c .created)));
+          queue = rw (after-is q g) (same-queue (object w) q (noted q) refl (λ _. refl) ∙ joins-last (object w) some p (valid .lists) (running p) (c .created) x (c .isReady) ∙ rw (eq-eqb (object w) (object w) refl));
+        }
+
+  wait-semaphore : (j : ℕ) (a : ℤ) → p .mode ≡ 3 → Between 1 (p .semaphoreCount) j → semaphore j p .value ≡ 0 → WaitsFor a → Queued m k (callBy k 15 (pos j) a (pos 0) (pos 0)) (Semaphore j)
+  unfolding callDecision services strayField waitSemaphore
+  wait-semaphore j a n b z t = queued-last 15 j (p .semaphoreCount) a (Semaphore j) (omega arith) (omega arith) (λ e. omega arith) (changed (withValue j (semaphore j p .value - 1) p)) refl (rw (field-number j (omega (arith, b .1, valid .objects .semaphores .few)), z)) b n t
+
+  wait-event : (j : ℕ) (a : ℤ) → p .mode ≡ 3 → Between 1 (p .eventCount) j → event j p .up ≡ false → WaitsFor a → Queued m k (callBy k 20 (pos j) a (pos 0) (pos 0)) (Event j)
+  unfolding callDecision services strayField waitEvent
+  wait-event j a n b z t = queued-last 20 j (p .eventCount) a (Event j) (omega arith) (omega arith) (λ e. omega arith) unchanged refl (rw (field-number j (omega (arith, b .1, valid .objects .events .few)), z)) b n t
+
+  -- SIGNAL
+  module _ (j : ℕ) (b : Between 1 (p .semaphoreCount) j) (below : semaphore j p .value ≡ semaphore j p .max → ⊥) where
+    abbrev o : ℕ
+    o = object (Semaphore j)
+
+    some : o ≡ 0 → ⊥
+    some e = omega arith
+
+    abbrev signals : EventT
+    signals = callBy k 16 (pos j) (pos 0) (pos 0) (pos 0)
+
+    signal-gives : (l : List ℕ) → waiters o p ≡ l → Gives m signals 0 0 (At 0) (withPart (k - 1) (applied (signalled l j p) p) m)
+    unfolding callDecision services strayField signal checked
+    signal-gives l e =
+        let f : field (pos j) ≡ Number j = field-number j (omega (arith, b .1, valid .objects .semaphores .few)) in
+        gives m k u h 16 (pos j) (pos 0) (pos 0) (pos 0) (omega arith) (omega arith) refl (changed (signalled l j p)) (rw (f, known m k u h j (p .semaphoreCount) b, ne-eqb _ _ below, e))
+
+    signal-first : (id : ℕ) (rest : List ℕ) → waiters o p ≡ id ∷ rest → FirstServed m k signals o id rest
+    unfolding signalled
+    signal-first id rest e =
+        let v = valid .lists in
+        let x = served (process id p) in
+        let q = stored id x p in
+        let g = signal-gives (id ∷ rest) e in
+        record {
+          code = g .codeIs;
+          queue = rw (after-is q g) (same-queue o q (noted q) refl (λ _. refl) ∙ first-served o some p v id rest e);
+          ended = rw (after-is q g, process-stored p id x v (first-created o some p v id rest e)) (ended-is (process id p));
+          others = λ y ne. rw (after-is q g) (process-other p id x y ne);
+          semaphores = rw (after-is q g) (ap (λ (r : Partition). r .semaphores) (stored-rest p id x));
+        }
+
+    signal-none : waiters o p ≡ [] → NoneServed m k signals j
+    unfolding signalled
+    signal-none e =
+        let few : j ≤ semaphoreLimit = omega (arith, b .1, valid .objects .semaphores .few) in
+        let i = within-in semaphoreLimit j (b .0) few in
+        let t = valid .objects .eachSemaphore j b in
+        let s : SemaphoreT = record { name = semaphore j p .name; value = oneMore (semaphore j p .value); max = semaphore j p .max } in
+        let q = storedSemaphore j s p in
+        let g = signal-gives [] e in
+        record {
+          code = g .codeIs;
+          queue = rw (after-is q g) (same-queue o q (noted q) refl (λ _. refl) ∙ semaphore-queue p (valid .lists) o some j s ∙ e);
+          value = rw (after-is q g, semaphore-in j s p i, named-same semaphoreLimit noSemaphore j s (p .semaphores) (b .0) few (omega (arith, valid .objects .semaphores .size))) (rw (lt-ltb (semaphore j p .value) greatestValue (omega (arith, t .value, t .max .1))));
+          processes = rw (after-is q g) (ap (λ (r : Partition). r .processes) (semaphore-in j s p i));
+        }
+
+  -- SET_EVENT
+  module _ (j : ℕ) (b : Between 1 (p .eventCount) j) where
+    abbrev queue : ℕ
+    queue = object (Event j)
+
+    is-some : queue ≡ 0 → ⊥
+    is-some e = omega arith
+
+    abbrev sets : EventT
+    sets = callBy k 18 (pos j) (pos 0) (pos 0) (pos 0)
+
+    abbrev state : EventState
+    state = record { name = event j p .name; up = true }
+
+    -- the event is UP, and then the waits end
+    abbrev up : Partition
+    up = storedEvent j state p
+
+    abbrev done : Partition
+    done = endedAll (waiters queue up) up
+
+    up-is : up ≡ withEvents (set (p .events) (j - 1) state) (max (p .eventCount) j) p
+    up-is = event-in j state p (within-in eventLimit j (b .0) (omega (arith, b .1, valid .objects .events .few)))
+
+    up-listed : ListedIn up
+    up-listed = rw up-is (valid .lists)
+
+    up-queue : waiters queue up ≡ waiters queue p
+    up-queue = event-queue p (valid .lists) queue is-some j state
+
+    up-process : (y : ℕ) → process y up ≡ process y p
+    up-process y = rw up-is
+
+    set-gives : Gives m sets 0 0 (At 0) (withPart (k - 1) done m)
+    unfolding callDecision services strayField setEvent checked
+    set-gives =
+        let f : field (pos j) ≡ Number j = field-number j (omega (arith, b .1, valid .objects .events .few)) in
+        gives m k u h 18 (pos j) (pos 0) (pos 0) (pos 0) (omega arith) (omega arith) refl (Changed (withUp j true p) (Ended queue) 0) (rw (f, known m k u h j (p .eventCount) b))
+
+    set-events : done .events ≡ set (p .events) (j - 1) state
+    set-events = ap (λ (r : Partition). r .events) (ended-changed (waiters queue up) up ∙ changed-rest served (waiters queue up) up) ∙ ap (λ (r : Partition). r .events) up-is
+
+    set-up : event j done .up ≡ true
+    set-up =
+        let few = valid .objects .events .few in
+        ap (λ (l : List EventState). byId eventLimit noEvent j l .up) set-events ∙ ap (λ (e : EventState). e .up) (named-same eventLimit noEvent j state (p .events) (b .0) (omega (arith, b .1, few)) (omega (arith, b .1, few, valid .objects .events .size)))
+
+    set-event : AllServed m k sets queue × (event j (own (step m sets .state) k) .up ≡ true)
+    set-event =
+        let is : (y : ℕ) → process y done ≡ cond (contains y (waiters queue p)) (served (process y p)) (process y p) = λ y. ended-process up up-listed queue is-some queue y ∙ rw (up-queue, up-process y) in
+        let g = after-is done set-gives in (
+          record {
+            code = set-gives .codeIs;
+            queue = rw g (same-queue queue done (noted done) refl (λ _. refl) ∙ ended-queue up up-listed queue is-some);
+            ended = λ id c. rw (g, is id, c) (ended-is (process id p));
+            others = λ id c. rw (g, is id, c);
+            arrival = rw g (all-served queue is-some up up-listed ∙ rw (up-queue, ap (λ (r : Partition). r .arrival) up-is));
+          },
+          rw g set-up,
+        )
+
+-- Law. A waiter joins its object's queue last, ended waits leave it and the others keep their order, and the first is served first.
+pub queues : Queues
+queues = record {
+  events = queue-after;
+  changes = λ m h i l. changes-queue (part m i) (valid-sound m (reached-valid m h) i l .eachPartition i l .lists);
+  calls = λ m k h j. let u = calling-sound m k h in record {
+    waitSemaphore = wait-semaphore m k u h j;
+    waitEvent = wait-event m k u h j;
+    signalFirst = λ id rest b below. signal-first m k u h j b below id rest;
+    signalNone = signal-none m k u h j;
+    setEvent = set-event m k u h j;
+  };
+}

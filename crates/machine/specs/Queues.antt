@@ -1,0 +1,137 @@
+-- Queues, said over the number o of an object (`object`; 0 is none), for every kind of object at once: a waiter joins its object's queue last,
+-- ended waits leave it and the others keep their order, and the first is served first. The queue of an object is `waiters o p`. Nothing of the
+-- machine rests on it.
+use Prim.Native.Nat.{ℕ, _+_, _<_}
+use mathlib.Core.Path.{_≡_}
+use mathlib.Core.Bool.{true, false, cond, not, _&&_, _||_}
+use mathlib.Core.List.{List, [], _∷_, _++_}
+use mathlib.Core.Logic.{_⊎_}
+use lib.Dec.{eqb}
+use lib.IntN.{ℤ, pos}
+use Rattle.machine.specs.declared.Process.{Process}
+use Rattle.machine.specs.declared.Partition.{Partition}
+use Rattle.machine.specs.declared.Context.{Context}
+use Rattle.machine.specs.declared.Semaphore.{Semaphore as SemaphoreT}
+use Rattle.machine.specs.declared.EventState.{EventState}
+use Rattle.machine.specs.declared.Wait.{Wait}
+use Rattle.machine.specs.declared.Wait.the-variants.{Semaphore, Event}
+use Rattle.machine.specs.declared.Event.{Event as EventT}
+use Rattle.machine.specs.declared.Module.{Module}
+use Rattle.machine.specs.Limits.{durationLimit}
+use Rattle.machine.specs.Fields.{requestOf, numberOf}
+use Rattle.machine.specs.Ids.{members, kept}
+use Rattle.machine.specs.Process.{object, due, ready}
+use Rattle.machine.specs.Partition.{normalMode, process, semaphore, event, stored, storedSemaphore, storedEvent, created, arrivedLast, endedAll, tickPartition, enteredNormal, running, waitsOn, waiters}
+use Rattle.machine.specs.Module.{part}
+use Rattle.machine.specs.Step.{step}
+use Rattle.machine.specs.Valid.{Between, contains, Distinct, Reached}
+use Rattle.machine.specs.Starred.{own, callBy, Calling, WaitEnded}
+use Rattle.machine.specs.Plain.{followed, plainMinusOne, plainBetween}
+
+-- ---------------------------------------------------------------- a queue
+-- it holds just the processes that wait on the object, each once
+pub record Queue (o : ℕ) (p : Partition) : Type 0 where
+  pub exact : (id : ℕ) → contains id (waiters o p) ≡ waitsOn o p id
+  pub once : Distinct (waiters o p)
+
+-- a process with record x gets the record y: it waits on no object, or on the one on which it waited
+abbrev pub KeepsOrEnds : Process → Process → Type 0
+KeepsOrEnds x y = (object (y .wait) ≡ 0) ⊎ (object (y .wait) ≡ object (x .wait))
+
+-- or it waited on none, and begins
+abbrev pub NotExchanged : Process → Process → Type 0
+NotExchanged x y = (object (x .wait) ≡ 0) ⊎ KeepsOrEnds x y
+
+-- queue o of a partition p after each change
+pub record QueueChanges (o : ℕ) (p : Partition) : Type 0 where
+  -- process id gets the record x: one that begins to wait on the object joins last, one that ceases leaves, the others stay in their order
+  pub stored : (id : ℕ) (x : Process) → Between 1 (p .processCount) id → NotExchanged (process id p) x
+      → waiters o (stored id x p) ≡ followed (waitsOn o p id) (eqb (object (x .wait)) o) id (waiters o p)
+  -- one created, one put last in the arrival list, a semaphore or an event stored: the queue stays
+  pub created : (x : Process) → object (x .wait) ≡ 0 → waiters o (created (p .processCount + 1) x p) ≡ waiters o p
+  pub arrived : (id : ℕ) → waiters o (arrivedLast id p) ≡ waiters o p
+  pub semaphore : (k : ℕ) (s : SemaphoreT) → waiters o (storedSemaphore k s p) ≡ waiters o p
+  pub event : (k : ℕ) (e : EventState) → waiters o (storedEvent k e p) ≡ waiters o p
+  -- all waits on an object end: its queue is empty then, and that of another object stays
+  pub ended : waiters o (endedAll (waiters o p) p) ≡ []
+  pub endedOther : (u : ℕ) → (u ≡ o → ⊥) → waiters o (endedAll (waiters u p) p) ≡ waiters o p
+  -- entering NORMAL: the queue stays
+  pub entered : (c : Context) → waiters o (enteredNormal c p) ≡ waiters o p
+  -- a tick of a NORMAL partition: those whose wake time has come leave
+  pub ticked : (t : ℕ) → normalMode p ≡ true → waiters o (tickPartition t p) ≡ kept (λ id. not (due t (process id p .times .wake))) (waiters o p)
+
+-- ---------------------------------------------------------------- an event
+-- who joins queue o of partition number i + 1, whose record was p and is q, at an event of partition k that answers code: the process that ran,
+-- where the event is its own partition's, answers 7, and it waits on the object then
+abbrev pub joining : ℕ → ℕ → ℕ → ℕ → Partition → Partition → List ℕ
+joining code k i o p q = cond (eqb code 7 && (eqb k (i + 1) && waitsOn o q (running p))) (running p ∷ []) []
+
+-- the queue after an event: those of the queue before it that still wait on the object, in their order, and behind them who joins
+pub record QueueAfter (m : Module) (e : EventT) (i o : ℕ) : Type 0 where
+  pub before : Queue o (part m i)
+  pub after : Queue o (part (step m e .state) i)
+  pub order : let p = part m i in
+      let q = part (step m e .state) i in
+      waiters o q ≡ kept (waitsOn o q) (waiters o p) ++ joining (step m e .answer .code) (numberOf (requestOf e .partition)) i o p q
+
+-- ---------------------------------------------------------------- the calls that make a process wait and that end waits
+-- a time-out other than 0: −1, or 1..9,999,999
+abbrev pub WaitsFor : ℤ → Type 0
+WaitsFor a = (plainMinusOne a || plainBetween 1 durationLimit a) ≡ true
+
+-- the caller, which is the running process, waits on w: 7, and it stands behind the queue of that object
+pub record Queued (m : Module) (k : ℕ) (e : EventT) (w : Wait) : Type 0 where
+  pub code : step m e .answer .code ≡ 7
+  pub wait : process (running (own m k)) (own (step m e .state) k) .wait ≡ w
+  pub queue : waiters (object w) (own (step m e .state) k) ≡ waiters (object w) (own m k) ++ (running (own m k) ∷ [])
+
+-- the wait of process id, the first of queue o, ends: it leaves the queue, and neither another process nor a semaphore changes
+pub record FirstServed (m : Module) (k : ℕ) (e : EventT) (o id : ℕ) (rest : List ℕ) : Type 0 where
+  pub code : step m e .answer .code ≡ 0
+  pub queue : waiters o (own (step m e .state) k) ≡ rest
+  pub ended : WaitEnded 0 (process id (own m k)) (process id (own (step m e .state) k))
+  pub others : (y : ℕ) → (y ≡ id → ⊥) → process y (own (step m e .state) k) ≡ process y (own m k)
+  pub semaphores : own (step m e .state) k .semaphores ≡ own m k .semaphores
+
+-- nobody waits on semaphore j: its value is one more, and no process changes
+pub record NoneServed (m : Module) (k : ℕ) (e : EventT) (j : ℕ) : Type 0 where
+  pub code : step m e .answer .code ≡ 0
+  pub queue : waiters (object (Semaphore j)) (own (step m e .state) k) ≡ []
+  pub value : semaphore j (own (step m e .state) k) .value ≡ semaphore j (own m k) .value + 1
+  pub processes : own (step m e .state) k .processes ≡ own m k .processes
+
+-- all waits of queue o end, no other process changes, and those READY then join the arrival list in queue order
+pub record AllServed (m : Module) (k : ℕ) (e : EventT) (o : ℕ) : Type 0 where
+  pub code : step m e .answer .code ≡ 0
+  pub queue : waiters o (own (step m e .state) k) ≡ []
+  pub ended : (id : ℕ) → contains id (waiters o (own m k)) ≡ true → WaitEnded 0 (process id (own m k)) (process id (own (step m e .state) k))
+  pub others : (id : ℕ) → contains id (waiters o (own m k)) ≡ false → process id (own (step m e .state) k) ≡ process id (own m k)
+  pub arrival : members (own (step m e .state) k .arrival) ≡ members (own m k .arrival) ++ kept (λ id. ready (process id (own (step m e .state) k))) (waiters o (own m k))
+
+pub record QueueCalls (m : Module) (k j : ℕ) : Type 0 where
+  -- 15 WAIT_SEMAPHORE of a value 0 and 20 WAIT_EVENT of an event DOWN: queued last
+  pub waitSemaphore : (a : ℤ) → let p = own m k in
+      p .mode ≡ 3 → Between 1 (p .semaphoreCount) j → semaphore j p .value ≡ 0 → WaitsFor a
+      → Queued m k (callBy k 15 (pos j) a (pos 0) (pos 0)) (Semaphore j)
+  pub waitEvent : (a : ℤ) → let p = own m k in
+      p .mode ≡ 3 → Between 1 (p .eventCount) j → event j p .up ≡ false → WaitsFor a
+      → Queued m k (callBy k 20 (pos j) a (pos 0) (pos 0)) (Event j)
+  -- 16 SIGNAL below max: the first waiter's wait ends; none: value + 1
+  pub signalFirst : (id : ℕ) (rest : List ℕ) → let p = own m k in
+      Between 1 (p .semaphoreCount) j → (semaphore j p .value ≡ semaphore j p .max → ⊥) → waiters (object (Semaphore j)) p ≡ id ∷ rest
+      → FirstServed m k (callBy k 16 (pos j) (pos 0) (pos 0) (pos 0)) (object (Semaphore j)) id rest
+  pub signalNone : let p = own m k in
+      Between 1 (p .semaphoreCount) j → (semaphore j p .value ≡ semaphore j p .max → ⊥) → waiters (object (Semaphore j)) p ≡ []
+      → NoneServed m k (callBy k 16 (pos j) (pos 0) (pos 0) (pos 0)) j
+  -- 18 SET_EVENT: UP, all waiters' waits end in queue order
+  pub setEvent : let e = callBy k 18 (pos j) (pos 0) (pos 0) (pos 0) in
+      Between 1 (own m k .eventCount) j → AllServed m k e (object (Event j)) × (event j (own (step m e .state) k) .up ≡ true)
+
+-- the whole
+pub record Queues : Type 0 where
+  -- every event of every reached record, in each partition, for each object
+  pub events : (m : Module) → Reached m → (e : EventT) (i : ℕ) → i < m .table .size → (o : ℕ) → (o ≡ 0 → ⊥) → QueueAfter m e i o
+  -- each change of a partition of a reached record
+  pub changes : (m : Module) → Reached m → (i : ℕ) → i < m .table .size → (o : ℕ) → (o ≡ 0 → ⊥) → QueueChanges o (part m i)
+  -- the calls
+  pub calls : (m : Module) (k : ℕ) → Calling m k → (j : ℕ) → QueueCalls m k j

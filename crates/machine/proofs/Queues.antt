@@ -660,7 +660,7 @@ module _ (m : Module) (k : ℕ) (u : SoundModule m) (h : Calling m k) where
         let f : field (pos j) ≡ Number j = field-number j (omega (arith, b .1, valid .objects .semaphores .few)) in
         gives m k u h 16 (pos j) (pos 0) (pos 0) (pos 0) (omega arith) (omega arith) refl (changed (signalled l j p)) (rw (f, known m k u h j (p .semaphoreCount) b, ne-eqb _ _ below, e))
 
-    signal-first : (id : ℕ) (rest : List ℕ) → waiters o p ≡ id ∷ rest → FirstServed m k signals o id rest
+    pub signal-first : (id : ℕ) (rest : List ℕ) → waiters o p ≡ id ∷ rest → FirstServed m k signals o id rest
     unfolding signalled
     signal-first id rest e =
         let v = valid .lists in
@@ -738,7 +738,7 @@ module _ (m : Module) (k : ℕ) (u : SoundModule m) (h : Calling m k) where
         let few = valid .objects .events .few in
         ap (λ (l : List EventState). byId eventLimit noEvent j l .up) set-events ∙ ap (λ (e : EventState). e .up) (named-same eventLimit noEvent j state (p .events) (b .0) (omega (arith, b .1, few)) (omega (arith, b .1, few, valid .objects .events .size)))
 
-    set-event : AllServed m k sets queue × (event j (own (step m sets .state) k) .up ≡ true)
+    pub set-event : AllServed m k sets queue × (event j (own (step m sets .state) k) .up ≡ true)
     set-event =
         let is : (y : ℕ) → process y done ≡ cond (contains y (waiters queue p)) (served (process y p)) (process y p) = λ y. ended-process up up-listed queue is-some queue y ∙ rw (up-queue, up-process y) in
         let g = after-is done set-gives in (

@@ -6,7 +6,7 @@ use mathlib.Core.List.{List, [], _∷_, _++_}
 use mathlib.Core.Logic.{inr}
 use native.Mathlib.Omega.{arith}
 use lib.IntN.{pos}
-use lib.ListN.{getD, set}
+use lib.ListN.{getD}
 use lib.Seq.{getD-set-same, getD-set-other}
 use lib.Dec.{eqb}
 use borrow.Author.Tests.{eqb-false, eq-eqb, ne-eqb, le-leb, not-true}
@@ -16,21 +16,20 @@ use Rattle.machine.specs.declared.Event.{Event as EventT}
 use Rattle.machine.specs.declared.Module.{Module}
 use Rattle.machine.specs.declared.Port.{Port}
 use Rattle.machine.specs.declared.Message.{Message}
-use Rattle.machine.specs.declared.EventState.{EventState}
-use Rattle.machine.specs.declared.Change.the-variants.{Stored, StoredEvent, Ended, Entered}
+use Rattle.machine.specs.declared.Change.the-variants.{Entered}
 use Rattle.machine.specs.declared.Decision.{Decision}
-use Rattle.machine.specs.declared.Decision.the-variants.{Changed, Written, Ticked}
+use Rattle.machine.specs.declared.Decision.the-variants.{Written, Ticked}
 use Rattle.machine.specs.declared.Field.{Field}
 use Rattle.machine.specs.declared.Field.the-variants.{Number, MinusOne, Other}
 use Rattle.machine.specs.declared.Wait.{Wait}
 use Rattle.machine.specs.declared.Wait.the-variants.{None, Normal, Delay, Timed, Period, Semaphore, Event}
 use Rattle.machine.specs.declared.Time.{Time}
 use Rattle.machine.specs.declared.Time.the-variants.{Never, At}
-use Rattle.machine.specs.Limits.{timeLimit, channelLimit, eventLimit}
+use Rattle.machine.specs.Limits.{timeLimit, channelLimit}
 use Rattle.machine.specs.Fields.{field, requestOf, isNumber, numberOf}
 use Rattle.machine.specs.Ids.{members, kept}
-use Rattle.machine.specs.Process.{due, object, onObject, ready, onlyMarked, waitEnded, served, woken, expired, ticked, waitsForNothing, entered}
-use Rattle.machine.specs.Partition.{process, semaphore, event, noEvent, withMode, withEvents, waitsOn, waiters, storedEvent, stored, endedAll, enteredNormal, tickPartition, noted}
+use Rattle.machine.specs.Process.{due, object, onObject, ready, onlyMarked, waitEnded, woken, expired, ticked, waitsForNothing, entered}
+use Rattle.machine.specs.Partition.{process, semaphore, event, withMode, waitsOn, waiters, enteredNormal, tickPartition, noted}
 use Rattle.machine.specs.Windows.{windows}
 use Rattle.machine.specs.Services.{services, callDecision}
 use Rattle.machine.specs.Decisions as D
@@ -42,18 +41,19 @@ use Rattle.machine.specs.Channels as Ch
 use Rattle.machine.specs.Places as Pl
 use Rattle.machine.specs.Step as St
 use Rattle.machine.specs.Starred.{own, callBy, tick, Puts, Calling, FirstFlagged, releaseAt, awaitsRelease, WaitEnded, ReadyUnmarked, onto, forTime, Ticks, Mistakes, Starred}
-use Rattle.machine.specs.Valid.{Between, SoundModule, ListedIn, contains, plainTick}
+use Rattle.machine.specs.Valid.{Between, SoundModule, contains, plainTick}
 use Rattle.machine.proofs.Tests.{by-test, and-left, and-right, not-both}
-use Rattle.machine.proofs.Bounds.{not-so, within-in, event-in, named-same}
+use Rattle.machine.proofs.Bounds.{not-so}
 use Rattle.machine.proofs.Dispatch.{by-event, by-decision, ticks-decided}
 use Rattle.machine.proofs.Bodies.{FromSource, Bodily, call-body}
 use Rattle.machine.proofs.Refusals.{refused-same, places, call-in-range}
-use Rattle.machine.proofs.Keeping.{process-created, process-stored, each-rest, each-process, ended-changed, changed-rest, changed-process}
-use Rattle.machine.proofs.Kept.{waiters-distinct, waiters-exact, waiters-created}
+use Rattle.machine.proofs.Keeping.{process-created, each-rest, each-process}
+use Rattle.machine.proofs.Kept.{waiters-exact}
 use Rattle.machine.proofs.Reached.{reached-valid, valid-sound, plain-part, tick-module-plain}
-use Rattle.machine.proofs.Calling.{field-number, from-zero, number-is, number-of, calling-sound, calling-place, calling-valid, gives}
+use Rattle.machine.proofs.Queues.{signal-first, set-event}
+use Rattle.machine.proofs.Calling.{from-zero, number-is, number-of, calling-sound, calling-place, calling-valid, gives}
 use Rattle.machine.proofs.Worked.{worked}
-use Rattle.machine.proofs.Corners.{known, normal-not, started-is, immediate-release, delayed-release, corners}
+use Rattle.machine.proofs.Corners.{normal-not, started-is, immediate-release, delayed-release, corners}
 
 -- ---------------------------------------------------------------- a neighbour's running process
 unseen : (m : Module) (e : EventT) → St.sees (requestOf e) (St.step m e .answer .current) ≡ false → St.step m e .answer .running ≡ 0
@@ -311,68 +311,21 @@ module _ (m : Module) (k : ℕ) (u : SoundModule m) (h : Calling m k) where
             let off : waitsOn (object (Semaphore j)) (own m k) y ≡ false = ne-eqb (object (process y (own m k) .wait)) (object (Semaphore j)) (λ q. f y (rw (eq-eqb y y refl)) (semaphore-is (process y (own m k) .wait) j few q)) in
             rw off (go l (λ z c. f z (rw c (or-true (eqb y z)))))
 
-    signal-gives : Puts m (callBy k 16 (pos j) (pos 0) (pos 0) (pos 0)) 0 0 k (stored id (served (process id (own m k))) (own m k))
-    unfolding callDecision services Pl.strayField Ob.signal Ob.signalled D.checked
-    signal-gives =
-        gives m k u h 16 (pos j) (pos 0) (pos 0) (pos 0) (omega arith) (omega arith) refl (D.changed (Stored id (served (process id (own m k)))))
-        (rw (field-number j (omega (arith, few)), known m k u h j (own m k .semaphoreCount) b, ne-eqb (semaphore j (own m k) .value) (semaphore j (own m k) .max) below, queue-is))
-
     signal-ends : let a = callBy k 16 (pos j) (pos 0) (pos 0) (pos 0) in
         let y = process id (own (St.step m a .state) k) in
         (St.step m a .answer .code ≡ 0) × WaitEnded 0 (process id (own m k)) y × ReadyUnmarked (process id (own m k)) y
-    signal-ends =
-        let x = process id (own m k) in
-        let known-waiter = waiter-known id (rw w tt) in
-        let q = ap (process id) (own-after _ signal-gives) ∙ process-stored (own m k) id (served x) (calling-valid m k u h .lists) known-waiter in
-        (signal-gives .codeIs, rw q (record { wake = refl; wait = refl; codeIs = refl; mark = refl; started = refl }), rw q (λ s. suspended-not-ready (served x) s))
+    signal-ends = let q = signal-first m k u h j b below id _ queue-is in (q .code, q .ended, λ s. suspended-not-ready (process id (own (St.step m (callBy k 16 (pos j) (pos 0) (pos 0) (pos 0)) .state) k)) (q .ended .mark ∙ s))
 
   -- ---------------------------------------------------------------- SET_EVENT
   module _ (j id : ℕ) (b : Between 1 (own m k .eventCount) j) (w : process id (own m k) .wait ≡ Event j) where
-    -- the partition with the event UP
-    abbrev up : Partition
-    up = storedEvent j (record { name = event j (own m k) .name; up = true }) (own m k)
-
-    low : j ≤ eventLimit
-    low = omega (arith, b .1, calling-valid m k u h .objects .events .few)
-
-    up-in : up ≡ withEvents (set (own m k .events) (j - 1) (record { name = event j (own m k) .name; up = true })) (max (own m k .eventCount) j) (own m k)
-    up-in = event-in j (record { name = event j (own m k) .name; up = true }) (own m k) (within-in eventLimit j (b .0) low)
-
-    set-gives : Puts m (callBy k 18 (pos j) (pos 0) (pos 0) (pos 0)) 0 0 k (endedAll (waiters (object (Event j)) up) up)
-    unfolding callDecision services Pl.strayField Ob.setEvent D.checked
-    set-gives =
-        gives m k u h 18 (pos j) (pos 0) (pos 0) (pos 0) (omega arith) (omega arith) refl (Changed (StoredEvent j (record { name = event j (own m k) .name; up = true })) (Ended (object (Event j))) 0)
-        (rw (field-number j (omega (arith, low)), known m k u h j (own m k .eventCount) b))
-
-    up-listed : ListedIn up
-    up-listed = rw up-in (calling-valid m k u h .lists)
-
-    -- the waits end
-    set-process : process id (endedAll (waiters (object (Event j)) up) up) ≡ served (process id (own m k))
-    set-process =
-        let o = object (Event j) in
-        let same : process id up ≡ process id (own m k) = rw up-in in
-        let there : contains id (waiters o up) ≡ true = waiters-exact up up-listed o (λ z. omega arith) id ∙ rw (same, w) (eq-eqb (512 + j) (512 + j) refl) in
-        ap (process id) (ended-changed (waiters o up) up)
-        ∙ changed-process served (waiters o up) up up-listed (waiters-created up up-listed o) (waiters-distinct up up-listed o) id
-        ∙ rw (there, same)
-
-    set-up : event j (endedAll (waiters (object (Event j)) up) up) .up ≡ true
-    set-up =
-        let l = waiters (object (Event j)) up in
-        ap (λ (q : Partition). event j q .up) (ended-changed l up)
-        ∙ ap (λ (q : Partition). event j q .up) (changed-rest served l up)
-        ∙ ap (λ (q : Partition). event j q .up) up-in
-        ∙ ap (λ (x : EventState). x .up) (named-same eventLimit noEvent j _ (own m k .events) (b .0) low (omega (arith, low, calling-valid m k u h .objects .events .size)))
-
     set-ends : let a = callBy k 18 (pos j) (pos 0) (pos 0) (pos 0) in
         let y = process id (own (St.step m a .state) k) in
         (St.step m a .answer .code ≡ 0) × (event j (own (St.step m a .state) k) .up ≡ true) × WaitEnded 0 (process id (own m k)) y × ReadyUnmarked (process id (own m k)) y
     set-ends =
-        let x = process id (own m k) in
-        let r = own-after _ set-gives in
-        let q = ap (process id) r ∙ set-process in
-        (set-gives .codeIs, ap (λ (p : Partition). event j p .up) r ∙ set-up, rw q (record { wake = refl; wait = refl; codeIs = refl; mark = refl; started = refl }), rw q (λ s. suspended-not-ready (served x) s))
+        let q = set-event m k u h j b in
+        let there : contains id (waiters (object (Event j)) (own m k)) ≡ true = waiters-exact (own m k) (calling-valid m k u h .lists) (object (Event j)) (λ z. omega arith) id ∙ rw w (eq-eqb (512 + j) (512 + j) refl) in
+        let e = q .0 .ended id there in
+        (q .0 .code, q .1, e, λ s. suspended-not-ready (process id (own (St.step m (callBy k 18 (pos j) (pos 0) (pos 0) (pos 0)) .state) k)) (e .mark ∙ s))
 
 pub mistakes : Mistakes
 mistakes = record {

@@ -274,6 +274,7 @@ fn print_module(m: Module) {
 }
 
 fn main() {
-    let x = standard_io::replay(false);
+    let r = standard_io::replay(false);
+    let x = r.executive;
     print_module(x.module());
 }

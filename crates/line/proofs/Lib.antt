@@ -3,3 +3,4 @@ pub mod Reading
 pub mod Writing
 pub mod Parts
 pub mod Scan
+pub mod Meaning

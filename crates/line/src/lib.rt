@@ -6,7 +6,7 @@ ghost use lib.ListN.{length, getD, take, drop};
 ghost use lib.Seq.{sets};
 ghost use lib.IntN.{pos};
 ghost use Rattle.machine.specs.Limits.{lineLength};
-ghost use Rattle.machine.specs.Line.{fieldWidth, inRange, lastDigit, numberText, fieldText, lineText, readField, numberList, readLine, readAt, allInRange, writeCode, written, writtenAt, lineEnd};
+ghost use Rattle.machine.specs.Line.{fieldWidth, inRange, lastDigit, numberText, fieldText, lineText, readField, numberList, meaning, lineMeaning, textAt, allInRange, writeCode, written, writtenAt, lineEnd};
 ghost use Rattle.line.specs.Found.{foundOf};
 ghost use Rattle.line.specs.Scan.{digitsFrom, numberFrom, firstFrom};
 ghost use Rattle.line.specs.Blank.{fieldsLength, Blank, Alike};
@@ -122,7 +122,7 @@ fn field_at(s: &[u8], at: usize) -> Found
 
 // What a line holds.
 pub fn read(s: &[u8]) -> Line
-    ensures { λ r. ⌜ r ≡ readLine (now (s .entry)) ⌝ }
+    ensures { λ r. ⌜ meaning r ≡ lineMeaning (now (s .entry)) ⌝ }
 {
     if s.len() != Module::LINE {
         return Line::Bad;
@@ -151,7 +151,7 @@ pub fn read(s: &[u8]) -> Line
 
 // What the line at a position of the input holds; Bad where fewer bytes are left than a line has.
 pub fn read_at(input: &[u8], at: usize) -> Line
-    ensures { λ r. ⌜ r ≡ readAt (now (input .entry)) at ⌝ }
+    ensures { λ r. ⌜ meaning r ≡ lineMeaning (textAt (now (input .entry)) at) ⌝ }
 {
     if input.len() < at {
         return Line::Bad;

@@ -135,6 +135,14 @@ meaning Bad = (lineRefusal, [])
 abbrev pub lineCode : Line → ℕ
 lineCode l = meaning l .0
 
+-- the number and the values of a line's text: 0 and the numbers that its columns spell, or 11
+abbrev pub meaningOf : Option (List ℤ) → ℕ × List ℤ
+meaningOf none = (lineRefusal, [])
+meaningOf (some zs) = (0, zs)
+
+unfoldable pub lineMeaning : List ℕ → ℕ × List ℤ
+lineMeaning bs = meaningOf (readNumbers fieldCount bs)
+
 -- ---------------------------------------------------------------- writing
 unfoldable pub allInRange : List ℤ → Bool
 allInRange [] = true
@@ -176,5 +184,8 @@ abbrev pub lineEnd : List ℕ → ℕ → ℕ
 lineEnd input at = cond (leb at (length input)) (at + firstLength (drop at input)) (length input)
 
 -- A line is read out of the middle of the input.
+abbrev pub textAt : List ℕ → ℕ → List ℕ
+textAt input at = take lineLength (drop at input)
+
 abbrev pub readAt : List ℕ → ℕ → Line
-readAt input at = readLine (take lineLength (drop at input))
+readAt input at = readLine (textAt input at)

@@ -1,20 +1,46 @@
 -- What the loops over what is read keep. Assumes nothing.
-use Prim.Native.Nat.{ℕ, _+_, _-_, _≤_, _<_}
+use Prim.Native.Nat.{ℕ, suc, _+_, _-_, _≤_, _<_}
+use mathlib.Core.Bool.{Bool, true, false}
 use mathlib.Core.Path.{_≡_, refl, sym, ap, _∙_}
 use mathlib.Core.List.{List, [], _∷_, _++_}
 use native.Mathlib.Omega.{arith}
+use native.Mathlib.Nat.{min-le-right}
 use lib.ListN.{length, take, drop, length-append, length-drop, drop-of-length-le}
 use lib.Seq.{drop-drop}
+use lib.Dec.{eqb}
+use lib.IntN.{ℤ, pos, negsuc}
+use lib.Signed.{ltZ}
+use mir.Syntax.{w64}
+use mir.Val.{toZ, ofZ, SFits}
+use mir.ValLaws.{toZ-ofZ}
+use borrow.Author.Tests.{ltb-true, ne-eqb}
+use Rattle.io.specs.Counts.{clamped}
 use Rattle.machine.specs.Limits.{lineLength}
+use Rattle.machine.specs.Replay.{replayedRecord}
+use Rattle.machine.proofs.Tests.{by-test, not-both}
 use Rattle.executive.specs.declared.Executive.{Executive}
 use Rattle.stream.specs.declared.Stream.{Stream}
 use Rattle.stream.specs.declared.Advance.{Advance}
 use Rattle.event_lines.specs.Blocks.{over}
-use Rattle.stream.specs.Stream.{begun, run, advanceOf, closed, finished, fedAll}
+use Rattle.stream.specs.declared.Stage.{Stage}
+use Rattle.stream.specs.declared.Stage.the-variants.{Table as TableStage, Events, Ended}
+use Rattle.stream.specs.declared.Place.{Place}
+use Rattle.stream.specs.Stream.{begun, turnIn, isEnded, run, advanced, closed, finished, finishedOf, fedAll}
 use Rattle.stream.proofs.Chunks.{finished-closed}
 use Rattle.stream.proofs.Pieces.{run-within, run-some, run-room, fed-rest, fed-on}
 use Rattle.stream.proofs.Whole.{stream-record}
-use Rattle.standard_io.specs.StandardIo.{ReadOn, AfterInput}
+use Rattle.standard_io.specs.declared.Got.{Got}
+use Rattle.standard_io.specs.declared.Got.the-variants.{Bytes, Nothing, Failure}
+use Rattle.standard_io.specs.declared.End.{End}
+use Rattle.standard_io.specs.declared.End.the-variants.{Going, Input, Table, Unread, Unwritten}
+use Rattle.standard_io.specs.declared.Shown.{Shown}
+use Rattle.standard_io.specs.declared.Turn.{Turn}
+use Rattle.standard_io.specs.StandardIo.{gotOf, writtenCount, byteCount, endAfter, afterShown, afterRead, TookRead, ReadOnce, isGoing, Reads, ReadToEnd, lastOf, lastStream, recordAfter, AfterInput}
+use Rattle.standard_io.specs.StandardIo.Reads.{before, next}
+
+-- no more is written than is printed
+pub written-within : (prints : Bool) (n k : ℕ) (out : List ℕ) → k ≡ writtenCount prints n → n ≤ length out → k ≤ length out
+written-within prints n k out e h = rw e (by-test (λ (x : ℕ). x ≤ length out) prints (λ t. h) (λ t. omega arith))
 
 -- ---------------------------------------------------------------- a chunk
 -- the bytes before i are taken
@@ -38,7 +64,7 @@ pub record Turned (s₀ : Stream) (chunk out₀ : List ℕ) (i : ℕ) (a : Advan
   pub next : Taking s₀ chunk out₀ (a .stream) (i + a .taken) out
 
 module _ (s₀ : Stream) (chunk out₀ : List ℕ) (s : Stream) (i : ℕ) (out : List ℕ) (k : Taking s₀ chunk out₀ s i out) (more : i < length chunk) (room : lineLength ≤ length out₀)
-    (part : List ℕ) (cut : part ≡ drop i chunk) (a : Advance) (went : a ≡ advanceOf (run s (length out) part)) (out′ : List ℕ) (stored : out′ ≡ over (run s (length out) part .text) out) where
+    (part : List ℕ) (cut : part ≡ drop i chunk) (a : Advance) (went : a ≡ advanced s (length out) part) (out′ : List ℕ) (stored : out′ ≡ over (run s (length out) part .text) out) where
   size : length part ≡ length chunk - i
   size = ap length cut ∙ length-drop i chunk
 
@@ -69,33 +95,147 @@ module _ (s₀ : Stream) (chunk out₀ : List ℕ) (s : Stream) (i : ℕ) (out :
     };
   }
 
+-- ---------------------------------------------------------------- a read
+-- the answer of a read by the code's tests of it
+module _ (z : ℤ) (f : SFits w64 z) (most : ℕ) where
+  pub is-failure : ltZ (toZ w64 (ofZ w64 z)) (pos 0) ≡ true → Failure ≡ gotOf z most
+  is-failure t = go z (rw (toZ-ofZ w64 z f) at t)
+    where
+      go : (x : ℤ) → ltZ x (pos 0) ≡ true → Failure ≡ gotOf x most
+      go (pos k) t = absurd (omega (arith, ltb-true k 0 t))
+      go (negsuc k) t = refl
+
+  pub is-nothing : ofZ w64 z ≡ 0 → Nothing ≡ gotOf z most
+  is-nothing e = let q : z ≡ pos 0 = sym (toZ-ofZ w64 z f) ∙ ap (toZ w64) e in rw q
+
+  pub is-bytes : ltZ (toZ w64 (ofZ w64 z)) (pos 0) ≡ false → (ofZ w64 z ≡ 0 → ⊥) → (n : ℕ) → n ≡ clamped z most → Bytes n ≡ gotOf z most
+  is-bytes t e n c = go z refl (rw (toZ-ofZ w64 z f) at t) c
+    where
+      go : (x : ℤ) → z ≡ x → ltZ x (pos 0) ≡ false → n ≡ clamped x most → Bytes n ≡ gotOf x most
+      go (pos k) q t c = let some : k ≡ 0 → ⊥ = λ p. e (rw (q, p)) in rw (ne-eqb k 0 some, c)
+      go (negsuc k) q t c = absurd (let w : _≡_ {A = ℕ} 0 1 = cc in omega arith)
+
+-- no more bytes are taken than the buffer has
+pub got-within : (z : ℤ) (most : ℕ) (got : Got) → got ≡ gotOf z most → byteCount got ≤ most
+got-within (pos n) most got e =
+    rw e (by-test (λ (g : Got). byteCount g ≤ most) (eqb n 0) (λ t. omega arith) (λ t. min-le-right n most))
+got-within (negsuc n) most got e = rw e (omega arith)
+
+pub bytes-within : (got : Got) (n most : ℕ) → got ≡ Bytes n → byteCount got ≤ most → n ≤ most
+bytes-within got n most e h = rw e at h
+
+-- by the read's answer
+pub shown-read : (s : Stream) (bytes : List ℕ) (n : ℕ) (got : Got) → got ≡ Bytes n → (p : Shown) → p .stream ≡ fedAll s (take n bytes) .stream → (r : Turn) → r ≡ afterShown p → TookRead s got bytes r
+shown-read s bytes n got e p f r g = record { written = p .written; is = g ∙ rw (e, f) }
+
+pub nothing-read : (s : Stream) (bytes : List ℕ) (got : Got) → got ≡ Nothing → TookRead s got bytes (record { stream = s; end = Input })
+nothing-read s bytes got e = record { written = true; is = rw e }
+
+pub failed-read : (s : Stream) (bytes : List ℕ) (got : Got) → got ≡ Failure → TookRead s got bytes (record { stream = s; end = Unread })
+failed-read s bytes got e = record { written = true; is = rw e }
+
 -- ---------------------------------------------------------------- the whole input
-pub none-read : (s : Stream) → ReadOn s s
+-- the stream after some input
+record FedOn (s r : Stream) : Type 0 where
+  read : List ℕ
+  is : r ≡ fedAll s read .stream
+
+none-fed : (s : Stream) → FedOn s s
 unfolding fedAll
-none-read s = record { read = []; is = refl }
+none-fed s = record { read = []; is = refl }
 
-pub read-on : (s r q : Stream) → ReadOn s r → ReadOn r q → ReadOn s q
-read-on s r q a b = record { read = a .read ++ b .read; is = b .is ∙ ap (λ (x : Stream). fedAll x (b .read) .stream) (a .is) ∙ fed-on s (a .read) (b .read) }
+fed-further : (s r q : Stream) → FedOn s r → FedOn r q → FedOn s q
+fed-further s r q a b = record { read = a .read ++ b .read; is = b .is ∙ ap (λ (x : Stream). fedAll x (b .read) .stream) (a .is) ∙ fed-on s (a .read) (b .read) }
 
-module _ (s : Stream) (out : List ℕ) (a : Advance) (went : a ≡ advanceOf (finished s (length out))) where
+-- the stream goes on from s, and reading ends with a table that is refused only where that is so
+record Goes (s : Stream) (r : Turn) : Type 0 where
+  fed : FedOn s (r .stream)
+  table : r .end ≡ Table → isEnded (r .stream .place .stage) ≡ true
+
+table-refused : (written refused : Bool) → endAfter written refused ≡ Table → refused ≡ true
+table-refused true true e = refl
+table-refused true false e = absurd (let q : _≡_ {A = ℕ} 0 1 = cc in omega arith)
+table-refused false refused e = absurd (let q : _≡_ {A = ℕ} 0 1 = cc in omega arith)
+
+took-goes : (s : Stream) (got : Got) (bytes : List ℕ) (written : Bool) → Goes s (afterRead s got bytes written)
+took-goes s (Bytes n) bytes written = record { fed = record { read = take n bytes; is = refl }; table = λ e. table-refused written _ e }
+took-goes s Nothing bytes written = record { fed = none-fed s; table = λ e. absurd (let q : _≡_ {A = ℕ} 0 1 = cc in omega arith) }
+took-goes s Failure bytes written = record { fed = none-fed s; table = λ e. absurd (let q : _≡_ {A = ℕ} 0 1 = cc in omega arith) }
+
+reads-go : (n : ℕ) (r : Turn) → Reads n r → Goes begun r
+reads-go _ _ before = record { fed = none-fed begun; table = λ e. absurd (let q : _≡_ {A = ℕ} 0 1 = cc in omega arith) }
+reads-go _ _ (next n t u h going once) =
+    let a = reads-go n t h in
+    let b : Goes (t .stream) u = rw (once .took .is) (took-goes (t .stream) (once .got) (once .bytes) (once .took .written)) in
+    record { fed = fed-further begun (t .stream) (u .stream) (a .fed) (b .fed); table = b .table }
+
+-- a refused table leaves nothing to end
+refused-last : (stage : Stage) (x : Place) (text : List ℕ) → isEnded stage ≡ true → turnIn true stage x text .place .executive ≡ x .executive
+refused-last TableStage x text e = absurd (let q : _≡_ {A = ℕ} 0 1 = cc in omega arith)
+refused-last Events x text e = absurd (let q : _≡_ {A = ℕ} 0 1 = cc in omega arith)
+refused-last Ended x text e = refl
+
+ended-closed : (s : Stream) → isEnded (s .place .stage) ≡ true → closed s .stream .place .executive ≡ s .place .executive
+unfolding closed
+ended-closed s e = refused-last (s .place .stage) (s .place) (take (s .place .count) (s .held)) e
+
+module _ (s : Stream) (k : FedOn begun s) where
+  so-far : s .place .executive .inner ≡ fedAll begun (k .read) .stream .place .executive .inner
+  so-far = ap (λ (x : Stream). x .place .executive .inner) (k .is)
+
+  whole : closed s .stream .place .executive .inner ≡ replayedRecord (k .read)
+  whole = ap (λ (x : Stream). closed x .stream .place .executive .inner) (k .is) ∙ stream-record (k .read)
+
+  last-record : (n : End) → (n ≡ Table → isEnded (s .place .stage) ≡ true) → lastOf n s .place .executive .inner ≡ recordAfter n (k .read)
+  last-record Going h = so-far
+  last-record Input h = whole
+  last-record Table h = sym (ap (λ (x : Executive). x .inner) (ended-closed s (h refl))) ∙ whole
+  last-record Unread h = so-far
+  last-record Unwritten h = so-far
+
+pub ends-after : (t : Turn) → ReadToEnd t → (last : Stream) → last ≡ lastStream t → (e : Executive) → e ≡ last .place .executive → AfterInput (record { executive = e; end = t .end })
+ends-after t h last is e own =
+    let g = reads-go (h .count) t (h .reads) in
+    record {
+      read = g .fed .read;
+      is = ap (λ (x : Executive). x .inner) own ∙ ap (λ (x : Stream). x .place .executive .inner) is ∙ last-record (t .stream) (g .fed) (t .end) (g .table);
+    }
+
+-- ---------------------------------------------------------------- the last line
+module _ (s : Stream) (out : List ℕ) (a : Advance) (went : a ≡ finishedOf s (length out)) where
   pub last-within : (out′ : List ℕ) → out′ ≡ over (finished s (length out) .text) out → a .printed ≤ length out′
   last-within out′ stored =
       let text = finished s (length out) .text in
       omega (arith, ap (λ (x : Advance). x .printed) went, ap length stored ∙ length-append text (drop (length text) out))
 
-  pub ends-after : ReadOn begun s → lineLength ≤ length out → (e : Executive) → e ≡ a .stream .place .executive → AfterInput (e .inner)
-  ends-after h enough e own = record {
-    read = h .read;
-    is =
-        ap (λ (x : Executive). x .inner) own
-        ∙ ap (λ (x : Advance). x .stream .place .executive .inner) went
-        ∙ ap (λ (x : Stream). x .place .executive .inner) (finished-closed s (length out) enough)
-        ∙ ap (λ (x : Stream). closed x .stream .place .executive .inner) (h .is)
-        ∙ stream-record (h .read);
-  }
+  pub last-closed : lineLength ≤ length out → a .stream ≡ closed s .stream
+  last-closed enough = ap (λ (x : Advance). x .stream) went ∙ finished-closed s (length out) enough
 
--- between two reads: the stream so far, and two buffers of one size
-pub record Reading (s : Stream) (input₀ out₀ input out : List ℕ) : Type 0 where
-  pub read : ReadOn begun s
+-- ---------------------------------------------------------------- the loop
+-- between two reads: so many are made, reading goes on, and the buffers have their size
+pub record Reading (input₀ out₀ : List ℕ) (turns₀ : ℕ) (t : Turn) (input out : List ℕ) (turns : ℕ) : Type 0 where
+  pub few : turns ≤ turns₀
+  pub reads : Reads (turns₀ - turns) t
+  pub going : isGoing (t .end) ≡ true
   pub size-in : length input ≡ length input₀
   pub size-out : length out ≡ length out₀
+
+pub reading-begins : (input out : List ℕ) (turns : ℕ) (s : Stream) → s ≡ begun → Reading input out turns (record { stream = s; end = Going }) input out turns
+reading-begins input out turns s e =
+    let none : turns - turns ≡ 0 = omega arith in
+    record { few = omega arith; reads = rw (none, e) before; going = refl; size-in = refl; size-out = refl }
+
+module _ (input₀ out₀ : List ℕ) (turns₀ : ℕ) (t : Turn) (input out : List ℕ) (turns : ℕ) (k : Reading input₀ out₀ turns₀ t input out turns) where
+  -- the turns are used up
+  pub reading-stops : turns ≤ 0 → turns₀ ≡ 18446744073709551615 → ReadToEnd t
+  reading-stops h most = record { count = turns₀ - turns; reads = k .reads; all = λ _. omega arith }
+
+  module _ (more : 0 < turns) (u : Turn) (once : ReadOnce (t .stream) u) where
+    once-more : Reads (turns₀ - (turns - 1)) u
+    once-more = let n : turns₀ - (turns - 1) ≡ suc (turns₀ - turns) = omega (arith, k .few) in rw n (next (turns₀ - turns) t u (k .reads) (k .going) once)
+
+    pub reading-goes : isGoing (u .end) ≡ true → (input′ out′ : List ℕ) → length input′ ≡ length input → length out′ ≡ length out → Reading input₀ out₀ turns₀ u input′ out′ (turns - 1)
+    reading-goes g input′ out′ a b = record { few = omega (arith, k .few); reads = once-more; going = g; size-in = a ∙ k .size-in; size-out = b ∙ k .size-out }
+
+    pub reading-ends : isGoing (u .end) ≡ false → ReadToEnd u
+    reading-ends g = record { count = turns₀ - (turns - 1); reads = once-more; all = λ e. not-both (isGoing (u .end)) e g }

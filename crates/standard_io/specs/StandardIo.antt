@@ -1,18 +1,100 @@
--- What is read is free, and what is given back is settled by it.
+-- What the system gives is free: what a read answers, the bytes that it leaves in the buffer, whether a write succeeds. The rest is settled by it.
+use Prim.Native.Nat.{ℕ, suc, min}
 use mathlib.Core.Path.{_≡_}
+use mathlib.Core.Bool.{Bool, true, false, cond, not, _&&_}
 use mathlib.Core.List.{List}
-use Prim.Native.Nat.{ℕ}
+use lib.ListN.{take}
+use lib.Dec.{eqb}
+use lib.IntN.{ℤ, pos, negsuc}
 use Rattle.machine.specs.declared.Module.{Module}
 use Rattle.machine.specs.Replay.{replayedRecord}
 use Rattle.stream.specs.declared.Stream.{Stream}
-use Rattle.stream.specs.Stream.{fedAll}
+use Rattle.stream.specs.Stream.{begun, isEnded, closed, fedAll}
+use Rattle.standard_io.specs.declared.Got.{Got}
+use Rattle.standard_io.specs.declared.Got.the-variants.{Bytes, Nothing, Failure}
+use Rattle.standard_io.specs.declared.End.{End}
+use Rattle.standard_io.specs.declared.End.the-variants.{Going, Input, Table, Unread, Unwritten}
+use Rattle.standard_io.specs.declared.Shown.{Shown}
+use Rattle.standard_io.specs.declared.Turn.{Turn}
+use Rattle.standard_io.specs.declared.Replayed.{Replayed}
 
--- the stream s goes on to r by the bytes read
-pub record ReadOn (s r : Stream) : Type 0 where
-  pub read : List ℕ
-  pub is : r ≡ fedAll s read .stream
+-- what the answer of a read means: so many bytes at the front of a buffer of this length, at 0 the input's end, below 0 a failure
+abbrev pub gotOf : ℤ → ℕ → Got
+gotOf (pos n) most = cond (eqb n 0) Nothing (Bytes (min n most))
+gotOf (negsuc n) most = Failure
 
--- the record after the input read
-pub record AfterInput (m : Module) : Type 0 where
+abbrev pub byteCount : Got → ℕ
+byteCount (Bytes n) = n
+byteCount Nothing = 0
+byteCount Failure = 0
+
+-- how many of the bytes printed are written
+abbrev pub writtenCount : Bool → ℕ → ℕ
+writtenCount prints n = cond prints n 0
+
+-- after a chunk reading goes on, unless a write failed or the table is refused
+abbrev pub endAfter : Bool → Bool → End
+endAfter written refused = cond written (cond refused Table Going) Unwritten
+
+abbrev pub afterShown : Shown → Turn
+afterShown p = record { stream = p .stream; end = endAfter (p .written) (isEnded (p .stream .place .stage)) }
+
+-- the stream and why reading ended, if it did, after a read that left these bytes in the buffer, and writes that succeeded or not
+abbrev pub afterRead : Stream → Got → List ℕ → Bool → Turn
+afterRead s (Bytes n) bytes written = afterShown (record { stream = fedAll s (take n bytes) .stream; written = written })
+afterRead s Nothing bytes written = record { stream = s; end = Input }
+afterRead s Failure bytes written = record { stream = s; end = Unread }
+
+-- what a read gave was taken; whether the writes succeeded is free
+pub record TookRead (s : Stream) (got : Got) (bytes : List ℕ) (r : Turn) : Type 0 where
+  pub written : Bool
+  pub is : r ≡ afterRead s got bytes written
+
+-- one read; its answer and the bytes are free too
+pub record ReadOnce (s : Stream) (r : Turn) : Type 0 where
+  pub got : Got
+  pub bytes : List ℕ
+  pub took : TookRead s got bytes r
+
+abbrev pub isGoing : End → Bool
+isGoing Going = true
+isGoing Input = false
+isGoing Table = false
+isGoing Unread = false
+isGoing Unwritten = false
+
+-- so many reads, one after another as long as reading goes on
+pub data Reads : ℕ → Turn → Type 0 where
+  before : Reads 0 (record { stream = begun; end = Going })
+  next : (n : ℕ) (t u : Turn) → Reads n t → isGoing (t .end) ≡ true → ReadOnce (t .stream) u → Reads (suc n) u
+
+-- reading goes on until it ends; more than 2^64 − 1 reads are not made
+pub record ReadToEnd (r : Turn) : Type 0 where
+  pub count : ℕ
+  pub reads : Reads count r
+  pub all : isGoing (r .end) ≡ true → count ≡ 18446744073709551615
+
+-- at the input's end the bytes after the last LF are a line; a line that a failure cut is none
+abbrev pub lastOf : End → Stream → Stream
+lastOf Going s = s
+lastOf Input s = closed s .stream
+lastOf Table s = s
+lastOf Unread s = s
+lastOf Unwritten s = s
+
+abbrev pub lastStream : Turn → Stream
+lastStream t = lastOf (t .end) (t .stream)
+
+-- the record after the bytes read: at the input's end and after a refused table that of the whole input; else that of the lines that are
+-- complete, since a line that a failure cut is no line of the input
+abbrev pub recordAfter : End → List ℕ → Module
+recordAfter Going read = fedAll begun read .stream .place .executive .inner
+recordAfter Input read = replayedRecord read
+recordAfter Table read = replayedRecord read
+recordAfter Unread read = fedAll begun read .stream .place .executive .inner
+recordAfter Unwritten read = fedAll begun read .stream .place .executive .inner
+
+-- a replay of the bytes read
+pub record AfterInput (r : Replayed) : Type 0 where
   pub read : List ℕ
-  pub is : m ≡ replayedRecord read
+  pub is : r .executive .inner ≡ recordAfter (r .end) read

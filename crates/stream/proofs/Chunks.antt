@@ -2,23 +2,24 @@
 use Prim.Native.Nat.{ℕ, _+_, _-_, _≤_, _<_, min}
 use native.Mathlib.Nat.{min-eq-left, min-eq-right}
 use mathlib.Core.Path.{_≡_, refl, sym, ap, _∙_}
-use mathlib.Core.Bool.{Bool, true, false, cond}
+use mathlib.Core.Bool.{Bool, true, false, cond, and-false}
 use mathlib.Core.List.{List, [], _∷_, _++_}
 use native.Mathlib.Omega.{arith}
 use native.Mathlib.Numerals.{add-one}
 use lib.ListN.{length, getD, take, drop, set, length-append, length-set, take-append-drop, drop-of-length-le}
 use lib.Seq.{take-all, drop-cons, length-take-le, set-out}
 use lib.Dec.{leb, ltb}
-use borrow.Author.Tests.{le-leb, leb-true, leb-false, ltb-false}
+use borrow.Author.Tests.{le-leb, leb-true, leb-false, ltb-false, le-ltb}
 use Rattle.machine.specs.declared.Numbers.{Numbers}
 use Rattle.machine.specs.Limits.{lineLength}
+use Rattle.machine.specs.Line.{lineRefusal}
 use Rattle.machine.proofs.Bounds.{either}
 use Rattle.machine.proofs.Tests.{by-test}
 use Rattle.event_lines.specs.Blocks.{over, overAt}
 use Rattle.event_lines.proofs.Blocks.{over-length, over-more, line-short}
 use Rattle.stream.specs.declared.Printout.{Printout}
 use Rattle.stream.specs.declared.Stream.{Stream}
-use Rattle.stream.specs.Stream.{heldLimit, at, turn, textOf, said, oneMore, put, due, Fed, feed, Run, run, advanceOf, closed, finished}
+use Rattle.stream.specs.Stream.{heldLimit, at, turn, textOf, said, oneMore, put, due, Fed, feed, Run, run, leftCode, advanced, last, closed, isStuck, finished, finishedOf}
 use Rattle.stream.proofs.Turns.{Prints}
 
 -- ---------------------------------------------------------------- what is held
@@ -120,20 +121,22 @@ stops s room [] h = refl
 stops s room (b ∷ bs) h = either (leb lineLength room) (λ t. absurd (let e = ap length (h t) in omega arith)) (λ t. rw t)
 
 module _ (s₀ : Stream) (chunk out₀ : List ℕ) (s : Stream) (i to : ℕ) (out : List ℕ) (k : Advancing s₀ chunk out₀ s i to out) where
-  ended : (leb lineLength (length out - to) ≡ true → drop i chunk ≡ [])
-      → (record { stream = s; taken = i; printed = to } ≡ advanceOf (run s₀ (length out₀) chunk)) × (out ≡ over (run s₀ (length out₀) chunk .text) out₀)
-  ended h =
+  abbrev Given : ℕ → Type 0
+  Given code = (record { stream = s; taken = i; printed = to; code = code } ≡ advanced s₀ (length out₀) chunk) × (out ≡ over (run s₀ (length out₀) chunk .text) out₀)
+
+  ended : (leb lineLength (length out - to) ≡ true → drop i chunk ≡ []) → (code : ℕ) → code ≡ leftCode (ltb i (length chunk)) → Given code
+  ended h code left =
       let e = stops s (length out - to) (drop i chunk) h in
       let a : s ≡ run s₀ (length out₀) chunk .stream = rw e at (k .stream) in
       let b : i ≡ run s₀ (length out₀) chunk .taken = omega (arith, k .taken, ap (λ (r : Run). r .taken) e) in
       let c : to ≡ length (run s₀ (length out₀) chunk .text) = omega (arith, k .count, ap (λ (r : Run). length (r .text)) e) in
-      (rw (← a, ← b, ← c), sym (take-append-drop to out) ∙ (rw e at (k .text)))
+      (rw (left, ← a, ← b, ← c), sym (take-append-drop to out) ∙ (rw e at (k .text)))
 
   -- the chunk is taken whole, or there is no room for a line
-  pub all-taken : length chunk ≤ i → (record { stream = s; taken = i; printed = to } ≡ advanceOf (run s₀ (length out₀) chunk)) × (out ≡ over (run s₀ (length out₀) chunk .text) out₀)
+  pub all-taken : length chunk ≤ i → (code : ℕ) → code ≡ leftCode (ltb i (length chunk)) → Given code
   all-taken h = ended (λ t. drop-of-length-le chunk {i = i} h)
 
-  pub no-room : length out - to < lineLength → (record { stream = s; taken = i; printed = to } ≡ advanceOf (run s₀ (length out₀) chunk)) × (out ≡ over (run s₀ (length out₀) chunk .text) out₀)
+  pub no-room : length out - to < lineLength → (code : ℕ) → code ≡ leftCode (ltb i (length chunk)) → Given code
   no-room h = ended (λ t. absurd (let q = leb-true lineLength (length out - to) t in omega arith))
 
   -- so many bytes more, for which a text is printed
@@ -170,13 +173,23 @@ module _ (s₀ : Stream) (chunk out₀ : List ℕ) (s : Stream) (i to : ℕ) (ou
         (goes-further 1 (feed s b .text) (feed s b .stream) (omega arith) (omega (arith, feed-short s b, k .room)) (feed-length s b (k .held)) unfolded))
 
 -- ---------------------------------------------------------------- the last line
-pub finish-done : (s : Stream) (out after : List ℕ) (r k : ℕ) (y : Printout) → length (s .held) ≡ heldLimit → r ≡ min (s .place .count) heldLimit → y ≡ turn true (s .place) (take r (s .held)) → lineLength ≤ length out
-    → Prints out 0 (y .prints) (y .numbers) k after
-    → (record { stream = record { place = y .place; held = s .held }; taken = 0; printed = k } ≡ advanceOf (finished s (length out))) × (after ≡ over (finished s (length out) .text) out)
-unfolding finished closed
-finish-done s out after r k y h m c room q =
-    let e : turn true (s .place) (take (s .place .count) (s .held)) ≡ y = ap (turn true (s .place)) (sym (take-held (s .held) (s .place .count) r h m)) ∙ sym c in
-    rw (le-leb lineLength (length out) room, e) (rw (← q .0), q .1)
+module _ (s : Stream) (out : List ℕ) (r : ℕ) (y : Printout) (h : length (s .held) ≡ heldLimit) (m : r ≡ min (s .place .count) heldLimit) (c : y ≡ turn true (s .place) (take r (s .held))) where
+  is-last : last s ≡ y
+  is-last = ap (turn true (s .place)) (sym (take-held (s .held) (s .place .count) r h m)) ∙ sym c
+
+  pub finish-stuck : isStuck (y .prints) (length out) ≡ true
+      → (record { stream = s; taken = 0; printed = 0; code = lineRefusal } ≡ finishedOf s (length out)) × (out ≡ over (finished s (length out) .text) out)
+  unfolding finished
+  finish-stuck t = rw (is-last, t) (refl, refl)
+
+  pub finish-done : isStuck (y .prints) (length out) ≡ false → (after : List ℕ) (k : ℕ) → Prints out 0 (y .prints) (y .numbers) k after
+      → (record { stream = record { place = y .place; held = s .held }; taken = 0; printed = k; code = 0 } ≡ finishedOf s (length out)) × (after ≡ over (finished s (length out) .text) out)
+  unfolding finished closed
+  finish-done t after k q = rw (is-last, t) (rw (← q .0), q .1)
+
+-- what is printed has room
+pub prints-fit : (b : Bool) (room : ℕ) → isStuck b room ≡ false → b ≡ true → lineLength ≤ room
+prints-fit b room t e = ltb-false room lineLength (rw e at t)
 
 -- where a chunk's byte count fits, so does the next position
 pub printed-fits : (out : List ℕ) (to k : ℕ) (b : Bool) (n : Numbers) → k ≡ length (textOf b n) → lineLength ≤ length out - to → to ≤ length out → to + k ≤ length out
@@ -186,11 +199,11 @@ printed-fits out to k b n e h r = omega (arith, text-short b n)
 pub finished-room : (s : Stream) (room : ℕ) → length (finished s room .text) ≤ room
 unfolding finished closed
 finished-room s room =
-    let y = turn true (s .place) (take (s .place .count) (s .held)) in
-    either (leb lineLength room)
-    (λ t. let h : lineLength ≤ room = leb-true lineLength room t in rw t (omega (arith, text-short (y .prints) (y .numbers))))
+    let y = last s in
+    either (isStuck (y .prints) room)
     (λ t. rw t (omega arith))
+    (λ t. rw t (by-test (λ (l : List ℕ). length l ≤ room) (y .prints) (λ p. let h = prints-fit (y .prints) room t p in omega (arith, line-short (y .numbers))) (λ p. omega arith)))
 
 pub finished-closed : (s : Stream) (room : ℕ) → lineLength ≤ room → finished s room .stream ≡ closed s .stream
 unfolding finished
-finished-closed s room h = rw (le-leb lineLength room h)
+finished-closed s room h = rw (le-ltb room lineLength h, and-false)

@@ -5,13 +5,14 @@ use mathlib.Core.Bool.{Bool, true, false}
 use mathlib.Core.List.{List, [], _∷_, _++_, append-assoc}
 use native.Mathlib.Omega.{arith}
 use lib.ListN.{length, take, drop, length-append, take-append-drop}
-use lib.Dec.{leb}
-use borrow.Author.Tests.{le-leb, leb-true}
+use lib.Dec.{leb, ltb}
+use borrow.Author.Tests.{le-leb, leb-true, leb-false, ltb-true, ltb-false}
 use Rattle.machine.specs.Limits.{lineLength}
+use Rattle.machine.specs.Line.{lineRefusal}
 use Rattle.machine.specs.Replay.{replayed, replayedRecord}
-use Rattle.machine.proofs.Bounds.{either}
+use Rattle.machine.proofs.Bounds.{either, and-true-parts}
 use Rattle.stream.specs.declared.Stream.{Stream}
-use Rattle.stream.specs.Stream.{begun, Fed, feed, Run, run, closed, fedAll, streamed, streamEnd, Piece, Taken, pieces}
+use Rattle.stream.specs.Stream.{begun, Fed, feed, Run, run, advanced, last, closed, isStuck, finished, finishedOf, fedAll, streamed, streamEnd, Piece, Taken, pieces}
 use Rattle.stream.proofs.Chunks.{feed-short}
 use Rattle.stream.proofs.Whole.{stream-printed, stream-record}
 
@@ -68,6 +69,50 @@ run-room s room (b ∷ bs) =
     rw t (omega (arith, run-room (feed s b .stream) (room - length (feed s b .text)) bs, feed-short s b, length-append (feed s b .text) (run (feed s b .stream) (room - length (feed s b .text)) bs .text))))
     (λ t. rw t (omega arith))
 
+-- bytes are left only where there is no room for a line
+run-stops : (s : Stream) (room : ℕ) (bs : List ℕ) → run s room bs .taken < length bs → room - length (run s room bs .text) < lineLength
+unfolding run
+run-stops s room [] h = absurd (omega arith)
+run-stops s room (b ∷ bs) h =
+    either (leb lineLength room)
+    (λ t.
+    let f = feed s b in
+    let r = run (f .stream) (room - length (f .text)) bs in
+    let more : suc (r .taken) < length (b ∷ bs) = rw t at h in
+    rw t (omega (arith, run-stops (f .stream) (room - length (f .text)) bs (omega arith), length-append (f .text) (r .text))))
+    (λ t. rw t (omega (arith, leb-false lineLength room t)))
+
+-- ---------------------------------------------------------------- the code
+-- 0: the chunk is taken whole
+pub advanced-whole : (s : Stream) (room : ℕ) (bs : List ℕ) → advanced s room bs .code ≡ 0 → advanced s room bs .taken ≡ length bs
+advanced-whole s room bs h =
+    either (ltb (run s room bs .taken) (length bs))
+    (λ t. absurd (let q = rw t at h in omega arith))
+    (λ t. omega (arith, ltb-false (run s room bs .taken) (length bs) t, run-within s room bs))
+
+-- else 11: bytes are left, and there is no room for a line
+pub advanced-short : (s : Stream) (room : ℕ) (bs : List ℕ) → (advanced s room bs .code ≡ 0 → ⊥)
+    → (advanced s room bs .code ≡ lineRefusal) × (advanced s room bs .taken < length bs) × (room - advanced s room bs .printed < lineLength)
+advanced-short s room bs h =
+    either (ltb (run s room bs .taken) (length bs))
+    (λ t. let less = ltb-true (run s room bs .taken) (length bs) t in (rw t, less, run-stops s room bs less))
+    (λ t. absurd (h (rw t)))
+
+-- 0: the last line is printed, if there is one
+pub finished-whole : (s : Stream) (room : ℕ) → finishedOf s room .code ≡ 0 → finished s room ≡ record { stream = closed s .stream; taken = 0; text = closed s .text }
+unfolding finished
+finished-whole s room h = either (isStuck (last s .prints) room) (λ t. absurd (let q = rw t at h in omega arith)) (λ t. rw t)
+
+-- else 11: one is to be printed, there is no room for it, and nothing is done
+pub finished-short : (s : Stream) (room : ℕ) → (finishedOf s room .code ≡ 0 → ⊥)
+    → (finishedOf s room .code ≡ lineRefusal) × (last s .prints ≡ true) × (room < lineLength) × (finished s room ≡ record { stream = s; taken = 0; text = [] })
+unfolding finished
+finished-short s room h =
+    either (isStuck (last s .prints) room)
+    (λ t. let p = and-true-parts (last s .prints) (ltb room lineLength) t in (rw t, p .0, ltb-true room lineLength (p .1), rw t))
+    (λ t. absurd (h (rw t)))
+
+-- ---------------------------------------------------------------- pieces
 -- the rest of a chunk goes on from there
 pub fed-rest : (s : Stream) (room : ℕ) (bs : List ℕ) → fedAll (run s room bs .stream) (drop (run s room bs .taken) bs) .stream ≡ fedAll s bs .stream
 fed-rest s room bs =

@@ -137,16 +137,34 @@ run s room (b ∷ bs) =
     let r = run (f .stream) (room - length (f .text)) bs in
     cond (leb lineLength room) (record { stream = r .stream; taken = suc (r .taken); text = f .text ++ r .text }) (record { stream = s; taken = 0; text = [] })
 
-abbrev pub advanceOf : Run → Advance
-advanceOf r = record { stream = r .stream; taken = r .taken; printed = length (r .text) }
+-- 11 where something is left for which there is no room
+abbrev pub leftCode : Bool → ℕ
+leftCode left = cond left lineRefusal 0
+
+abbrev pub advanceOf : Run → Bool → Advance
+advanceOf r left = record { stream = r .stream; taken = r .taken; printed = length (r .text); code = leftCode left }
+
+-- what is left of a chunk are its last bytes
+abbrev pub advanced : Stream → ℕ → List ℕ → Advance
+advanced s room chunk = let r = run s room chunk in advanceOf r (ltb (r .taken) (length chunk))
 
 -- the last line
-unfoldable pub closed : Stream → Fed
-closed s = said s (turn true (s .place) (take (s .place .count) (s .held)))
+abbrev pub last : Stream → Printout
+last s = turn true (s .place) (take (s .place .count) (s .held))
 
--- where there is room for one
+unfoldable pub closed : Stream → Fed
+closed s = said s (last s)
+
+-- it is to be printed, and there is no room for a line
+abbrev pub isStuck : Bool → ℕ → Bool
+isStuck prints room = prints && ltb room lineLength
+
+-- nothing is done then
 unfoldable pub finished : Stream → ℕ → Run
-finished s room = cond (leb lineLength room) (record { stream = closed s .stream; taken = 0; text = closed s .text }) (record { stream = s; taken = 0; text = [] })
+finished s room = cond (isStuck (last s .prints) room) (record { stream = s; taken = 0; text = [] }) (record { stream = closed s .stream; taken = 0; text = closed s .text })
+
+abbrev pub finishedOf : Stream → ℕ → Advance
+finishedOf s room = advanceOf (finished s room) (isStuck (last s .prints) room)
 
 -- ---------------------------------------------------------------- a whole input
 -- all its bytes

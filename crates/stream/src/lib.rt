@@ -1,6 +1,6 @@
 // Replay of an input that comes in chunks of any size, in constant memory.
 ghost use mathlib.Core.Path.{_≡_};
-ghost use mathlib.Core.Bool.{cond, not, _&&_};
+ghost use mathlib.Core.Bool.{true, cond, not, _&&_};
 ghost use mathlib.Core.List.{[], _++_};
 ghost use Prim.Native.Nat.{_+_, _-_, _≤_, min};
 ghost use lib.ListN.{length, take, drop, set};
@@ -8,7 +8,7 @@ ghost use lib.Dec.{ltb};
 ghost use Rattle.machine.specs.declared.Numbers.{Numbers};
 ghost use Rattle.machine.specs.Limits.{lineLength};
 ghost use Rattle.machine.specs.Line.{numbersOf};
-ghost use Rattle.stream.specs.Stream.{heldLimit, begun, nothingPrinted, refusal, missing, accepted, tableTurn, eventTurn, eventsTurn, turn, textOf, oneMore, due, isBetween, isEnded, run, advanceOf, finished};
+ghost use Rattle.stream.specs.Stream.{heldLimit, begun, nothingPrinted, refusal, missing, accepted, tableTurn, eventTurn, eventsTurn, turn, textOf, oneMore, due, isBetween, isEnded, leftCode, isStuck, run, advanced, finished, finishedOf};
 ghost use Rattle.event_lines.specs.Blocks.{over};
 use executive::Executive;
 use executive::Opening;
@@ -40,11 +40,13 @@ pub struct Stream {
     held: [u8; HELD],
 }
 
-// What a stream took of a chunk and printed at the front of an output.
+// What a stream took of a chunk and printed at the front of an output. The code is 0, or 11 where something is left for which the
+// output has no room: bytes of the chunk, or the last line.
 pub struct Advance {
     pub stream: Stream,
     pub taken: usize,
     pub printed: usize,
+    pub code: u8,
 }
 
 // Where a line leads, and the numbers that it prints, if it does.
@@ -241,13 +243,27 @@ fn hold_line(held: &mut [u8; HELD], chunk: &[u8], end: usize)
 // ---------------------------------------------------------------- output
 // Prints a line at a position of the output: how many bytes it has.
 fn print(out: &mut [u8], to: usize, prints: bool, numbers: Numbers) -> usize
-    requires { ⌜ to + lineLength ≤ length (now out) ⌝ }
+    requires { ⌜ (prints ≡ true → to + lineLength ≤ length (now out)) ⌝ }
     ensures { λ n. ⌜ (n ≡ length (textOf prints numbers)) × (now (out .exit) ≡ take to (now (out .entry)) ++ over (textOf prints numbers) (drop to (now (out .entry)))) ⌝ }
 {
     if !prints {
         return 0;
     }
     event_lines::print_line(out, to, numbers)
+}
+
+// 11 where something is left for which there is no room.
+fn left_code(left: bool) -> u8
+    ensures { λ r. ⌜ r ≡ leftCode left ⌝ }
+{
+    if left { REFUSED } else { 0 }
+}
+
+// Whether a line is to be printed, and there is no room for one.
+fn is_stuck(prints: bool, room: usize) -> bool
+    ensures { λ b. ⌜ b ≡ isStuck prints room ⌝ }
+{
+    prints && room < Module::LINE
 }
 
 impl Stream {
@@ -268,10 +284,10 @@ impl Stream {
         }
     }
 
-    // Takes bytes of a chunk, as long as the output has room for a line, and prints at the front of the output. Between two lines a
-    // block of good ones is taken out of the chunk as it lies; a byte at a time elsewhere.
+    // Takes bytes of a chunk, as long as the output has room for a line, and prints at the front of the output; 11 where bytes are left.
+    // Between two lines a block of good ones is taken out of the chunk as it lies; a byte at a time elsewhere.
     pub fn advance(self, chunk: &[u8], out: &mut [u8]) -> Advance
-        ensures { λ r. ⌜ (r ≡ advanceOf (run self (length (now (out .entry))) (now (chunk .entry)))) × (now (out .exit) ≡ over (run self (length (now (out .entry))) (now (chunk .entry)) .text) (now (out .entry))) ⌝ }
+        ensures { λ r. ⌜ (r ≡ advanced self (length (now (out .entry))) (now (chunk .entry))) × (now (out .exit) ≡ over (run self (length (now (out .entry))) (now (chunk .entry)) .text) (now (out .entry))) ⌝ }
     {
         let mut held = self.held;
         let mut x = self.place;
@@ -308,24 +324,26 @@ impl Stream {
             stream: Stream { place: x, held },
             taken: at,
             printed: to,
+            code: left_code(at < chunk.len()),
         }
     }
 
-    // The input has ended: prints the last line, where the output has room for one.
+    // The input has ended: prints the last line; 11, and nothing is done, where one is to be printed and the output has no room for it.
     pub fn finish(self, out: &mut [u8]) -> Advance
-        ensures { λ r. ⌜ (r ≡ advanceOf (finished self (length (now (out .entry))))) × (now (out .exit) ≡ over (finished self (length (now (out .entry))) .text) (now (out .entry))) ⌝ }
+        ensures { λ r. ⌜ (r ≡ finishedOf self (length (now (out .entry)))) × (now (out .exit) ≡ over (finished self (length (now (out .entry))) .text) (now (out .entry))) ⌝ }
     {
-        if out.len() < Module::LINE {
-            return Advance {
-                stream: self,
-                taken: 0,
-                printed: 0,
-            };
-        }
         let x = self.place;
         let held = self.held;
         let n = held_count(x.count);
         let y = turn_of(true, x, &held[..n]);
+        if is_stuck(y.prints, out.len()) {
+            return Advance {
+                stream: self,
+                taken: 0,
+                printed: 0,
+                code: REFUSED,
+            };
+        }
         let numbers = y.numbers;
         let printed = print(out, 0, y.prints, numbers);
         let place = y.place;
@@ -333,6 +351,7 @@ impl Stream {
             stream: Stream { place, held },
             taken: 0,
             printed,
+            code: 0,
         }
     }
 

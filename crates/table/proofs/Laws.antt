@@ -18,11 +18,12 @@ use Rattle.machine.specs.declared.Table.{Table}
 use Rattle.machine.specs.Limits.{lineLength}
 use Rattle.machine.specs.Windows.{noWindow, windows, flaggedFor}
 use Rattle.machine.specs.Fields.{rowOf}
-use Rattle.machine.specs.Line.{readLine, lines, lineRefusal, lineEnd, readAt}
+use Rattle.machine.specs.Line.{readLine, meaning, lineMeaning, lines, lineRefusal, lineEnd, readAt}
 use Rattle.machine.specs.Table.{headGood, headDraft, rowGood, withRow, hasFlagged, flaggedFrom, refusedTable, checkedTable, tableFrom, tableHead, tableOf, readTable}
 use Rattle.machine.proofs.Bounds.{either}
 use Rattle.machine.proofs.Taken.{taken-more, taken-done}
 use Rattle.machine.proofs.TextInput.{line-at, lines-end, six-end}
+use Rattle.line.proofs.Meaning.{reads}
 use Rattle.line.proofs.Parts.{part-is}
 use Rattle.table.specs.Room.{Room}
 use Rattle.machine.proofs.Tables.{SoundDraft, head-draft, row-draft}
@@ -109,8 +110,8 @@ module _ (input : List ℕ) (at : ℕ) where
       (λ t. rw (none-left (ltb-false _ _ t)) f)
 
 -- what a part of the input reads as
-pub part-read : (input : List ℕ) (at : ℕ) (l : Line) → l ≡ readLine (take (at + lineLength - at) (drop at input)) → (m : Line) → l ≡ m → readAt input at ≡ m
-part-read input at l e m f = sym (e ∙ ap readLine (part-is at lineLength input)) ∙ f
+pub part-read : (input : List ℕ) (at : ℕ) (l : Line) → meaning l ≡ lineMeaning (take (at + lineLength - at) (drop at input)) → (m : Line) → l ≡ m → readAt input at ≡ m
+part-read input at l e m f = sym (reads l _ e ∙ ap readLine (part-is at lineLength input)) ∙ f
 
 -- line 1
 module _ (input : List ℕ) where

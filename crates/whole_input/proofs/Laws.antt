@@ -1,5 +1,5 @@
 -- What the loops over the lines of an input keep, and what a replay gives back. Assumes nothing.
-use Prim.Native.Nat.{ℕ, zero, suc, _+_, _-_, _*_, _/_, _≤_, _<_}
+use Prim.Native.Nat.{ℕ, zero, suc, _+_, _-_, _*_, _/_, _≤_, _<_, min}
 use mathlib.Core.Path.{_≡_, refl, sym, ap, _∙_}
 use mathlib.Core.Bool.{true}
 use mathlib.Core.List.{List, [], _∷_, _++_, append-assoc, append-nil}
@@ -9,7 +9,7 @@ use lib.ListN.{length, take, drop, length-append, length-drop, length-map, take-
 use lib.Seq.{drop-drop, length-take-le}
 use lib.Dec.{leb}
 use lib.IntN.{ℤ}
-use borrow.Author.Tests.{eq-eqb, ne-eqb, le-leb, lt-leb}
+use borrow.Author.Tests.{eq-eqb, ne-eqb, le-leb, lt-leb, leb-true}
 use Rattle.machine.specs.declared.Module.{Module}
 use Rattle.machine.specs.declared.Event.{Event}
 use Rattle.machine.specs.declared.Line.{Line}
@@ -23,11 +23,11 @@ use Rattle.machine.specs.Table.{readTable}
 use Rattle.machine.specs.TwoRuns.{replies}
 use Rattle.machine.specs.Replay.{eventOf, answerNumbers, lineAnswer, lineNext, texts, refusalNumbers, badTableLine, replayed, replayedInto}
 use Rattle.machine.specs.Valid.{ValidModule, Reached}
-use Rattle.machine.proofs.Bounds.{either}
+use Rattle.machine.proofs.Bounds.{either, and-true-parts}
 use Rattle.machine.proofs.Reached.{reached-valid}
 use Rattle.machine.proofs.Replays.{answer-length, texts-length, line-valid, line-in-range}
 use Rattle.machine.proofs.TextInput.{line-at, lines-end, six-end}
-use Rattle.machine.proofs.TextLine.{line-length}
+use Rattle.machine.proofs.TextLine.{line-length, written-length}
 use Rattle.executive.specs.Executive.{opened}
 use Rattle.executive.specs.declared.Opening.{Opening}
 use Rattle.event_lines.specs.declared.Block.{Block}
@@ -37,7 +37,7 @@ use Rattle.event_lines.proofs.Blocks.{over-length, over-take, over-drop, over-m
 use Rattle.table.proofs.Laws.{linesFrom, none-left, one-left}
 use Rattle.table.proofs.Ends.{table-end}
 use Rattle.whole_input.specs.declared.Printed.{Printed}
-use Rattle.whole_input.specs.WholeInput.{done, noRoom, refusalPrinted, printed}
+use Rattle.whole_input.specs.WholeInput.{done, noRoom, refusalPrinted, Counts, shownLength, shownInto, printed}
 
 -- ---------------------------------------------------------------- the lines from a position on
 -- how many they are
@@ -74,7 +74,7 @@ module _ (input : List ℕ) (m : Module) (at : ℕ) where
   one-answer h = rw (one-left input at h)
 
 -- a line in range that has room, written into the middle of an output
-line-written : (out : List ℕ) (to : ℕ) (ns : List ℤ) → allInRange ns ≡ true → to + length (lineText ns) ≤ length out → writtenAt to out ns ≡ overAt to (lineText ns) out
+pub line-written : (out : List ℕ) (to : ℕ) (ns : List ℤ) → allInRange ns ≡ true → to + length (lineText ns) ≤ length out → writtenAt to out ns ≡ overAt to (lineText ns) out
 unfolding written
 line-written out to ns range fits = rw (le-leb (length (lineText ns)) (length (drop to out)) (omega (arith, length-drop to out)), range)
 
@@ -105,6 +105,32 @@ module _ (room code value w : ℕ) (e : w ≡ writeCode room (refusalNumbers cod
 
   pub refusal-no-room : (w ≡ 0 → ⊥) → noRoom ≡ refusalPrinted room code value
   refusal-no-room n = either (canWrite room (refusalNumbers code value)) (λ t. absurd (n (e ∙ rw t))) (λ t. rw t)
+
+-- what a program prints of a result
+counts : (n : ℕ) (out : List ℕ) → n ≤ length out → Counts n out
+counts n out h = (h, sym (length-take-le n out h))
+
+abbrev Shown : List ℕ → Printed → ℕ → List ℕ → Type 0
+Shown out r n after = ((n ≡ shownLength (length out) r) × (after ≡ shownInto out r)) × Counts n after
+
+module _ (out : List ℕ) (r : Printed) where
+  refusal-within : (p : Printed) → p ≡ refusalPrinted (length out) (r .code) (r .value) → p .length ≤ length out
+  refusal-within p e =
+      let ns = refusalNumbers (r .code) (r .value) in
+      either (canWrite (length out) ns)
+      (λ t.
+      let long = leb-true (length (lineText ns)) (length out) (and-true-parts (leb (length (lineText ns)) (length out)) (allInRange ns) t .0) in
+      rw (e, t) (omega (arith, long, line-length ns)))
+      (λ t. rw (e, t) (omega arith))
+
+  pub shown-refused : (r .code ≡ 0 → ⊥) → (p : Printed) → p ≡ refusalPrinted (length out) (r .code) (r .value) → (after : List ℕ) → after ≡ written out (refusalNumbers (r .code) (r .value)) → Shown out r (p .length) after
+  shown-refused bad p e after f =
+      let same : length after ≡ length out = ap length f ∙ written-length out (refusalNumbers (r .code) (r .value)) in
+      let test = ne-eqb (r .code) 0 bad in
+      ((ap (λ (x : Printed). x .length) e ∙ rw test, f ∙ rw test), counts (p .length) after (omega (arith, refusal-within p e, same)))
+
+  pub shown-text : r .code ≡ 0 → (n : ℕ) → n ≡ min (r .length) (length out) → n ≤ length out → Shown out r n out
+  shown-text good n e h = let test = eq-eqb (r .code) 0 good in ((e ∙ rw test, rw test), counts n out h)
 
 -- by what table reading gives
 module _ (input out : List ℕ) (o : Opening) (e : o ≡ opened (readTable input)) where

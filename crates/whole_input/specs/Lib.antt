@@ -1,1 +1,2 @@
 pub mod WholeInput
+pub mod WaitingTimes

@@ -2,7 +2,8 @@
 use mathlib.Core.Path.{_∙_, ap}
 use native.Mathlib.Omega.{arith}
 use Rattle.machine.specs.Limits.{lineLength}
-use Rattle.machine.specs.Line.{readLine}
+use Rattle.machine.specs.Line.{lineMeaning}
+use Rattle.line.proofs.Meaning.{means}
 use Rattle.line.proofs.Parts.{part-is}
 use Rattle.machine.proofs.TextInput.{few-left}
 use borrow.Author.Needs.{needs}
@@ -10,15 +11,15 @@ use Rattle.line.proofs.read_at.Statement.{statement}
 use Rattle.line.proofs.read_at.Tie as tie
 
 returns : tie.Need-returns
-returns c = few-left (c .before .before .args .input .now) (c .before .before .args .at) (omega arith)
+returns c = means _ _ (few-left (c .before .before .args .input .now) (c .before .before .args .at) (omega arith))
 
 returns-2 : tie.Need-returns-2
-returns-2 c = few-left (c .before .before .before .args .input .now) (c .before .before .before .args .at) (omega arith)
+returns-2 c = means _ _ (few-left (c .before .before .before .args .input .now) (c .before .before .before .args .at) (omega arith))
 
 returns-3 : tie.Need-returns-3
 returns-3 c =
     let start = c .before .before .before .before .before in
-    c .read .ensures ∙ ap readLine (part-is (start .args .at) lineLength (start .args .input .now))
+    c .read .ensures ∙ ap lineMeaning (part-is (start .args .at) lineLength (start .args .input .now))
 
 pub read-at-spec : {M : Type 1} → statement M
 read-at-spec =

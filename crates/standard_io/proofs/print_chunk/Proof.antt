@@ -2,30 +2,23 @@ use Prim.Native.Nat.{_-_}
 use native.Mathlib.Omega.{arith}
 use lib.ListN.{length}
 use borrow.Author.Needs.{needs}
-use Rattle.stream.proofs.Chunks.{held-length}
 use Rattle.line.proofs.Parts.{tail-is}
-use Rattle.stream.proofs.Stream.advance.Reads as advance-reads
 use Rattle.standard_io.proofs.Laws.{Taking, begins, ends, Turned, turned}
 use Rattle.standard_io.proofs.print_chunk.Statement.{statement}
 use Rattle.standard_io.proofs.print_chunk.Tie as tie
 use Rattle.standard_io.proofs.print_chunk.Reads as reads
 use Rattle.standard_io.proofs.print_chunk.Lts as lts
 use Rattle.standard_io.proofs.print.Reads as print-reads
+use Rattle.stream.proofs.Stream.advance.Reads as advance-reads
 
 abbrev Inv-loop : tie.InvT-loop
-Inv-loop chunk out₀ prints stream₀ more₀ at₀ out stream more at = Taking stream₀ chunk out₀ stream at out
+Inv-loop chunk out₀ prints stream₀ written₀ at₀ out stream written at = Taking stream₀ chunk out₀ stream at out
 
 abbrev μ-loop : tie.MeasureT-loop
-μ-loop chunk out₀ prints stream₀ more₀ at₀ out stream more at = length chunk - at
+μ-loop chunk out₀ prints stream₀ written₀ at₀ out stream written at = length chunk - at
 
 loop-holds : tie.Need-loop-holds Inv-loop μ-loop
 loop-holds c = begins _ _ _
-
-sub-advance : tie.Need-sub-advance Inv-loop μ-loop
-sub-advance c = omega (arith, c .loop-test .taken)
-
-part-advance-start : tie.Need-part-advance-start Inv-loop μ-loop
-part-advance-start c = omega (arith, c .loop-test .taken)
 
 -- after a call of advance
 abbrev Advanced : Type 0
@@ -39,11 +32,14 @@ turn c =
     turned _ _ _ _ _ _ (c .before .before .before .before .loop .inv) (c .before .before .before .loop-test .taken) (start c .pre)
     _ (tail-is (c .before .before .before .before .loop .at) (start c .args .chunk .now)) _ (c .advance .ensures .0) _ (c .advance .ensures .1)
 
-slice-reshare-prefix-print : tie.Need-slice-reshare-prefix-print Inv-loop μ-loop
-slice-reshare-prefix-print c = turn (c .before .before) .printed
+sub-advance : tie.Need-sub-advance Inv-loop μ-loop
+sub-advance c = omega (arith, c .loop-test .taken)
 
-slice-aggregate-print : tie.Need-slice-aggregate-print Inv-loop μ-loop
-slice-aggregate-print c = held-length _ _ (turn (c .before .before .before) .printed)
+part-advance-start : tie.Need-part-advance-start Inv-loop μ-loop
+part-advance-start c = omega (arith, c .loop-test .taken)
+
+print-requires : tie.Need-print-requires Inv-loop μ-loop
+print-requires c κs = turn (c .before .before .before) .printed
 
 add-at : tie.Need-add-at Inv-loop μ-loop
 add-at c = omega (arith, turn (c .before .before .before .before .before .before .before) .inside, c .before .before .before .before .before .before .before .before .before .before .before .before .before .before .good)
@@ -71,9 +67,7 @@ print-chunk-spec =
     part-advance-start
     (λ c. search needs)
     (λ c κs. search needs)
-    slice-reshare-prefix-print
-    slice-aggregate-print
-    (λ c κs. search needs)
+    print-requires
     add-at
     loop-less
     loop-again

@@ -7,6 +7,7 @@ use Rattle.machine.specs.Limits.{lineLength}
 use Rattle.machine.proofs.TextInput.{few-left}
 use Rattle.table.proofs.Laws.{first-refused, head-refused, head-taken}
 use borrow.Author.Needs.{needs}
+use Rattle.line.proofs.Meaning.{reads}
 use Rattle.table.proofs.read.Statement.{statement}
 use Rattle.table.proofs.read.Tie as tie
 
@@ -22,7 +23,7 @@ returns-2 : tie.Need-returns-2
 returns-2 c =
     let start = c .before .before .before .before .before .before .before in
     let read = c .before .before .before .read in
-    c .refused2 .ensures ∙ first-refused (start .args .input .now) (sym (read .ensures) ∙ c .before .enum-told .given .1)
+    c .refused2 .ensures ∙ first-refused (start .args .input .now) (sym (reads _ _ (read .ensures)) ∙ c .before .enum-told .given .1)
 
 returns-3 : tie.Need-returns-3
 returns-3 c =
@@ -33,7 +34,7 @@ returns-3 c =
     let row-of = c .before .before .before .row-of in
     let is-head-good = c .before .before .is-head-good in
     c .refused3 .ensures ∙ head-refused (start .args .input .now) (omega (arith, if1 .left)) _
-    (sym (read .ensures) ∙ n .given .1) _ (row-of .ensures) _ (is-head-good .ensures) (c .before .if2 .taken)
+    (sym (reads _ _ (read .ensures)) ∙ n .given .1) _ (row-of .ensures) _ (is-head-good .ensures) (c .before .if2 .taken)
 
 rest-requires : tie.Need-rest-requires
 rest-requires c κs =
@@ -47,7 +48,7 @@ returns-4 c =
     let read = c .before .before .before .before .before .before .before .read in
     let n = c .before .before .before .before .before .n in
     let row-of = c .before .before .before .row-of in
-    c .rest .ensures ∙ head-taken (start .args .input .now) (omega (arith, if1 .left)) _ (sym (read .ensures) ∙ n .given .1) _
+    c .rest .ensures ∙ head-taken (start .args .input .now) (omega (arith, if1 .left)) _ (sym (reads _ _ (read .ensures)) ∙ n .given .1) _
     (row-of .ensures)
 
 pub read-spec : {M : Type 1} → statement M

@@ -111,7 +111,7 @@ turn-of-requires : tie.Need-turn-of-requires Inv-loop μ-loop
 turn-of-requires c κs = omega (arith, inside (c .before .before .before .before) (c .before .held-count .result) (c .before .held-count .ensures), counted (c .before .before .before .before) (c .before .held-count .result) (c .before .held-count .ensures), long (c .before .before .before .before))
 
 print-requires : tie.Need-print-requires Inv-loop μ-loop
-print-requires c κs = omega (arith, here (c .before .before .before .before .before .before .before .before .before) .room, fits (c .before .before .before .before .before .before .before .before .before))
+print-requires c κs _ = omega (arith, here (c .before .before .before .before .before .before .before .before .before) .room, fits (c .before .before .before .before .before .before .before .before .before))
 
 add-to-2 : tie.Need-add-to-2 Inv-loop μ-loop
 add-to-2 c = let h = printed-fits (c .before .before .before .before .before .before .before .before .before .before .before .before .if2 .out) (c .before .before .before .before .before .before .before .before .before .before .before .before .before .before .before .before .loop .to) _ (c .before .before .before .before .turn-of .result .prints) (c .before .before .before .before .turn-of .result .numbers) (c .before .before .print .ensures .0) (fits (c .before .before .before .before .before .before .before .before .before .before .before .before)) (here (c .before .before .before .before .before .before .before .before .before .before .before .before) .room) in let g : length (c .before .before .before .before .before .before .before .before .before .before .before .before .before .before .before .before .before .before .before .before .before .args .out .now) < 18446744073709551616 = omega (arith, c .before .before .before .before .before .before .before .before .before .before .before .before .before .before .before .before .before .before .before .before .before .good) in omega (arith, h, g, here (c .before .before .before .before .before .before .before .before .before .before .before .before) .size)
@@ -129,16 +129,14 @@ loop-again-3 : tie.Need-loop-again-3 Inv-loop μ-loop
 loop-again-3 c = goes-on _ _ _ _ _ _ _ (here (c .before .before .before .before .before)) _ refl (c .before .before .before .before .before .before .before .before .loop-test .taken) (fits (c .before .before .before .before .before)) _ _ (feed-held _ _ _ (stored (c .before .before)) (sym (c .before .is-due .ensures) ∙ c .if4 .left)) _ (omega arith) _ (sym (take-append-drop (c .before .before .before .before .before .before .before .before .before .loop .to) (c .before .before .before .before .before .if2 .out)))
 
 same-length : tie.Need-same-length Inv-loop μ-loop
-same-length c = c .before .loop .inv .size
+same-length c = c .before .before .loop .inv .size
 
 returns : tie.Need-returns Inv-loop μ-loop
-returns c = all-taken _ _ _ _ _ _ _ (c .before .loop .inv) (omega (arith, c .loop-test .left))
-
-same-length-2 : tie.Need-same-length-2 Inv-loop μ-loop
-same-length-2 c = c .before .before .loop .inv .size
-
-returns-2 : tie.Need-returns-2 Inv-loop μ-loop
-returns-2 c = no-room _ _ _ _ _ _ _ (c .before .before .loop .inv) (c .if1 .taken)
+returns c =
+    ⊎-elim
+    (λ w. all-taken _ _ _ _ _ _ _ (c .before .before .loop .inv) (omega (arith, w)) _ (c .left-code .ensures))
+    (λ w. no-room _ _ _ _ _ _ _ (c .before .before .loop .inv) (omega (arith, w)) _ (c .left-code .ensures))
+    (c .before .loop-test .came)
 
 pub advance-spec : {M : Type 1} → statement M
 advance-spec =
@@ -170,7 +168,6 @@ advance-spec =
     loop-again-2
     loop-less-3
     loop-again-3
+    (λ _ _. tt)
     same-length
-    returns
-    same-length-2
-    returns-2)
+    returns)

@@ -20,7 +20,7 @@ use Rattle.event_lines.specs.declared.Block.{Block}
 -- ---------------------------------------------------------------- what is read
 -- the lines of a block, at most
 abbrev pub blockLimit : ℕ
-blockLimit = 256
+blockLimit = 1024
 
 abbrev pub goodThen : Line → List Event → List Event
 goodThen (Six n) es = eventOf n ∷ es

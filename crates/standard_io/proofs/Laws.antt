@@ -35,12 +35,8 @@ use Rattle.standard_io.specs.declared.End.{End}
 use Rattle.standard_io.specs.declared.End.the-variants.{Going, Input, Table, Unread, Unwritten}
 use Rattle.standard_io.specs.declared.Shown.{Shown}
 use Rattle.standard_io.specs.declared.Turn.{Turn}
-use Rattle.standard_io.specs.StandardIo.{gotOf, writtenCount, byteCount, endAfter, afterShown, afterRead, TookRead, ReadOnce, isGoing, Reads, ReadToEnd, lastOf, lastStream, recordAfter, AfterInput}
+use Rattle.standard_io.specs.StandardIo.{gotOf, Quiet, byteCount, endAfter, afterShown, afterRead, TookRead, ReadOnce, isGoing, Reads, ReadToEnd, lastOf, lastStream, recordAfter, AfterInput}
 use Rattle.standard_io.specs.StandardIo.Reads.{before, next}
-
--- no more is written than is printed
-pub written-within : (prints : Bool) (n k : ℕ) (out : List ℕ) → k ≡ writtenCount prints n → n ≤ length out → k ≤ length out
-written-within prints n k out e h = rw e (by-test (λ (x : ℕ). x ≤ length out) prints (λ t. h) (λ t. omega arith))
 
 -- ---------------------------------------------------------------- a chunk
 -- the bytes before i are taken
@@ -125,14 +121,14 @@ pub bytes-within : (got : Got) (n most : ℕ) → got ≡ Bytes n → byteCount 
 bytes-within got n most e h = rw e at h
 
 -- by the read's answer
-pub shown-read : (s : Stream) (bytes : List ℕ) (n : ℕ) (got : Got) → got ≡ Bytes n → (p : Shown) → p .stream ≡ fedAll s (take n bytes) .stream → (r : Turn) → r ≡ afterShown p → TookRead s got bytes r
-shown-read s bytes n got e p f r g = record { written = p .written; is = g ∙ rw (e, f) }
+pub shown-read : (s : Stream) (bytes : List ℕ) (n : ℕ) (got : Got) → got ≡ Bytes n → (prints : Bool) (p : Shown) → (p .stream ≡ fedAll s (take n bytes) .stream) × Quiet prints (p .written) → (r : Turn) → r ≡ afterShown p → TookRead prints s got bytes r
+shown-read s bytes n got e prints p f r g = record { written = p .written; quiet = f .1; is = g ∙ rw (e, f .0) }
 
-pub nothing-read : (s : Stream) (bytes : List ℕ) (got : Got) → got ≡ Nothing → TookRead s got bytes (record { stream = s; end = Input })
-nothing-read s bytes got e = record { written = true; is = rw e }
+pub nothing-read : (prints : Bool) (s : Stream) (bytes : List ℕ) (got : Got) → got ≡ Nothing → TookRead prints s got bytes (record { stream = s; end = Input })
+nothing-read prints s bytes got e = record { written = true; quiet = λ _. refl; is = rw e }
 
-pub failed-read : (s : Stream) (bytes : List ℕ) (got : Got) → got ≡ Failure → TookRead s got bytes (record { stream = s; end = Unread })
-failed-read s bytes got e = record { written = true; is = rw e }
+pub failed-read : (prints : Bool) (s : Stream) (bytes : List ℕ) (got : Got) → got ≡ Failure → TookRead prints s got bytes (record { stream = s; end = Unread })
+failed-read prints s bytes got e = record { written = true; quiet = λ _. refl; is = rw e }
 
 -- ---------------------------------------------------------------- the whole input
 -- the stream after some input
@@ -147,32 +143,48 @@ none-fed s = record { read = []; is = refl }
 fed-further : (s r q : Stream) → FedOn s r → FedOn r q → FedOn s q
 fed-further s r q a b = record { read = a .read ++ b .read; is = b .is ∙ ap (λ (x : Stream). fedAll x (b .read) .stream) (a .is) ∙ fed-on s (a .read) (b .read) }
 
--- the stream goes on from s, and reading ends with a table that is refused only where that is so
-record Goes (s : Stream) (r : Turn) : Type 0 where
+-- the stream goes on from s; reading ends with a refused table only where it is refused, and with a failed write only where one was made
+record Goes (prints : Bool) (s : Stream) (r : Turn) : Type 0 where
   fed : FedOn s (r .stream)
   table : r .end ≡ Table → isEnded (r .stream .place .stage) ≡ true
+  quiet : prints ≡ false → r .end ≡ Unwritten → ⊥
+
+no-end : {P : Type 0} → (_≡_ {A = ℕ} 0 1) → P
+no-end q = absurd (omega arith)
 
 table-refused : (written refused : Bool) → endAfter written refused ≡ Table → refused ≡ true
 table-refused true true e = refl
-table-refused true false e = absurd (let q : _≡_ {A = ℕ} 0 1 = cc in omega arith)
-table-refused false refused e = absurd (let q : _≡_ {A = ℕ} 0 1 = cc in omega arith)
+table-refused true false e = no-end (cc)
+table-refused false refused e = no-end (cc)
 
-took-goes : (s : Stream) (got : Got) (bytes : List ℕ) (written : Bool) → Goes s (afterRead s got bytes written)
-took-goes s (Bytes n) bytes written = record { fed = record { read = take n bytes; is = refl }; table = λ e. table-refused written _ e }
-took-goes s Nothing bytes written = record { fed = none-fed s; table = λ e. absurd (let q : _≡_ {A = ℕ} 0 1 = cc in omega arith) }
-took-goes s Failure bytes written = record { fed = none-fed s; table = λ e. absurd (let q : _≡_ {A = ℕ} 0 1 = cc in omega arith) }
+-- a write that did not fail ends nothing
+write-ends : (written refused : Bool) → written ≡ true → endAfter written refused ≡ Unwritten → ⊥
+write-ends true true h e = no-end (cc)
+write-ends true false h e = no-end (cc)
+write-ends false refused h e = no-end (cc)
 
-reads-go : (n : ℕ) (r : Turn) → Reads n r → Goes begun r
-reads-go _ _ before = record { fed = none-fed begun; table = λ e. absurd (let q : _≡_ {A = ℕ} 0 1 = cc in omega arith) }
-reads-go _ _ (next n t u h going once) =
-    let a = reads-go n t h in
-    let b : Goes (t .stream) u = rw (once .took .is) (took-goes (t .stream) (once .got) (once .bytes) (once .took .written)) in
-    record { fed = fed-further begun (t .stream) (u .stream) (a .fed) (b .fed); table = b .table }
+took-goes : (prints : Bool) (s : Stream) (got : Got) (bytes : List ℕ) (written : Bool) → Quiet prints written → Goes prints s (afterRead s got bytes written)
+took-goes prints s (Bytes n) bytes written q =
+    let refused = isEnded (fedAll s (take n bytes) .stream .place .stage) in
+    record {
+      fed = record { read = take n bytes; is = refl };
+      table = λ e. table-refused written refused e;
+      quiet = λ p e. write-ends written refused (q p) e;
+    }
+took-goes prints s Nothing bytes written q = record { fed = none-fed s; table = λ e. no-end (cc); quiet = λ p e. no-end (cc) }
+took-goes prints s Failure bytes written q = record { fed = none-fed s; table = λ e. no-end (cc); quiet = λ p e. no-end (cc) }
+
+reads-go : (prints : Bool) (n : ℕ) (r : Turn) → Reads prints n r → Goes prints begun r
+reads-go prints _ _ before = record { fed = none-fed begun; table = λ e. no-end (cc); quiet = λ p e. no-end (cc) }
+reads-go prints _ _ (next n t u h going once) =
+    let a = reads-go prints n t h in
+    let b : Goes prints (t .stream) u = rw (once .took .is) (took-goes prints (t .stream) (once .got) (once .bytes) (once .took .written) (once .took .quiet)) in
+    record { fed = fed-further begun (t .stream) (u .stream) (a .fed) (b .fed); table = b .table; quiet = b .quiet }
 
 -- a refused table leaves nothing to end
 refused-last : (stage : Stage) (x : Place) (text : List ℕ) → isEnded stage ≡ true → turnIn true stage x text .place .executive ≡ x .executive
-refused-last TableStage x text e = absurd (let q : _≡_ {A = ℕ} 0 1 = cc in omega arith)
-refused-last Events x text e = absurd (let q : _≡_ {A = ℕ} 0 1 = cc in omega arith)
+refused-last TableStage x text e = no-end (cc)
+refused-last Events x text e = no-end (cc)
 refused-last Ended x text e = refl
 
 ended-closed : (s : Stream) → isEnded (s .place .stage) ≡ true → closed s .stream .place .executive ≡ s .place .executive
@@ -193,11 +205,12 @@ module _ (s : Stream) (k : FedOn begun s) where
   last-record Unread h = so-far
   last-record Unwritten h = so-far
 
-pub ends-after : (t : Turn) → ReadToEnd t → (last : Stream) → last ≡ lastStream t → (e : Executive) → e ≡ last .place .executive → AfterInput (record { executive = e; end = t .end })
-ends-after t h last is e own =
-    let g = reads-go (h .count) t (h .reads) in
+pub ends-after : (prints : Bool) (t : Turn) → ReadToEnd prints t → (last : Stream) → last ≡ lastStream t → (e : Executive) → e ≡ last .place .executive → AfterInput prints (record { executive = e; end = t .end })
+ends-after prints t h last is e own =
+    let g = reads-go prints (h .count) t (h .reads) in
     record {
       read = g .fed .read;
+      quiet = g .quiet;
       is = ap (λ (x : Executive). x .inner) own ∙ ap (λ (x : Stream). x .place .executive .inner) is ∙ last-record (t .stream) (g .fed) (t .end) (g .table);
     }
 
@@ -213,29 +226,29 @@ module _ (s : Stream) (out : List ℕ) (a : Advance) (went : a ≡ finishedOf s 
 
 -- ---------------------------------------------------------------- the loop
 -- between two reads: so many are made, reading goes on, and the buffers have their size
-pub record Reading (input₀ out₀ : List ℕ) (turns₀ : ℕ) (t : Turn) (input out : List ℕ) (turns : ℕ) : Type 0 where
+pub record Reading (prints : Bool) (input₀ out₀ : List ℕ) (turns₀ : ℕ) (t : Turn) (input out : List ℕ) (turns : ℕ) : Type 0 where
   pub few : turns ≤ turns₀
-  pub reads : Reads (turns₀ - turns) t
+  pub reads : Reads prints (turns₀ - turns) t
   pub going : isGoing (t .end) ≡ true
   pub size-in : length input ≡ length input₀
   pub size-out : length out ≡ length out₀
 
-pub reading-begins : (input out : List ℕ) (turns : ℕ) (s : Stream) → s ≡ begun → Reading input out turns (record { stream = s; end = Going }) input out turns
-reading-begins input out turns s e =
+pub reading-begins : (prints : Bool) (input out : List ℕ) (turns : ℕ) (s : Stream) → s ≡ begun → Reading prints input out turns (record { stream = s; end = Going }) input out turns
+reading-begins prints input out turns s e =
     let none : turns - turns ≡ 0 = omega arith in
     record { few = omega arith; reads = rw (none, e) before; going = refl; size-in = refl; size-out = refl }
 
-module _ (input₀ out₀ : List ℕ) (turns₀ : ℕ) (t : Turn) (input out : List ℕ) (turns : ℕ) (k : Reading input₀ out₀ turns₀ t input out turns) where
+module _ (prints : Bool) (input₀ out₀ : List ℕ) (turns₀ : ℕ) (t : Turn) (input out : List ℕ) (turns : ℕ) (k : Reading prints input₀ out₀ turns₀ t input out turns) where
   -- the turns are used up
-  pub reading-stops : turns ≤ 0 → turns₀ ≡ 18446744073709551615 → ReadToEnd t
+  pub reading-stops : turns ≤ 0 → turns₀ ≡ 18446744073709551615 → ReadToEnd prints t
   reading-stops h most = record { count = turns₀ - turns; reads = k .reads; all = λ _. omega arith }
 
-  module _ (more : 0 < turns) (u : Turn) (once : ReadOnce (t .stream) u) where
-    once-more : Reads (turns₀ - (turns - 1)) u
+  module _ (more : 0 < turns) (u : Turn) (once : ReadOnce prints (t .stream) u) where
+    once-more : Reads prints (turns₀ - (turns - 1)) u
     once-more = let n : turns₀ - (turns - 1) ≡ suc (turns₀ - turns) = omega (arith, k .few) in rw n (next (turns₀ - turns) t u (k .reads) (k .going) once)
 
-    pub reading-goes : isGoing (u .end) ≡ true → (input′ out′ : List ℕ) → length input′ ≡ length input → length out′ ≡ length out → Reading input₀ out₀ turns₀ u input′ out′ (turns - 1)
+    pub reading-goes : isGoing (u .end) ≡ true → (input′ out′ : List ℕ) → length input′ ≡ length input → length out′ ≡ length out → Reading prints input₀ out₀ turns₀ u input′ out′ (turns - 1)
     reading-goes g input′ out′ a b = record { few = omega (arith, k .few); reads = once-more; going = g; size-in = a ∙ k .size-in; size-out = b ∙ k .size-out }
 
-    pub reading-ends : isGoing (u .end) ≡ false → ReadToEnd u
+    pub reading-ends : isGoing (u .end) ≡ false → ReadToEnd prints u
     reading-ends g = record { count = turns₀ - (turns - 1); reads = once-more; all = λ e. not-both (isGoing (u .end)) e g }

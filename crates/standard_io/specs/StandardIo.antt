@@ -28,9 +28,9 @@ byteCount (Bytes n) = n
 byteCount Nothing = 0
 byteCount Failure = 0
 
--- how many of the bytes printed are written
-abbrev pub writtenCount : Bool → ℕ → ℕ
-writtenCount prints n = cond prints n 0
+-- where nothing is to be printed nothing is written, so no write fails
+abbrev pub Quiet : Bool → Bool → Type 0
+Quiet prints written = prints ≡ false → written ≡ true
 
 -- after a chunk reading goes on, unless a write failed or the table is refused
 abbrev pub endAfter : Bool → Bool → End
@@ -45,16 +45,17 @@ afterRead s (Bytes n) bytes written = afterShown (record { stream = fedAll s (ta
 afterRead s Nothing bytes written = record { stream = s; end = Input }
 afterRead s Failure bytes written = record { stream = s; end = Unread }
 
--- what a read gave was taken; whether the writes succeeded is free
-pub record TookRead (s : Stream) (got : Got) (bytes : List ℕ) (r : Turn) : Type 0 where
+-- what a read gave was taken; whether the writes succeeded is free, if there were any
+pub record TookRead (prints : Bool) (s : Stream) (got : Got) (bytes : List ℕ) (r : Turn) : Type 0 where
   pub written : Bool
+  pub quiet : Quiet prints written
   pub is : r ≡ afterRead s got bytes written
 
 -- one read; its answer and the bytes are free too
-pub record ReadOnce (s : Stream) (r : Turn) : Type 0 where
+pub record ReadOnce (prints : Bool) (s : Stream) (r : Turn) : Type 0 where
   pub got : Got
   pub bytes : List ℕ
-  pub took : TookRead s got bytes r
+  pub took : TookRead prints s got bytes r
 
 abbrev pub isGoing : End → Bool
 isGoing Going = true
@@ -64,14 +65,14 @@ isGoing Unread = false
 isGoing Unwritten = false
 
 -- so many reads, one after another as long as reading goes on
-pub data Reads : ℕ → Turn → Type 0 where
-  before : Reads 0 (record { stream = begun; end = Going })
-  next : (n : ℕ) (t u : Turn) → Reads n t → isGoing (t .end) ≡ true → ReadOnce (t .stream) u → Reads (suc n) u
+pub data Reads (prints : Bool) : ℕ → Turn → Type 0 where
+  before : Reads prints 0 (record { stream = begun; end = Going })
+  next : (n : ℕ) (t u : Turn) → Reads prints n t → isGoing (t .end) ≡ true → ReadOnce prints (t .stream) u → Reads prints (suc n) u
 
 -- reading goes on until it ends; more than 2^64 − 1 reads are not made
-pub record ReadToEnd (r : Turn) : Type 0 where
+pub record ReadToEnd (prints : Bool) (r : Turn) : Type 0 where
   pub count : ℕ
-  pub reads : Reads count r
+  pub reads : Reads prints count r
   pub all : isGoing (r .end) ≡ true → count ≡ 18446744073709551615
 
 -- at the input's end the bytes after the last LF are a line; a line that a failure cut is none
@@ -95,6 +96,7 @@ recordAfter Unread read = fedAll begun read .stream .place .executive .inner
 recordAfter Unwritten read = fedAll begun read .stream .place .executive .inner
 
 -- a replay of the bytes read
-pub record AfterInput (r : Replayed) : Type 0 where
+pub record AfterInput (prints : Bool) (r : Replayed) : Type 0 where
   pub read : List ℕ
+  pub quiet : prints ≡ false → r .end ≡ Unwritten → ⊥
   pub is : r .executive .inner ≡ recordAfter (r .end) read

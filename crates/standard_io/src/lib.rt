@@ -5,7 +5,7 @@ ghost use Prim.Native.Nat.{_≤_};
 ghost use lib.ListN.{length};
 ghost use Rattle.machine.specs.Limits.{lineLength};
 ghost use Rattle.stream.specs.Stream.{fedAll, closed};
-ghost use Rattle.standard_io.specs.StandardIo.{gotOf, writtenCount, endAfter, afterShown, byteCount, TookRead, ReadOnce, isGoing, ReadToEnd, lastStream, AfterInput};
+ghost use Rattle.standard_io.specs.StandardIo.{gotOf, Quiet, endAfter, afterShown, byteCount, TookRead, ReadOnce, isGoing, ReadToEnd, lastStream, AfterInput};
 use executive::Executive;
 use libc::STDERR_FILENO;
 use libc::STDIN_FILENO;
@@ -47,25 +47,21 @@ pub struct Replayed {
 }
 
 // ---------------------------------------------------------------- output
-// How many of the bytes printed are written.
-fn written_count(prints: bool, n: usize) -> usize
-    ensures { λ r. ⌜ r ≡ writtenCount prints n ⌝ }
-{
-    if prints { n } else { 0 }
-}
-
 // Writes the front of an output, where it is to be printed; false where it cannot be written.
 fn print(prints: bool, out: &[u8], n: usize) -> bool
     requires { ⌜ n ≤ length (now out) ⌝ }
+    ensures { λ written. ⌜ Quiet prints written ⌝ }
 {
-    let k = written_count(prints, n);
-    io::write_all(STDOUT_FILENO, &out[..k])
+    if !prints {
+        return true;
+    }
+    io::write_all(STDOUT_FILENO, &out[..n])
 }
 
 // The stream after a chunk, printed piece by piece through an output.
 fn print_chunk(s: Stream, chunk: &[u8], out: &mut [u8], prints: bool) -> Shown
     requires { ⌜ lineLength ≤ length (now out) ⌝ }
-    ensures { λ r. ⌜ r .stream ≡ fedAll s (now (chunk .entry)) .stream ⌝ }
+    ensures { λ r. ⌜ (r .stream ≡ fedAll s (now (chunk .entry)) .stream) × Quiet prints (r .written) ⌝ }
 {
     let mut stream = s;
     let mut written = true;
@@ -120,7 +116,7 @@ fn after_shown(p: Shown) -> Turn
 // Takes what a read gave.
 fn take_read(s: Stream, got: Got, input: &[u8], out: &mut [u8], prints: bool) -> Turn
     requires { ⌜ (lineLength ≤ length (now out)) × (byteCount got ≤ length (now input)) ⌝ }
-    ensures { λ r. ⌜ TookRead s got (now (input .entry)) r ⌝ }
+    ensures { λ r. ⌜ TookRead prints s got (now (input .entry)) r ⌝ }
 {
     match got {
         Got::Bytes(n) => after_shown(print_chunk(s, &input[..n], out, prints)),
@@ -138,7 +134,7 @@ fn take_read(s: Stream, got: Got, input: &[u8], out: &mut [u8], prints: bool) ->
 // Reads once, into a buffer that is lent, as the one printed into is: a buffer made here would be cleared each time.
 fn read_once(s: Stream, prints: bool, input: &mut [u8], out: &mut [u8]) -> Turn
     requires { ⌜ lineLength ≤ length (now out) ⌝ }
-    ensures { λ r. ⌜ ReadOnce s r ⌝ }
+    ensures { λ r. ⌜ ReadOnce prints s r ⌝ }
 {
     let answer = libc::read(STDIN_FILENO, input);
     take_read(s, got_of(answer, input), input, out, prints)
@@ -159,7 +155,7 @@ fn is_going(end: End) -> bool
 // Reads to the end. A proved loop has to end, and nothing says that the input does: the turns are counted down from a
 // number that no run uses up.
 fn read_all(prints: bool) -> Turn
-    ensures { λ r. ⌜ ReadToEnd r ⌝ }
+    ensures { λ r. ⌜ ReadToEnd prints r ⌝ }
 {
     let mut input = io::large_buffer();
     let mut out = io::large_buffer();
@@ -221,7 +217,7 @@ fn report(end: End) {
 
 // A replay of standard input, printed or not.
 pub fn replay(prints: bool) -> Replayed
-    ensures { λ r. ⌜ AfterInput r ⌝ }
+    ensures { λ r. ⌜ AfterInput prints r ⌝ }
 {
     let t = read_all(prints);
     let end = t.end;

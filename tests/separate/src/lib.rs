@@ -12,6 +12,7 @@ pub mod events;
 pub mod generate;
 pub mod line;
 pub mod machine;
+pub mod questions;
 pub mod record;
 pub mod replay;
 pub mod rng;

@@ -1,8 +1,13 @@
 use Prim.Native.Nat.{_-_}
+use mathlib.Core.Path.{refl, _∙_}
+use mathlib.Core.Logic.{⊎-elim}
 use native.Mathlib.Omega.{arith}
 use lib.ListN.{length}
 use borrow.Author.Needs.{needs}
+use borrow.Author.Tests.{not-true}
+use Rattle.machine.proofs.Tests.{not-both}
 use Rattle.line.proofs.Parts.{tail-is}
+use Rattle.standard_io.specs.StandardIo.{Quiet}
 use Rattle.standard_io.proofs.Laws.{Taking, begins, ends, Turned, turned}
 use Rattle.standard_io.proofs.print_chunk.Statement.{statement}
 use Rattle.standard_io.proofs.print_chunk.Tie as tie
@@ -12,13 +17,13 @@ use Rattle.standard_io.proofs.print.Reads as print-reads
 use Rattle.stream.proofs.Stream.advance.Reads as advance-reads
 
 abbrev Inv-loop : tie.InvT-loop
-Inv-loop chunk out₀ prints stream₀ written₀ at₀ out stream written at = Taking stream₀ chunk out₀ stream at out
+Inv-loop chunk out₀ prints stream₀ written₀ at₀ out stream written at = Taking stream₀ chunk out₀ stream at out × Quiet prints written
 
 abbrev μ-loop : tie.MeasureT-loop
 μ-loop chunk out₀ prints stream₀ written₀ at₀ out stream written at = length chunk - at
 
 loop-holds : tie.Need-loop-holds Inv-loop μ-loop
-loop-holds c = begins _ _ _
+loop-holds c = (begins _ _ _, λ _. refl)
 
 -- after a call of advance
 abbrev Advanced : Type 0
@@ -29,7 +34,7 @@ start c = c .before .before .before .before .before .before .before
 
 turn : (c : Advanced) → Turned (start c .args .s) (start c .args .chunk .now) (start c .args .out .now) (c .before .before .before .before .loop .at) (c .advance .result) (c .advance .last .1 .1 .0)
 turn c =
-    turned _ _ _ _ _ _ (c .before .before .before .before .loop .inv) (c .before .before .before .loop-test .taken) (start c .pre)
+    turned _ _ _ _ _ _ (c .before .before .before .before .loop .inv .0) (c .before .before .before .loop-test .taken) (start c .pre)
     _ (tail-is (c .before .before .before .before .loop .at) (start c .args .chunk .now)) _ (c .advance .ensures .0) _ (c .advance .ensures .1)
 
 sub-advance : tie.Need-sub-advance Inv-loop μ-loop
@@ -48,13 +53,13 @@ loop-less : tie.Need-loop-less Inv-loop μ-loop
 loop-less c = omega (arith, turn (c .before .before .before .before .before .before .before) .some, turn (c .before .before .before .before .before .before .before) .inside)
 
 loop-again : tie.Need-loop-again Inv-loop μ-loop
-loop-again c = turn (c .before .before .before .before .before .before .before) .next
+loop-again c = (turn (c .before .before .before .before .before .before .before) .next, λ p. ⊎-elim (λ w. not-both _ (c .before .before .before .print .ensures p) (not-true _ (w .0 .taken))) (λ w. w .1 ∙ c .before .before .before .before .before .before .before .before .before .before .before .loop .inv .1 p) (c .before .before .if1 .came))
 
 same-length : tie.Need-same-length Inv-loop μ-loop
-same-length c = c .before .loop .inv .size
+same-length c = c .before .loop .inv .0 .size
 
 returns : tie.Need-returns Inv-loop μ-loop
-returns c = ends _ _ _ _ _ _ (c .before .loop .inv) (c .loop-test .left)
+returns c = (ends _ _ _ _ _ _ (c .before .loop .inv .0) (c .loop-test .left), c .before .loop .inv .1)
 
 pub print-chunk-spec : {M : Type 1} → statement M
 print-chunk-spec =

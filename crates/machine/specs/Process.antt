@@ -60,7 +60,7 @@ pub data Class : Type 0 where
   release : Class
   onto : ℕ → ℕ → Class
 
--- A later family of objects adds its line here, and nowhere else.
+-- A later family of objects adds its line here; no other rule goes through the reasons.
 abbrev pub classOf : Wait → Class
 classOf None = Class.nothing
 classOf Normal = Class.normal

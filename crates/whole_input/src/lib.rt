@@ -1,6 +1,9 @@
 // Whole inputs, into a lent output: what the replay program prints, and the waiting times that lines ask for.
 ghost use mathlib.Core.Path.{_≡_};
+ghost use Prim.Native.Nat.{_/_};
 ghost use lib.ListN.{length, drop};
+ghost use lib.Dec.{ltb};
+ghost use Rattle.machine.specs.Limits.{lineLength};
 ghost use Rattle.machine.specs.Line.{lines, readAt, written, writtenAt};
 ghost use Rattle.machine.specs.Replay.{lineNext, lineAnswer, refusalNumbers, replayedInto};
 ghost use Rattle.machine.specs.Valid.{SoundTable};
@@ -83,6 +86,13 @@ fn count_lines(input: &[u8], from: usize) -> usize
     n
 }
 
+// Whether an output has no room for an answer to each line of an input from a position on.
+fn is_short(room: usize, input: &[u8], at: usize) -> bool
+    ensures { λ b. ⌜ b ≡ ltb (room / lineLength) (length (lines (drop at (now (input .entry))))) ⌝ }
+{
+    room / Module::LINE < count_lines(input, at)
+}
+
 // The answer to the line at a position of the input, written at a position of the output; gives the executive after it. The code of
 // the line writer is not looked at: where there is room, every answer of a replay can be written.
 fn answer_line(e: Executive, input: &[u8], at: usize, out: &mut [u8], to: usize) -> Executive
@@ -104,7 +114,7 @@ pub fn replay(input: &[u8], out: &mut [u8]) -> Printed
         return print_refusal(out, o.code, o.value);
     }
     let mut at = o.lines as usize * Module::LINE;
-    if out.len() / Module::LINE < count_lines(input, at) {
+    if is_short(out.len(), input, at) {
         return no_room();
     }
     let mut executive = o.executive;
@@ -177,7 +187,7 @@ pub fn waiting_times(input: &[u8], out: &mut [u8]) -> Printed
         return print_refusal(out, o.code, o.value);
     }
     let mut at = o.lines as usize * Module::LINE;
-    if out.len() / Module::LINE < count_lines(input, at) {
+    if is_short(out.len(), input, at) {
         return no_room();
     }
     let executive = o.executive;

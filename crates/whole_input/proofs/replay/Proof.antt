@@ -1,10 +1,11 @@
 -- `replay` meets its contract. The loop: what is printed and the answers to the lines from `at` on are the whole text; past what is
 -- printed the output is as it was.
 use Prim.Native.Nat.{_-_, _<_}
-use mathlib.Core.Path.{_∙_}
+use mathlib.Core.Path.{_∙_, refl, sym}
 use native.Mathlib.Omega.{arith}
 use lib.ListN.{length}
 use borrow.Author.Needs.{needs}
+use borrow.Author.Tests.{ltb-true, ltb-false}
 use Rattle.machine.proofs.TextInput.{line-at}
 use Rattle.whole_input.proofs.Laws.{Replaying, refusal-gives, too-many, begins, ends, line-fits, goes-on, block-inside, block-room, block-goes-on, block-skipped}
 use Rattle.whole_input.proofs.replay.Statement.{statement}
@@ -29,13 +30,13 @@ returns-2 : tie.Need-returns-2 Inv-loop μ-loop
 returns-2 c =
     let opening = c .before .before .before .before .before .before .«open» in
     let out = c .before .before .before .before .before .before .before .before .before .args .out .now in
-    let g = too-many _ out _ (opening .ensures) (c .before .before .before .before .if1 .left) _ (c .before .before .count-lines .ensures) (omega (arith, c .before .if2 .taken)) in
+    let g = too-many _ out _ (opening .ensures) (c .before .before .before .before .if1 .left) _ refl (ltb-true _ _ (sym (c .before .before .is-short .ensures) ∙ c .before .if2 .taken)) in
     (c .no-room .ensures ∙ g .0, g .1)
 
 loop-holds : tie.Need-loop-holds Inv-loop μ-loop
 loop-holds c =
     let opening = c .before .before .before .before .before .before .«open» in
-    begins _ _ _ (opening .ensures) (c .before .before .before .before .if1 .left) _ (c .before .before .count-lines .ensures) (omega (arith, c .before .if2 .left))
+    begins _ _ _ (opening .ensures) (c .before .before .before .before .if1 .left) _ refl (ltb-false _ _ (sym (c .before .before .is-short .ensures) ∙ c .before .if2 .left))
 
 mul-at-2 : tie.Need-mul-at-2 Inv-loop μ-loop
 mul-at-2 c =

@@ -1,7 +1,9 @@
+use mathlib.Core.Path.{refl, sym, _∙_}
 use Prim.Native.Nat.{_-_, _<_}
 use native.Mathlib.Omega.{arith}
 use lib.ListN.{length}
 use borrow.Author.Needs.{needs}
+use borrow.Author.Tests.{ltb-true, ltb-false}
 use Rattle.machine.proofs.TextInput.{line-at}
 use Rattle.whole_input.proofs.Waiting.{Asking, line-fits, asked-on, refusal-asked, asked-too-many, asking-begins, asking-ends}
 use Rattle.whole_input.proofs.waiting_times.Statement.{statement}
@@ -20,10 +22,10 @@ mul-at : tie.Need-mul-at Inv-loop μ-loop
 mul-at c = omega (arith, c .struct-known2 .given)
 
 returns-2 : tie.Need-returns-2 Inv-loop μ-loop
-returns-2 c = asked-too-many _ _ _ (c .before .before .before .before .before .before .«open» .ensures) (c .before .before .before .before .if1 .left) _ (c .before .before .count-lines .ensures) (omega (arith, c .before .if2 .taken)) _ (c .no-room .ensures)
+returns-2 c = asked-too-many _ _ _ (c .before .before .before .before .before .before .«open» .ensures) (c .before .before .before .before .if1 .left) _ refl (ltb-true _ _ (sym (c .before .before .is-short .ensures) ∙ c .before .if2 .taken)) _ (c .no-room .ensures)
 
 loop-holds : tie.Need-loop-holds Inv-loop μ-loop
-loop-holds c = asking-begins _ _ _ (c .before .before .before .before .before .before .«open» .ensures) (c .before .before .before .before .if1 .left) _ (c .before .before .count-lines .ensures) (omega (arith, c .before .if2 .left))
+loop-holds c = asking-begins _ _ _ (c .before .before .before .before .before .before .«open» .ensures) (c .before .before .before .before .if1 .left) _ refl (ltb-false _ _ (sym (c .before .before .is-short .ensures) ∙ c .before .if2 .left))
 
 add-to : tie.Need-add-to Inv-loop μ-loop
 add-to c = let short : length (c .before .before .before .before .before .before .before .before .before .before .before .before .before .before .before .before .args .out .now) < 18446744073709551616 = omega (arith, c .before .before .before .before .before .before .before .before .before .before .before .before .before .before .before .before .good) in omega (arith, short, line-fits _ _ _ _ _ _ _ (c .before .before .before .before .before .before .loop .inv) (c .before .before .before .before .before .loop-test .taken))

@@ -177,7 +177,8 @@ pub fn waiting_times(input: &[u8], out: &mut [u8]) -> Printed
         return print_refusal(out, o.code, o.value);
     }
     let mut at = o.lines as usize * Module::LINE;
-    if out.len() / Module::LINE < count_lines(input, at) {
+    let lines = count_lines(input, at);
+    if out.len() / Module::LINE < lines {
         return no_room();
     }
     let executive = o.executive;

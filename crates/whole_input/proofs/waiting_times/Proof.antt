@@ -8,10 +8,10 @@ use Rattle.whole_input.proofs.waiting_times.Statement.{statement}
 use Rattle.whole_input.proofs.waiting_times.Tie as tie
 
 abbrev Inv-loop : tie.InvT-loop
-Inv-loop input out₀ at₀ executive to₀ out at to = Asking input out₀ (executive .inner .table) at₀ at to out
+Inv-loop input out₀ at₀ lines executive to₀ out at to = Asking input out₀ (executive .inner .table) at₀ at to out
 
 abbrev μ-loop : tie.MeasureT-loop
-μ-loop input out₀ at₀ executive to₀ out at to = length input - at
+μ-loop input out₀ at₀ lines executive to₀ out at to = length input - at
 
 returns : tie.Need-returns Inv-loop μ-loop
 returns c = refusal-asked _ _ _ (c .before .before .before .before .before .before .«open» .ensures) (c .before .before .before .before .if1 .taken) _ _ (c .before .before .print-refusal .ensures .0) (c .before .before .print-refusal .ensures .1)

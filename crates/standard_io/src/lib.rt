@@ -99,10 +99,7 @@ fn end_after(written: bool, refused: bool) -> End
     if !written {
         return End::Unwritten;
     }
-    if refused {
-        return End::Table;
-    }
-    End::Going
+    if refused { End::Table } else { End::Going }
 }
 
 fn after_shown(p: Shown) -> Turn

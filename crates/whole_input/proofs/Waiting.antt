@@ -81,7 +81,7 @@ module _ (input out₀ : List ℕ) (T : Table) (from at to : ℕ) (out : List �
     pub line-fits : to + lineLength ≤ length out₀
     line-fits = omega (arith, k .count, k .room, one-less)
 
-    pub asked-on : (out′ : List ℕ) → AskedAt T (readAt input at) out out′ (λ (w : Waiting). writtenAt to out (waitingNumbers w)) → (at′ : ℕ) → at′ ≡ lineEnd input at
+    pub asked-on : (out′ : List ℕ) → AskedAt T (readAt input at) out′ (λ (w : Waiting). writtenAt to out (waitingNumbers w)) → (at′ : ℕ) → at′ ≡ lineEnd input at
         → Asking input out₀ T from at′ (to + lineLength) out′
     asked-on out′ a at′ e =
         let w = a .waiting in

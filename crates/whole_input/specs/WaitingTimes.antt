@@ -67,7 +67,7 @@ pub record Waits (input out after : List ℕ) (r : Printed) : Type 0 where
   pub kept : length out < askedLength input → after ≡ out
 
 -- the answer to one line, written at a position of the output
-pub record AskedAt (T : Table) (l : Line) (out after : List ℕ) (written : Waiting → List ℕ) : Type 0 where
+pub record AskedAt (T : Table) (l : Line) (after : List ℕ) (written : Waiting → List ℕ) : Type 0 where
   pub waiting : Waiting
   pub gets : SoundTable T → Gets T l waiting
   pub stored : after ≡ written waiting

@@ -171,7 +171,7 @@ fn waiting_of(e: Executive, l: Line) -> Waiting
 
 // The answer to the line at a position of the input, written at a position of the output: code, n, four 0.
 fn ask_line(e: Executive, input: &[u8], at: usize, out: &mut [u8], to: usize)
-    ensures { λ _. ⌜ AskedAt (e .inner .table) (readAt (now (input .entry)) at) (now (out .entry)) (now (out .exit)) (λ w. writtenAt to (now (out .entry)) (waitingNumbers w)) ⌝ }
+    ensures { λ _. ⌜ AskedAt (e .inner .table) (readAt (now (input .entry)) at) (now (out .exit)) (λ w. writtenAt to (now (out .entry)) (waitingNumbers w)) ⌝ }
 {
     let w = waiting_of(e, line::read_at(input, at));
     line::write_at(out, to, event_lines::refusal(w.code, w.n));

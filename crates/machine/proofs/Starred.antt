@@ -40,14 +40,14 @@ use Rattle.machine.specs.Ticks as Ti
 use Rattle.machine.specs.Channels as Ch
 use Rattle.machine.specs.Places as Pl
 use Rattle.machine.specs.Step as St
-use Rattle.machine.specs.Starred.{own, callBy, tick, Puts, Calling, FirstFlagged, releaseAt, awaitsRelease, WaitEnded, ReadyUnmarked, onto, forTime, Ticks, Mistakes, Starred}
+use Rattle.machine.specs.Starred.{own, callBy, tick, Puts, Calling, FirstFlagged, releaseAt, awaitsRelease, WaitEnded, ReadyUnmarked, Ticks, Mistakes, Starred}
 use Rattle.machine.specs.Valid.{Between, SoundModule, contains, plainTick}
 use Rattle.machine.proofs.Tests.{by-test, and-left, and-right, not-both}
 use Rattle.machine.proofs.Bounds.{not-so}
 use Rattle.machine.proofs.Dispatch.{by-event, by-decision, ticks-decided}
 use Rattle.machine.proofs.Bodies.{FromSource, Bodily, call-body}
 use Rattle.machine.proofs.Refusals.{refused-same, places, call-in-range}
-use Rattle.machine.proofs.Keeping.{process-created, each-rest, each-process}
+use Rattle.machine.proofs.Keeping.{each-rest, each-process}
 use Rattle.machine.proofs.Kept.{waiters-exact}
 use Rattle.machine.proofs.Reached.{reached-valid, valid-sound, plain-part, tick-module-plain}
 use Rattle.machine.proofs.Queues.{signal-first, set-event}
@@ -139,24 +139,6 @@ waits Period h = refl
 waits (Semaphore j) h = refl
 waits (Event j) h = refl
 
-onto-is : (w : Wait) → onto w → (waitsForNothing w ≡ false) × (not (eqb (object w) 0) ≡ true)
-onto-is None h = absurd h
-onto-is Normal h = absurd h
-onto-is Delay h = absurd h
-onto-is Timed h = absurd h
-onto-is Period h = absurd h
-onto-is (Semaphore j) h = (refl, rw (ne-eqb (256 * 1 + j) 0 (λ e. omega arith)))
-onto-is (Event j) h = (refl, rw (ne-eqb (256 * 2 + j) 0 (λ e. omega arith)))
-
-time-is : (w : Wait) → forTime w → (waitsForNothing w ≡ false) × (not (eqb (object w) 0) ≡ false)
-time-is None h = absurd h
-time-is Normal h = absurd h
-time-is Delay h = (refl, refl)
-time-is Timed h = (refl, refl)
-time-is Period h = (refl, refl)
-time-is (Semaphore j) h = absurd h
-time-is (Event j) h = absurd h
-
 -- the wait that names semaphore j, event j
 semaphore-is : (w : Wait) (j : ℕ) → j ≤ 255 → object w ≡ object (Semaphore j) → w ≡ Semaphore j
 semaphore-is None j h e = absurd (omega arith)
@@ -229,8 +211,11 @@ module _ (t : ℕ) (x : Process) where
 
   ticks-of : Ticks t x (ticked t x)
   ticks-of = record {
-    object = λ w e h o. let r = onto-is (x .wait) o in wait-over w 6 e h (r .0) (rw (r .1));
-    timer = λ w e h o. let r = time-is (x .wait) o in wait-over w 0 e h (r .0) (rw (r .1));
+    semaphore = λ w j e h r. wait-over w 6 e h (rw r) (rw (r, ne-eqb (256 * 1 + j) 0 (λ z. omega arith)));
+    event = λ w j e h r. wait-over w 6 e h (rw r) (rw (r, ne-eqb (256 * 2 + j) 0 (λ z. omega arith)));
+    delay = λ w e h r. wait-over w 0 e h (rw r) (rw r);
+    timed = λ w e h r. wait-over w 0 e h (rw r) (rw r);
+    period = λ w e h r. wait-over w 0 e h (rw r) (rw r);
     suspension = suspension-over;
     deadline = deadline-over;
     marked = λ w s. suspended-not-ready (ticked t x) (expired-past t (woken t x) .mark ∙ woken-marked t x (waits (x .wait) w) ∙ s);
@@ -264,10 +249,6 @@ module _ (m : Module) (k : ℕ) (u : SoundModule m) (h : Calling m k) where
   -- the caller's partition after a call that stored it
   own-after : {e : EventT} {code value : ℕ} (p : Partition) → Puts m e code value k p → own (St.step m e .state) k ≡ noted p
   own-after p g = rw (g .state) (getD-set-same (m .partitions) (k - 1) (noted p) M.noPartition (omega (arith, u .partitionsSize, u .table .size .1, calling-place m k u h)))
-
-  -- a wait on an object is of a process that was created
-  waiter-known : (id : ℕ) → onto (process id (own m k) .wait) → Between 1 (own m k .processCount) id
-  waiter-known id o = process-created onObject refl (own m k) (calling-valid m k u h .lists) id (onto-is (process id (own m k) .wait) o .1)
 
   module _ (id n s : ℕ) (early : own m k .mode ≡ 3 → ⊥) (b : Between 1 (own m k .processCount) id) (w : process id (own m k) .wait ≡ Normal) (e : process id (own m k) .given .period ≡ At n) (f : FirstFlagged k s (windows (m .table))) where
     enter-gives : Puts m (callBy k 1 (pos 3) (pos 0) (pos 0) (pos 0)) 0 0 k (enteredNormal (St.contextOf m k) (own m k))

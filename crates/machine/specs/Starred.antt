@@ -15,7 +15,6 @@ use Rattle.machine.specs.declared.Partition.{Partition}
 use Rattle.machine.specs.declared.Event.{Event as EventT}
 use Rattle.machine.specs.declared.Module.{Module}
 use Rattle.machine.specs.declared.Window.{Window}
-use Rattle.machine.specs.declared.Wait.{Wait}
 use Rattle.machine.specs.declared.Wait.the-variants.{None, Normal, Delay, Timed, Period, Semaphore, Event}
 use Rattle.machine.specs.declared.Time.{Time}
 use Rattle.machine.specs.declared.Time.the-variants.{Never, At}
@@ -264,30 +263,13 @@ pub record WaitEnded (code : ℕ) (x y : Process) : Type 0 where
 abbrev pub ReadyUnmarked : Process → Process → Type 0
 ReadyUnmarked x y = x .suspended ≡ true → ready y ≡ false
 
--- it waits on an object: semaphore or event
-abbrev pub onto : Wait → Type 0
-onto None = ⊥
-onto Normal = ⊥
-onto Delay = ⊥
-onto Timed = ⊥
-onto Period = ⊥
-onto (Semaphore j) = Unit {0}
-onto (Event j) = Unit {0}
-
--- it waits for a time
-abbrev pub forTime : Wait → Type 0
-forTime None = ⊥
-forTime Normal = ⊥
-forTime Delay = Unit {0}
-forTime Timed = Unit {0}
-forTime Period = Unit {0}
-forTime (Semaphore j) = ⊥
-forTime (Event j) = ⊥
-
 -- what a tick makes of process x of a NORMAL partition, whatever window it falls into: y
 pub record Ticks (t : ℕ) (x y : Process) : Type 0 where
-  pub object : (w : ℕ) → x .times .wake ≡ At w → w ≤ t → onto (x .wait) → WaitEnded 6 x y
-  pub timer : (w : ℕ) → x .times .wake ≡ At w → w ≤ t → forTime (x .wait) → WaitEnded 0 x y
+  pub semaphore : (w j : ℕ) → x .times .wake ≡ At w → w ≤ t → x .wait ≡ Semaphore j → WaitEnded 6 x y
+  pub event : (w j : ℕ) → x .times .wake ≡ At w → w ≤ t → x .wait ≡ Event j → WaitEnded 6 x y
+  pub delay : (w : ℕ) → x .times .wake ≡ At w → w ≤ t → x .wait ≡ Delay → WaitEnded 0 x y
+  pub timed : (w : ℕ) → x .times .wake ≡ At w → w ≤ t → x .wait ≡ Timed → WaitEnded 0 x y
+  pub period : (w : ℕ) → x .times .wake ≡ At w → w ≤ t → x .wait ≡ Period → WaitEnded 0 x y
   pub suspension : (w : ℕ) → x .times .wake ≡ At w → w ≤ t → x .wait ≡ None → x .suspended ≡ true → (y .suspended ≡ false) × (y .code ≡ 6) × (y .times .wake ≡ Never)
   pub deadline : (d : ℕ) → x .times .deadline ≡ At d → d ≤ t → (y .missed ≡ true) × (y .times .deadline ≡ Never)
   pub marked : (x .wait ≡ None → ⊥) → ReadyUnmarked x y

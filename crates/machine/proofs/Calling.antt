@@ -5,8 +5,12 @@ use mathlib.Core.Bool.{Bool, true, false, cond, true≢false}
 use mathlib.Core.Logic.{inl, inr}
 use native.Mathlib.Omega.{arith}
 use lib.IntN.{ℤ, pos, negsuc}
+use lib.Seq.{getD-set-same}
 use lib.Dec.{leb}
 use borrow.Author.Tests.{eq-eqb, ne-eqb, eqb-true, le-leb}
+use Rattle.machine.specs.declared.Partition.{Partition}
+use Rattle.machine.specs.declared.Time.{Time}
+use Rattle.machine.specs.declared.Event.{Event as EventT}
 use Rattle.machine.specs.declared.Request.{Request}
 use Rattle.machine.specs.declared.Module.{Module}
 use Rattle.machine.specs.declared.Stepped.{Stepped}
@@ -15,10 +19,10 @@ use Rattle.machine.specs.declared.Field.{Field}
 use Rattle.machine.specs.declared.Field.the-variants.{Number, MinusOne, Other}
 use Rattle.machine.specs.Limits.{callLimit, greatestTime}
 use Rattle.machine.specs.Fields.{field, requestOf, isNumber, numberOf}
-use Rattle.machine.specs.Partition.{normalMode, running}
+use Rattle.machine.specs.Partition.{normalMode, running, noted}
 use Rattle.machine.specs.Decisions.{checked, replyOf}
 use Rattle.machine.specs.Windows.{lookup}
-use Rattle.machine.specs.Module.{current, emptyModule, emptyTable}
+use Rattle.machine.specs.Module.{current, emptyModule, emptyTable, noPartition, withPart}
 use Rattle.machine.specs.Channels.{portOf}
 use Rattle.machine.specs.Services.{serviceOf, callDecision}
 use Rattle.machine.specs.Places.{malformed, strayField, noCaller}
@@ -118,3 +122,7 @@ module _ (m : Module) (k : ℕ) (u : SoundModule m) (h : Calling m k) where
     gives stray d q =
         let is : step m (callBy k n a b c e) ≡ stepped m (asked n (field a) (field b) (field c) (field e)) d = ap (λ (r : Request). stepped m r (decision m r)) request-is ∙ ap (stepped m (asked n (field a) (field b) (field c) (field e))) (decided stray ∙ q) in
         record { codeIs = ap (λ (s : Stepped). s .answer .code) is; valueIs = ap (λ (s : Stepped). s .answer .value) is; extraIs = ap (λ (s : Stepped). s .answer .extra) is; state = ap (λ (s : Stepped). s .state) is }
+
+  -- the caller's partition after a call that stored it
+  pub own-after : {e : EventT} {code value : ℕ} {extra : Time} (p : Partition) → Gives m e code value extra (withPart (k - 1) p m) → own (step m e .state) k ≡ noted p
+  own-after p g = ap (λ (n : Module). own n k) (g .state) ∙ getD-set-same (m .partitions) (k - 1) (noted p) noPartition (omega (arith, calling-place, u .partitionsSize, u .table .size .1))

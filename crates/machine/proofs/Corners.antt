@@ -1,7 +1,7 @@
 -- The starred corners, proved. Assumes nothing.
 use Prim.Native.Nat.{ℕ, zero, suc, _+_, _-_, _*_, _/_, _%_, _≤_, _<_, max}
 use mathlib.Core.Path.{_≡_, refl, sym, ap, ap₂, _∙_}
-use mathlib.Core.Bool.{Bool, true, false, cond, not, _&&_, _||_, true≢false, and-false}
+use mathlib.Core.Bool.{Bool, true, false, cond, not, _&&_, _||_, and-false}
 use mathlib.Core.List.{List, [], _∷_}
 use native.Mathlib.Omega.{arith}
 use native.Mathlib.Nat.{mod-self, add-mod-left, mod-eq-of-lt}
@@ -26,7 +26,7 @@ use Rattle.machine.specs.declared.Time.the-variants.{Never, At}
 use Rattle.machine.specs.Limits.{processLimit, semaphoreLimit, eventLimit, nameLimit, priorityLimit, valueLimit, durationLimit, greatestTime}
 use Rattle.machine.specs.Fields.{field, between, isMinusOne, timeOf}
 use Rattle.machine.specs.Ids.{removed, follow}
-use Rattle.machine.specs.Process.{Class, classOf, objectIn, forNothing, blankProcess, createdProcess, periodic, ready, onObject, withCurrent, startRule, startedEarly, nextRelease}
+use Rattle.machine.specs.Process.{blankProcess, createdProcess, periodic, ready, onObject, withCurrent, startRule, startedEarly, nextRelease}
 use Rattle.machine.specs.Partition.{normalMode, process, semaphore, event, byId, noSemaphore, noEvent, running, withProcesses, stored, created, applied}
 use Rattle.machine.specs.Windows.{windows, noWindow, firstFlagged, releaseAfter, flaggedFor}
 use Rattle.machine.specs.Decisions as D
@@ -46,7 +46,7 @@ use Rattle.machine.proofs.Keeping.{stored-listed, process-stored}
 use Rattle.machine.proofs.Kept.{running-caller}
 use Rattle.machine.proofs.Quiet.{follow-same}
 use Rattle.machine.proofs.Reached.{release-plain}
-use Rattle.machine.proofs.Sound.{capacity-bound}
+use Rattle.machine.proofs.Sound.{capacity-bound, period-not-after, ready-off}
 use Rattle.machine.proofs.Plain.{arrived-plain, release-point-plain, release-deadline-plain, next-plain, next-deadline-plain}
 use Rattle.machine.proofs.Calling.{field-number, from-zero, calling-sound, calling-valid, calling-context, asked, gives}
 
@@ -82,10 +82,6 @@ time-of-field : (x : Time) → timeOf (fieldOf x) ≡ x
 time-of-field Never = refl
 time-of-field (At n) = refl
 
-period-bound : (frame : ℕ) (x : Time) → SoundPeriod frame x → NotAfter durationLimit x
-period-bound frame Never h = tt
-period-bound frame (At n) h = h .0 .1
-
 period-fits : (frame : ℕ) (x : Time) → 1 ≤ frame → SoundPeriod frame x → (isMinusOne (fieldOf x) || C.isMultiple frame (fieldOf x)) ≡ true
 period-fits frame Never f h = refl
 period-fits frame (At n) f h = rw (le-leb 1 n (h .0 .0), le-leb n durationLimit (h .0 .1), ne-eqb frame 0 (λ z. omega arith), h .1)
@@ -108,17 +104,6 @@ first-is k s ws f = go ws (f .at) (f .inside) (f .owner) (f .flagged) (f .starts
         rw q (go ws at (omega arith) o f e (λ i l. none (suc i) (omega arith)))
 
 -- ---------------------------------------------------------------- a process stored
--- a READY process waits on no object
-ready-off : (x : Process) → ready x ≡ true → onObject x ≡ false
-ready-off x h = rw (go (classOf (x .wait)) (and-right (not (x .suspended)) _ (and-right (x .started) _ h)))
-  where
-    go : (c : Class) → forNothing c ≡ true → objectIn c ≡ 0
-    go Class.nothing e = refl
-    go Class.normal e = refl
-    go Class.timer e = refl
-    go Class.release e = refl
-    go (Class.onto kind j) e = absurd (true≢false (sym e))
-
 module _ (p : Partition) (v : ListedIn p) (id : ℕ) (b : Between 1 (p .processCount) id) (x : Process) where
   inside : stored id x p ≡ withProcesses (set (p .processes) (id - 1) x) (p .processCount) (follow (ready (process id p)) (ready x) id (p .arrival)) (follow (onObject (process id p)) (onObject x) id (p .waiting)) p
   inside = let w = within-in processLimit id (b .0) (omega (arith, b .1, v .numbered .few)) in stored-in id x p w ∙ rw (← named-in processLimit id blankProcess (p .processes) w)
@@ -203,7 +188,7 @@ module _ (m : Module) (k : ℕ) (u : SoundModule m) (h : Calling m k) where
   create-fits name priority period capacity room new g =
       rw (time-of-field period, time-of-field capacity) at
       (create-accepted name priority (fieldOf period) (fieldOf capacity) room new (timeNumber period) (timeNumber capacity)
-      (time-field period (period-bound (m .table .frame) period (g .period))) (time-field capacity (capacity-bound period capacity (g .capacity)))
+      (time-field period (period-not-after (m .table .frame) period (g .period))) (time-field capacity (capacity-bound period capacity (g .capacity)))
       (omega (arith, g .name .1)) (omega (arith, g .base .1))
       (rw (le-leb 1 name (g .name .0), le-leb name nameLimit (g .name .1), le-leb 1 priority (g .base .0), le-leb priority priorityLimit (g .base .1), period-fits (m .table .frame) period frame-some (g .period)) (capacity-fits period capacity (g .capacity))))
 
@@ -484,7 +469,7 @@ module _ (m : Module) (k : ℕ) (u : SoundModule m) (h : Calling m k) where
       rw (d, a) in
       puts-is m k _ _
       (gives m k u h 10 (pos 0) (pos 0) (pos 0) (pos 0) (omega arith) (omega arith) refl (Blocked id (awaitsNext (r + n) x)) (rw (normal-is normal, is, f)))
-      (stored-leaves p (v .lists) id b (awaitsNext (r + n) x) (caller-ready normal) (rw (and-false (not (x .suspended))) (and-false (x .started))) (ready-off x (caller-ready normal)))
+      (stored-leaves p (v .lists) id b (awaitsNext (r + n) x) (caller-ready normal) (rw (and-false (not (x .suspended))) (and-false (x .started))) (rw (ready-off x (caller-ready normal))))
 
 pub corners : (m : Module) (k : ℕ) → Calling m k → Corners m k
 corners m k h = record {

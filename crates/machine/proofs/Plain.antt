@@ -47,7 +47,7 @@ use Rattle.machine.proofs.Bounds.{either, within-in, outside-high, name
 use Rattle.machine.proofs.Tracking.{tracks-room, appended-plain}
 use Rattle.machine.proofs.Lists.{members-idsOf, appended-idsOf}
 use Rattle.machine.proofs.Keeping.{process-ranged, process-created, removed-room, changedAll, each-changed, ended-changed, AllCreated, from-range, stored-rest, rest-count, stored-listed}
-use Rattle.machine.proofs.Sound.{later-plain, later-not-after, at-most-more, at-most-not-after, capacity-bound, period-bound, at-most-released, ready-released, times-bounded}
+use Rattle.machine.proofs.Sound.{later-plain, later-not-after, at-most-more, at-most-not-after, capacity-bound, period-not-after, at-most-released, ready-released, times-bounded}
 use Rattle.machine.proofs.Dispatch.{Calls, by-event}
 use Rattle.machine.proofs.Bodies.{Bodily}
 use Rattle.machine.proofs.Kept.{change-valid, waiters-created}
@@ -294,7 +294,7 @@ module _ (s : Setting) (x : Process) (h : SoundProcess s x) (normal : s .normal 
   r-bound = at-most-not-after timeLimit (x .times .release) (at-most-more (s .time) timeLimit (x .times .release) (at-most-released (s .time) (x .given .period) (x .times .release) some (ready-released s x h normal k)) ends)
 
   p-bound : NotAfter durationLimit (x .given .period)
-  p-bound = at-most-not-after durationLimit (x .given .period) (period-bound (s .frame) (x .given .period) (h .lasting .given .period) some)
+  p-bound = period-not-after (s .frame) (x .given .period) (h .lasting .given .period)
 
   pub next-plain : later (x .times .release) (x .given .period) ≡ plainLater (x .times .release) (x .given .period)
   next-plain = later-uncapped timeLimit durationLimit (x .times .release) (x .given .period) r-bound p-bound (omega arith)

@@ -7,7 +7,6 @@ use mathlib.Core.List.{List, [], _∷_, _++_, append-nil, append-assoc}
 use mathlib.Core.Logic.{_⊎_, inl, inr, ⊎-elim}
 use native.Mathlib.Omega.{arith}
 use lib.ListN.{length, getD, set}
-use lib.Seq.{getD-set-same}
 use lib.Dec.{eqb, leb}
 use lib.IntN.{ℤ, pos, negsuc}
 use borrow.Author.Tests.{lt-ltb, eq-eqb, ne-eqb, eqb-true, le-leb, leb-true, not-false}
@@ -23,7 +22,6 @@ use Rattle.machine.specs.declared.Semaphore.{Semaphore as SemaphoreT}
 use Rattle.machine.specs.declared.EventState.{EventState}
 use Rattle.machine.specs.declared.Wait.{Wait}
 use Rattle.machine.specs.declared.Wait.the-variants.{Semaphore, Event}
-use Rattle.machine.specs.declared.Time.{Time}
 use Rattle.machine.specs.declared.Time.the-variants.{At}
 use Rattle.machine.specs.declared.Field.{Field}
 use Rattle.machine.specs.declared.Field.the-variants.{Number}
@@ -54,11 +52,11 @@ use Rattle.machine.proofs.Bounds.{either, same-or-not, not-so, within-i
 use Rattle.machine.proofs.Lists.{members-idsOf, kept-snoc}
 use Rattle.machine.proofs.Tracking.{contains-kept, kept-same, kept-kept, kept-all, kept-no, kept-whole}
 use Rattle.machine.proofs.Keeping.{process-other, process-stored, stored-rest, rest-count, stored-listed, changedAll, ended-changed, each-changed, from-range, changed-rest, changed-listed, changed-process, each-listed, each-process, AllCreated}
-use Rattle.machine.proofs.Sound.{ready-parts}
+use Rattle.machine.proofs.Sound.{ready-off}
 use Rattle.machine.proofs.Dispatch.{by-call, Calls, by-event}
 use Rattle.machine.proofs.Bodies.{Bodily, bodyRefusal}
 use Rattle.machine.proofs.Kept.{tick-valid, change-valid, nothing-valid, Caller, running-caller, waiters-distinct, waiters-exact, waiters-on, waiters-created}
-use Rattle.machine.proofs.Calling.{field-number, from-zero, calling-sound, calling-place, calling-valid, asked, decides, gives}
+use Rattle.machine.proofs.Calling.{field-number, from-zero, calling-sound, calling-valid, asked, decides, gives, own-after}
 use Rattle.machine.proofs.Corners.{known}
 use Rattle.machine.proofs.Reached.{at-set, plain-part, tick-module-plain, place, context-sound, made, made-sound, made-body, decided-sound, valid-sound, reached-valid}
 use Rattle.machine.proofs.Answers.{decided-table}
@@ -413,9 +411,6 @@ module _ (o : ℕ) (some : o ≡ 0 → ⊥) where
   change-part c p v (Entered d) h k = part-of _ _ (entered-queue p (v .lists) o some d)
 
 -- a READY process that begins to wait: it joins last, where it waits on the object
-ready-off : (x : Process) → ready x ≡ true → object (x .wait) ≡ 0
-ready-off x h = ap objectIn (ready-parts x h .2)
-
 module _ (o : ℕ) (some : o ≡ 0 → ⊥) (p : Partition) (v : ListedIn p) (id : ℕ) (b : Between 1 (p .processCount) id) (x : Process) (h : ready (process id p) ≡ true) where
   pub joins-last : waiters o (stored id x p) ≡ waiters o p ++ cond (eqb (object (x .wait)) o) (id ∷ []) []
   joins-last = stored-queue p v id b x o some (inl (ready-off (process id p) h)) ∙ rw (off) (go (eqb (object (x .wait)) o))
@@ -610,10 +605,6 @@ module _ (m : Module) (k : ℕ) (u : SoundModule m) (h : Calling m k) where
   valid : Valid (m .table .frame) (m .t) p
   valid = calling-valid m k u h
 
-  -- the caller's partition after a call that stores it
-  after-is : {e : EventT} {code value : ℕ} {extra : Time} (q : Partition) → Gives m e code value extra (withPart (k - 1) q m) → own (step m e .state) k ≡ noted q
-  after-is q g = ap (λ (n : Module). own n k) (g .state) ∙ getD-set-same (m .partitions) (k - 1) (noted q) noPartition (omega (arith, calling-place m k u h, u .partitionsSize, u .table .size .1))
-
   -- a call that waits for the object that w names, where it has to wait
   module _ (n j count : ℕ) (a : ℤ) (w : Wait) (lo : 1 ≤ n) (hi : n ≤ callLimit) (some : object w ≡ 0 → ⊥) (success : Decision) where
     abbrev asks : EventT
@@ -631,8 +622,8 @@ module _ (m : Module) (k : ℕ) (u : SoundModule m) (h : Calling m k) where
         let g = gives m k u h n (pos j) a (pos 0) (pos 0) lo hi stray (Blocked (running p) x) (is ∙ rw (known m k u h j count b, eq-eqb (p .mode) 3 normal, f .0, f .1)) in
         record {
           code = g .codeIs;
-          wait = rw (after-is q g) (ap (λ (y : Process). y .wait) (process-stored p (running p) x (valid .lists) (c .created)));
-          queue = rw (after-is q g) (same-queue (object w) q (noted q) refl (λ _. refl) ∙ joins-last (object w) some p (valid .lists) (running p) (c .created) x (c .isReady) ∙ rw (eq-eqb (object w) (object w) refl));
+          wait = rw (own-after m k u h q g) (ap (λ (y : Process). y .wait) (process-stored p (running p) x (valid .lists) (c .created)));
+          queue = rw (own-after m k u h q g) (same-queue (object w) q (noted q) refl (λ _. refl) ∙ joins-last (object w) some p (valid .lists) (running p) (c .created) x (c .isReady) ∙ rw (eq-eqb (object w) (object w) refl));
         }
 
   wait-semaphore : (j : ℕ) (a : ℤ) → p .mode ≡ 3 → Between 1 (p .semaphoreCount) j → semaphore j p .value ≡ 0 → WaitsFor a → Queued m k (callBy k 15 (pos j) a (pos 0) (pos 0)) (Semaphore j)
@@ -669,10 +660,10 @@ module _ (m : Module) (k : ℕ) (u : SoundModule m) (h : Calling m k) where
         let g = signal-gives (id ∷ rest) e in
         record {
           code = g .codeIs;
-          queue = rw (after-is q g) (same-queue o q (noted q) refl (λ _. refl) ∙ first-served o some p v id rest e);
-          ended = rw (after-is q g, process-stored p id x v (first-created o some p v id rest e)) (ended-is (process id p));
-          others = λ y ne. rw (after-is q g) (process-other p id x y ne);
-          semaphores = rw (after-is q g) (ap (λ (r : Partition). r .semaphores) (stored-rest p id x));
+          queue = rw (own-after m k u h q g) (same-queue o q (noted q) refl (λ _. refl) ∙ first-served o some p v id rest e);
+          ended = rw (own-after m k u h q g, process-stored p id x v (first-created o some p v id rest e)) (ended-is (process id p));
+          others = λ y ne. rw (own-after m k u h q g) (process-other p id x y ne);
+          semaphores = rw (own-after m k u h q g) (ap (λ (r : Partition). r .semaphores) (stored-rest p id x));
         }
 
     signal-none : waiters o p ≡ [] → NoneServed m k signals j
@@ -686,9 +677,9 @@ module _ (m : Module) (k : ℕ) (u : SoundModule m) (h : Calling m k) where
         let g = signal-gives [] e in
         record {
           code = g .codeIs;
-          queue = rw (after-is q g) (same-queue o q (noted q) refl (λ _. refl) ∙ semaphore-queue p (valid .lists) o some j s ∙ e);
-          value = rw (after-is q g, semaphore-in j s p i, named-same semaphoreLimit noSemaphore j s (p .semaphores) (b .0) few (omega (arith, valid .objects .semaphores .size))) (rw (lt-ltb (semaphore j p .value) greatestValue (omega (arith, t .value, t .max .1))));
-          processes = rw (after-is q g) (ap (λ (r : Partition). r .processes) (semaphore-in j s p i));
+          queue = rw (own-after m k u h q g) (same-queue o q (noted q) refl (λ _. refl) ∙ semaphore-queue p (valid .lists) o some j s ∙ e);
+          value = rw (own-after m k u h q g, semaphore-in j s p i, named-same semaphoreLimit noSemaphore j s (p .semaphores) (b .0) few (omega (arith, valid .objects .semaphores .size))) (rw (lt-ltb (semaphore j p .value) greatestValue (omega (arith, t .value, t .max .1))));
+          processes = rw (own-after m k u h q g) (ap (λ (r : Partition). r .processes) (semaphore-in j s p i));
         }
 
   -- SET_EVENT
@@ -741,7 +732,7 @@ module _ (m : Module) (k : ℕ) (u : SoundModule m) (h : Calling m k) where
     pub set-event : AllServed m k sets queue × (event j (own (step m sets .state) k) .up ≡ true)
     set-event =
         let is : (y : ℕ) → process y done ≡ cond (contains y (waiters queue p)) (served (process y p)) (process y p) = λ y. ended-process up up-listed queue is-some queue y ∙ rw (up-queue, up-process y) in
-        let g = after-is done set-gives in (
+        let g = own-after m k u h done set-gives in (
           record {
             code = set-gives .codeIs;
             queue = rw g (same-queue queue done (noted done) refl (λ _. refl) ∙ ended-queue up up-listed queue is-some);

@@ -52,6 +52,10 @@ pub capacity-bound : (period c : Time) → SoundCapacity period c → NotAfter d
 capacity-bound period Never h = tt
 capacity-bound period (At n) h = h .0 .1
 
+pub period-not-after : (frame : ℕ) (p : Time) → SoundPeriod frame p → NotAfter durationLimit p
+period-not-after frame Never h = tt
+period-not-after frame (At n) h = h .0 .1
+
 pub period-bound : (frame : ℕ) (p : Time) → SoundPeriod frame p → isNever p ≡ false → AtMost durationLimit p
 period-bound frame Never h e = not-both _ refl e
 period-bound frame (At n) h e = h .0 .1
@@ -328,6 +332,10 @@ ready-parts x h =
     let a = and-true-parts (x .started) _ h in
     let b = and-true-parts (not (x .suspended)) _ (a .1) in
     (a .0, not-true (x .suspended) (b .0), for-nothing (classOf (x .wait)) (b .1))
+
+-- a READY process waits on no object
+pub ready-off : (x : Process) → ready x ≡ true → object (x .wait) ≡ 0
+ready-off x h = ap objectIn (ready-parts x h .2)
 
 -- a READY process that begins to wait, in NORMAL
 module _ (s : Setting) (x : Process) (h : SoundProcess s x) (n : s .normal ≡ true) (k : ready x ≡ true) where

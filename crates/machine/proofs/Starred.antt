@@ -7,7 +7,7 @@ use mathlib.Core.Logic.{inr}
 use native.Mathlib.Omega.{arith}
 use lib.IntN.{pos}
 use lib.ListN.{getD}
-use lib.Seq.{getD-set-same, getD-set-other}
+use lib.Seq.{getD-set-other}
 use lib.Dec.{eqb}
 use borrow.Author.Tests.{eqb-false, eq-eqb, ne-eqb, le-leb, not-true}
 use Rattle.machine.specs.declared.Process.{Process}
@@ -51,7 +51,7 @@ use Rattle.machine.proofs.Keeping.{each-rest, each-process}
 use Rattle.machine.proofs.Kept.{waiters-exact}
 use Rattle.machine.proofs.Reached.{reached-valid, valid-sound, plain-part, tick-module-plain}
 use Rattle.machine.proofs.Queues.{signal-first, set-event}
-use Rattle.machine.proofs.Calling.{from-zero, number-is, number-of, calling-sound, calling-place, calling-valid, gives}
+use Rattle.machine.proofs.Calling.{from-zero, number-is, number-of, calling-sound, calling-valid, gives, own-after}
 use Rattle.machine.proofs.Worked.{worked}
 use Rattle.machine.proofs.Corners.{normal-not, started-is, immediate-release, delayed-release, corners}
 
@@ -246,10 +246,6 @@ module _ (m : Module) (u : SoundModule m) (room : m .t < timeLimit) (k id : ℕ)
 
 -- ---------------------------------------------------------------- calls
 module _ (m : Module) (k : ℕ) (u : SoundModule m) (h : Calling m k) where
-  -- the caller's partition after a call that stored it
-  own-after : {e : EventT} {code value : ℕ} (p : Partition) → Puts m e code value k p → own (St.step m e .state) k ≡ noted p
-  own-after p g = rw (g .state) (getD-set-same (m .partitions) (k - 1) (noted p) M.noPartition (omega (arith, u .partitionsSize, u .table .size .1, calling-place m k u h)))
-
   module _ (id n s : ℕ) (early : own m k .mode ≡ 3 → ⊥) (b : Between 1 (own m k .processCount) id) (w : process id (own m k) .wait ≡ Normal) (e : process id (own m k) .given .period ≡ At n) (f : FirstFlagged k s (windows (m .table))) where
     enter-gives : Puts m (callBy k 1 (pos 3) (pos 0) (pos 0) (pos 0)) 0 0 k (enteredNormal (St.contextOf m k) (own m k))
     unfolding callDecision services Pl.strayField C.setMode D.checked
@@ -271,7 +267,7 @@ module _ (m : Module) (k : ℕ) (u : SoundModule m) (h : Calling m k) where
         (St.step m a .answer .code ≡ 0) × (own (St.step m a .state) k .mode ≡ 3)
         × (process id (own (St.step m a .state) k) ≡ awaitsRelease (releaseAt m s (process id (own m k) .times .delay)) (process id (own m k) .times .delay) (process id (own m k) .current) (process id (own m k) .suspended) false (process id (own m k)))
     enter-deadline =
-        let q = own-after (enteredNormal (St.contextOf m k) (own m k)) enter-gives in
+        let q = own-after m k u h (enteredNormal (St.contextOf m k) (own m k)) enter-gives in
         (enter-gives .codeIs, ap (λ (p : Partition). p .mode) q ∙ entered-mode, ap (process id) q ∙ entered-process)
 
   -- ---------------------------------------------------------------- SIGNAL

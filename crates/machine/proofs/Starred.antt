@@ -1,24 +1,25 @@
 -- The mistakes to shut out, proved, and the whole list of starred cases. Assumes nothing.
 use Prim.Native.Nat.{ℕ, zero, suc, _+_, _-_, _*_, _≤_, _<_, max}
 use mathlib.Core.Path.{_≡_, refl, sym, ap, _∙_}
-use mathlib.Core.Bool.{Bool, true, false, cond, not, _||_, and-false, or-true}
+use mathlib.Core.Bool.{Bool, true, false, cond, not, _||_, and-false, or-true, _&&_}
 use mathlib.Core.List.{List, [], _∷_, _++_}
-use mathlib.Core.Logic.{inr}
+use mathlib.Core.Logic.{inr, ⊎-elim}
 use native.Mathlib.Omega.{arith}
 use lib.IntN.{pos}
-use lib.ListN.{getD}
-use lib.Seq.{getD-set-other}
+use lib.ListN.{getD, length, length-set}
+use lib.Seq.{getD-set-same, getD-set-other}
 use lib.Dec.{eqb}
-use borrow.Author.Tests.{eqb-false, eq-eqb, ne-eqb, le-leb, not-true}
+use borrow.Author.Tests.{eqb-true, eqb-false, eq-eqb, ne-eqb, le-leb, not-true}
 use Rattle.machine.specs.declared.Process.{Process}
 use Rattle.machine.specs.declared.Partition.{Partition}
 use Rattle.machine.specs.declared.Event.{Event as EventT}
+use Rattle.machine.specs.declared.Table.{Table}
 use Rattle.machine.specs.declared.Module.{Module}
 use Rattle.machine.specs.declared.Port.{Port}
 use Rattle.machine.specs.declared.Message.{Message}
 use Rattle.machine.specs.declared.Change.the-variants.{Entered}
 use Rattle.machine.specs.declared.Decision.{Decision}
-use Rattle.machine.specs.declared.Decision.the-variants.{Written, Ticked}
+use Rattle.machine.specs.declared.Decision.the-variants.{Written, Ticked, Restarted}
 use Rattle.machine.specs.declared.Field.{Field}
 use Rattle.machine.specs.declared.Field.the-variants.{Number, MinusOne, Other}
 use Rattle.machine.specs.declared.Wait.{Wait}
@@ -29,7 +30,7 @@ use Rattle.machine.specs.Limits.{timeLimit, channelLimit}
 use Rattle.machine.specs.Fields.{field, requestOf, isNumber, numberOf}
 use Rattle.machine.specs.Ids.{members, kept}
 use Rattle.machine.specs.Process.{due, object, onObject, ready, onlyMarked, waitEnded, woken, expired, ticked, waitsForNothing, entered}
-use Rattle.machine.specs.Partition.{process, semaphore, event, withMode, waitsOn, waiters, enteredNormal, tickPartition, noted}
+use Rattle.machine.specs.Partition.{process, semaphore, event, withMode, waitsOn, waiters, enteredNormal, tickPartition, noted, nothingCreated}
 use Rattle.machine.specs.Windows.{windows}
 use Rattle.machine.specs.Services.{services, callDecision}
 use Rattle.machine.specs.Decisions as D
@@ -40,10 +41,10 @@ use Rattle.machine.specs.Ticks as Ti
 use Rattle.machine.specs.Channels as Ch
 use Rattle.machine.specs.Places as Pl
 use Rattle.machine.specs.Step as St
-use Rattle.machine.specs.Starred.{own, callBy, tick, Puts, Calling, FirstFlagged, releaseAt, awaitsRelease, WaitEnded, ReadyUnmarked, Ticks, Mistakes, Starred}
+use Rattle.machine.specs.Starred.{own, callBy, tick, Gives, Puts, Calling, FirstFlagged, releaseAt, awaitsRelease, WaitEnded, ReadyUnmarked, Ticks, Mistakes, Starred}
 use Rattle.machine.specs.Valid.{Between, SoundModule, contains, plainTick}
 use Rattle.machine.proofs.Tests.{by-test, and-left, and-right, not-both}
-use Rattle.machine.proofs.Bounds.{not-so}
+use Rattle.machine.proofs.Bounds.{not-so, same-or-not}
 use Rattle.machine.proofs.Dispatch.{by-event, by-decision, ticks-decided}
 use Rattle.machine.proofs.Bodies.{FromSource, Bodily, call-body}
 use Rattle.machine.proofs.Refusals.{refused-same, places, call-in-range}
@@ -51,7 +52,7 @@ use Rattle.machine.proofs.Keeping.{each-rest, each-process}
 use Rattle.machine.proofs.Kept.{waiters-exact}
 use Rattle.machine.proofs.Reached.{reached-valid, valid-sound, plain-part, tick-module-plain}
 use Rattle.machine.proofs.Queues.{signal-first, set-event}
-use Rattle.machine.proofs.Calling.{from-zero, number-is, number-of, calling-sound, calling-valid, gives, own-after}
+use Rattle.machine.proofs.Calling.{field-number, from-zero, number-is, number-of, calling-sound, calling-place, calling-valid, gives, own-after}
 use Rattle.machine.proofs.Worked.{worked}
 use Rattle.machine.proofs.Corners.{normal-not, started-is, immediate-release, delayed-release, corners}
 
@@ -63,10 +64,14 @@ unseen m e h = rw h
 or-both : (a b : Bool) → a ≡ false → b ≡ false → (a || b) ≡ false
 or-both a b p q = rw (p, q)
 
-neighbour : (m : Module) (e : EventT) → (e .partition ≡ pos 0 → ⊥) → (e .partition ≡ pos (St.step m e .answer .current) → ⊥) → St.step m e .answer .running ≡ 0
+answer-current : (m : Module) (e : EventT) → St.step m e .answer .current ≡ M.current (St.step m e .state)
+unfolding St.step
+answer-current m e = refl
+
+neighbour : (m : Module) (e : EventT) → (e .partition ≡ pos 0 → ⊥) → (e .partition ≡ pos (M.current (St.step m e .state)) → ⊥) → St.step m e .answer .running ≡ 0
 neighbour m e none other =
     unseen m e (or-both (isNumber 0 (field (e .partition))) (isNumber (St.step m e .answer .current) (field (e .partition)))
-    (not-so _ (λ t. none (number-is (e .partition) 0 t))) (not-so _ (λ t. other (number-is (e .partition) _ t))))
+    (not-so _ (λ t. none (number-is (e .partition) 0 t))) (not-so _ (λ t. other (number-is (e .partition) _ t ∙ ap pos (answer-current m e)))))
 
 -- an 8 is given to a partition that is neither 0 nor current, and leaves the record as it is
 eight-unseen : (m : Module) (e : EventT) → St.step m e .answer .code ≡ 8 → St.sees (requestOf e) (M.current m) ≡ false
@@ -79,10 +84,6 @@ eight-unseen m e h =
     go (Number n) z c = rw (not-true (eqb n 0) z) (ne-eqb n (M.current m) (λ q. eqb-false (M.current m) n (not-true (eqb (M.current m) n) c) (sym q)))
     go MinusOne z c = refl
     go Other z c = refl
-
-answer-current : (m : Module) (e : EventT) → St.step m e .answer .current ≡ M.current (St.step m e .state)
-unfolding St.step
-answer-current m e = refl
 
 eight-refuses : St.refusal 8 ≡ true
 unfolding St.refusal
@@ -102,6 +103,26 @@ erased-other k (suc n) m i h =
     by-test (λ (l : List Message). getD l i D.noMessage ≡ M.message m i) (eqb (M.channel (m .table) n .destination) k)
     (λ q. getD-set-other (Ch.erasedTo k n m .messages) n i D.noMessage D.noMessage (λ e. not-both (eqb (M.channel (m .table) n .destination) k) q (rw e at h)) ∙ erased-other k n m i h)
     (λ q. erased-other k n m i h)
+
+-- and those into partition k are gone
+erased-own : (k n : ℕ) (m : Module) (i : ℕ) → i < n → n ≤ length (m .messages) → M.channel (m .table) i .destination ≡ k → M.message (Ch.erasedTo k n m) i ≡ D.noMessage
+unfolding Ch.keptTo
+erased-own k zero m i h long d = absurd (omega arith)
+erased-own k (suc n) m i h long d =
+    let size = kept-size (m .table) k n (m .messages) in
+    by-test (λ (l : List Message). getD l i D.noMessage ≡ D.noMessage) (eqb (M.channel (m .table) n .destination) k)
+    (λ q. ⊎-elim
+    (λ (e : i ≡ n). rw e (getD-set-same (Ch.keptTo (m .table) k n (m .messages)) n D.noMessage D.noMessage (omega arith)))
+    (λ (ne : i ≡ n → ⊥). getD-set-other (Ch.keptTo (m .table) k n (m .messages)) n i D.noMessage D.noMessage ne ∙ erased-own k n m i (omega (arith, ne)) (omega arith) d)
+    (same-or-not i n))
+    (λ q. erased-own k n m i (below q) (omega arith) d)
+  where
+    below : eqb (M.channel (m .table) n .destination) k ≡ false → i < n
+    below q = let ne : i ≡ n → ⊥ = λ e. eqb-false (M.channel (m .table) n .destination) k q (rw e at d) in omega (arith, ne)
+
+    kept-size : (T : Table) (k n : ℕ) (l : List Message) → length (Ch.keptTo T k n l) ≡ length l
+    kept-size T k zero l = refl
+    kept-size T k (suc n) l = by-test (λ (r : List Message). length r ≡ length l) (eqb (M.channel T n .destination) k) (λ _. simp length-set (kept-size T k n l)) (λ _. kept-size T k n l)
 
 tick-messages : (n : ℕ) (m : Module) → Ti.tickTo n m .messages ≡ m .messages
 unfolding Ti.tickTo Ti.tickAt
@@ -270,6 +291,29 @@ module _ (m : Module) (k : ℕ) (u : SoundModule m) (h : Calling m k) where
         let q = own-after m k u h (enteredNormal (St.contextOf m k) (own m k)) enter-gives in
         (enter-gives .codeIs, ap (λ (p : Partition). p .mode) q ∙ entered-mode, ap (process id) q ∙ entered-process)
 
+  -- ---------------------------------------------------------------- modes 0, 1, 2
+  module _ (mode : ℕ) (low : mode ≤ 2) (warm : mode ≡ 2 → own m k .mode ≡ 1 → ⊥) where
+    restart-gives : Gives m (callBy k 1 (pos mode) (pos 0) (pos 0) (pos 0)) 0 0 (At 0) (M.withPart (k - 1) (nothingCreated mode) (Ch.erasedTo k channelLimit m))
+    unfolding callDecision services Pl.strayField C.setMode D.checked
+    restart-gives =
+        gives m k u h 1 (pos mode) (pos 0) (pos 0) (pos 0) (omega arith) (omega arith) refl (Restarted mode)
+        (rw (field-number mode (omega arith), from-zero mode, le-leb mode 3 (omega arith), ne-eqb mode 3 (λ e. omega arith), not-warm))
+      where
+        not-warm : (eqb mode 2 && eqb (own m k .mode) 1) ≡ false
+        not-warm = not-so _ (λ t. warm (eqb-true mode 2 (and-left (eqb mode 2) _ t)) (eqb-true (own m k .mode) 1 (and-right (eqb mode 2) _ t)))
+
+    restart-is : let e = callBy k 1 (pos mode) (pos 0) (pos 0) (pos 0) in
+        (St.step m e .answer .code ≡ 0) × (own (St.step m e .state) k ≡ noted (nothingCreated mode))
+        × ((i : ℕ) → i < m .table .channelCount → M.channel (m .table) i .destination ≡ k → M.message (St.step m e .state) i .present ≡ false)
+        × ((i : ℕ) → (M.channel (m .table) i .destination ≡ k → ⊥) → M.message (St.step m e .state) i ≡ M.message m i)
+    restart-is =
+        let g = restart-gives in (
+          g .codeIs,
+          ap (λ (n : Module). own n k) (g .state) ∙ getD-set-same (m .partitions) (k - 1) (noted (nothingCreated mode)) M.noPartition (omega (arith, calling-place m k u h, u .partitionsSize, u .table .size .1)),
+          λ i b d. ap (λ (n : Module). M.message n i .present) (g .state) ∙ ap (λ (x : Message). x .present) (erased-own k channelLimit m i (omega (arith, u .table .channelCount)) (omega (arith, u .messagesSize)) d),
+          λ i ne. ap (λ (n : Module). M.message n i) (g .state) ∙ erased-other k channelLimit m i (ne-eqb _ k ne),
+        )
+
   -- ---------------------------------------------------------------- SIGNAL
   module _ (j id : ℕ) (before after : List ℕ) (b : Between 1 (own m k .semaphoreCount) j) (below : semaphore j (own m k) .value ≡ semaphore j (own m k) .max → ⊥)
       (split : members (own m k .waiting) ≡ before ++ (id ∷ after)) (w : process id (own m k) .wait ≡ Semaphore j)
@@ -314,6 +358,7 @@ mistakes = record {
   signalled = λ m k h. signal-ends m k (calling-sound m k h) h;
   eventSet = λ m k h. set-ends m k (calling-sound m k h) h;
   restart = restart-keeps;
+  restarted = λ m k h. restart-is m k (calling-sound m k h) h;
 }
 
 -- every starred case, and every mistake to shut out

@@ -21,7 +21,7 @@ use Rattle.machine.specs.declared.Time.the-variants.{Never, At}
 use Rattle.machine.specs.Limits.{processLimit, semaphoreLimit, eventLimit, nameLimit, priorityLimit, valueLimit, timeLimit}
 use Rattle.machine.specs.Ids.{members, idsOf, kept, other}
 use Rattle.machine.specs.Process.{createdProcess, ready, withCurrent}
-use Rattle.machine.specs.Partition.{process, semaphore, event, running, withProcesses, withSemaphores, withEvents}
+use Rattle.machine.specs.Partition.{process, semaphore, event, running, nothingCreated, noted, withProcesses, withSemaphores, withEvents}
 use Rattle.machine.specs.Windows.{windows, noWindow}
 use Rattle.machine.specs.Module.{part, message, channel, current, withPart}
 use Rattle.machine.specs.Step.{step}
@@ -280,7 +280,7 @@ pub record Mistakes : Type 0 where
   pub frozen : (m : Module) → Reached m → m .t < timeLimit → (k id : ℕ) → Between 1 (m .table .size) k → own m k .mode ≡ 3 → Between 1 (own m k .processCount) id
       → (step m tick .answer .code ≡ 0) × Ticks (m .t + 1) (process id (own m k)) (process id (own (step m tick .state) k))
   -- showing a neighbour's running process: whatever the code, it reads 0 where the event's partition is neither 0 nor current
-  pub neighbour : (m : Module) (e : EventT) → (e .partition ≡ pos 0 → ⊥) → (e .partition ≡ pos (step m e .answer .current) → ⊥) → step m e .answer .running ≡ 0
+  pub neighbour : (m : Module) (e : EventT) → (e .partition ≡ pos 0 → ⊥) → (e .partition ≡ pos (current (step m e .state)) → ⊥) → step m e .answer .running ≡ 0
   pub neighbourInEight : (m : Module) (e : EventT) → step m e .answer .code ≡ 8 → step m e .answer .running ≡ 0
   -- computing a periodic deadline from t: START and DELAYED_START in NORMAL
   pub startDeadline : (m : Module) (k : ℕ) → Calling m k → (id n s : ℕ) → let p = own m k in
@@ -311,6 +311,13 @@ pub record Mistakes : Type 0 where
   -- a source's restart erasing a message: an event that is no WRITE leaves the message of each channel into another partition
   pub restart : (m : Module) (e : EventT) (i : ℕ) → (e .call ≡ pos 21 → ⊥) → (e .partition ≡ pos (channel (m .table) i .destination) → ⊥)
       → message (step m e .state) i ≡ message m i
+  -- an accepted mode 0, 1 or 2: code 0, nothing created in the partition, no message on a channel into it, and on every other channel the
+  -- message that was there
+  pub restarted : (m : Module) (k : ℕ) → Calling m k → (mode : ℕ) → mode ≤ 2 → (mode ≡ 2 → own m k .mode ≡ 1 → ⊥)
+      → let e = callBy k 1 (pos mode) (pos 0) (pos 0) (pos 0) in
+      (step m e .answer .code ≡ 0) × (own (step m e .state) k ≡ noted (nothingCreated mode))
+      × ((i : ℕ) → i < m .table .channelCount → channel (m .table) i .destination ≡ k → message (step m e .state) i .present ≡ false)
+      × ((i : ℕ) → (channel (m .table) i .destination ≡ k → ⊥) → message (step m e .state) i ≡ message m i)
 
 -- the whole list
 pub record Starred : Type 0 where

@@ -3,7 +3,7 @@
 use Prim.Native.Nat.{ℕ, _≤_}
 use mathlib.Core.Path.{_≡_, refl}
 use mathlib.Core.Bool.{Bool, true, _&&_, _||_}
-use mathlib.Core.List.{List}
+use mathlib.Core.List.{List, [], _∷_}
 use lib.Dec.{eqb, leb}
 use borrow.Author.Tests.{eqb-true, not-false}
 use Rattle.machine.specs.declared.Partition.{Partition}
@@ -19,6 +19,11 @@ use Rattle.machine.specs.Decisions.{checked, replyOf, blocked, startMode
 use Rattle.machine.specs.Calls.{setMode, createProcess, start, stop, stopSelf, suspend, suspendSelf, timedWait, periodicWait, resume, setPriority, getStatus}
 use Rattle.machine.specs.Objects.{createSemaphore, waitSemaphore, signal, createEvent, setEvent, resetEvent, waitEvent}
 use Rattle.machine.specs.Channels.{channelChecks, write, read}
+use Rattle.machine.specs.declared.Wait.the-variants.{Sending}
+use Rattle.machine.specs.Process.{object}
+use Rattle.machine.specs.Partition.{waiters}
+use Rattle.machine.specs.Buffers.{createBuffer, sendBuffer, received, receiveBuffer}
+use Rattle.machine.specs.Blackboards.{createBlackboard, show, readBlackboard, clear}
 use Rattle.machine.specs.Services.{callDecision}
 use Rattle.machine.specs.Limits.{callLimit}
 use Rattle.machine.proofs.Tests.{by-test, by-codes, codesIn, Passed}
@@ -66,9 +71,15 @@ module _ (x : Port) (n : ℕ) where
   in-wait c before beside after a b success w p h f =
       in-body _ _ h (λ _. by-test (Body x n) b (λ _. f) (λ _. in-body _ _ refl (λ _. fine tt)))
 
+  -- a receive, whoever waits to send
+  takes : (l : List ℕ) (k : ℕ) (p : Partition) → Body x n (received l k p)
+  unfolding received
+  takes [] k p = fine tt
+  takes (id ∷ l) k p = fine tt
+
   -- the body of each call
   pub call-body : (c : Context) (r : Request) (p : Partition) → 1 ≤ n → n ≤ callLimit → Body x n (callDecision c x n r p)
-  unfolding setMode createProcess start stop stopSelf suspend suspendSelf timedWait periodicWait resume setPriority getStatus createSemaphore createEvent blocked waitSemaphore waitEvent signal setEvent resetEvent write read channelChecks Passed
+  unfolding setMode createProcess start stop stopSelf suspend suspendSelf timedWait periodicWait resume setPriority getStatus createSemaphore createEvent blocked waitSemaphore waitEvent signal setEvent resetEvent write read channelChecks createBuffer sendBuffer receiveBuffer createBlackboard show readBlackboard clear Passed
   call-body c r p lo hi =
       by-call c x n r p (Body x n)
       (λ a. in-body _ _ refl (λ _. by-test (Body x n) (isNumber 3 a) (λ _. fine tt) (λ _. fine tt)))
@@ -92,6 +103,13 @@ module _ (x : Port) (n : ℕ) where
       (λ _ _. in-wait c _ _ _ _ _ _ _ p refl (fine tt))
       (λ e _. in-body _ _ refl (λ h. in-body _ _ refl (λ _. fine (record { call = e; place = refl; there = not-false _ (h .0); source = eqb-true _ _ (not-false _ (h .1 .1 .0)) }))))
       (in-body _ _ refl (λ _. in-body _ _ refl (λ _. fine tt)))
+      (λ _ _. in-body _ _ refl (λ _. fine tt))
+      (λ _ _ _. in-wait c _ _ _ _ _ _ _ p refl (fine tt))
+      (λ k _. in-wait c _ _ _ _ _ _ _ p refl (takes (waiters (object (Sending k 0)) p) k p))
+      (λ _. in-body _ _ refl (λ _. fine tt))
+      (λ _ _. in-body _ _ refl (λ _. fine tt))
+      (λ _ _. in-wait c _ _ _ _ _ _ _ p refl (fine tt))
+      (λ _. in-body _ _ refl (λ _. fine tt))
       (λ out. absurd (out lo hi))
 
 -- the code of what a body decides

@@ -12,11 +12,13 @@ use borrow.Author.Tests.{lt-ltb, le-ltb, le-leb, lt-leb, ltb-true, ltb-false, le
 use Rattle.machine.specs.declared.Process.{Process}
 use Rattle.machine.specs.declared.Semaphore.{Semaphore as SemaphoreT}
 use Rattle.machine.specs.declared.EventState.{EventState}
+use Rattle.machine.specs.declared.Buffer.{Buffer}
+use Rattle.machine.specs.declared.Blackboard.{Blackboard as BlackboardT}
 use Rattle.machine.specs.declared.Partition.{Partition}
-use Rattle.machine.specs.Limits.{processLimit, semaphoreLimit, eventLimit}
+use Rattle.machine.specs.Limits.{processLimit, semaphoreLimit, eventLimit, bufferLimit, blackboardLimit}
 use Rattle.machine.specs.Ids.{follow}
 use Rattle.machine.specs.Process.{blankProcess, ready, onObject}
-use Rattle.machine.specs.Partition.{within, byId, replaced, withSemaphores, withEvents, withProcesses, stored, created, storedSemaphore, storedEvent}
+use Rattle.machine.specs.Partition.{within, byId, replaced, withSemaphores, withEvents, withBuffers, withBlackboards, withProcesses, stored, created, storedSemaphore, storedEvent, storedBuffer, storedBlackboard}
 use Rattle.machine.specs.Decisions.{unknown}
 use Rattle.machine.proofs.Tests.{by-test, or-left, or-right, and-left, and-right}
 
@@ -160,3 +162,21 @@ module _ (k : ℕ) (e : EventState) (p : Partition) where
   pub event-out : within eventLimit k ≡ false → storedEvent k e p ≡ p
   unfolding storedEvent
   event-out h = rw h
+
+module _ (k : ℕ) (b : Buffer) (p : Partition) where
+  pub buffer-in : within bufferLimit k ≡ true → storedBuffer k b p ≡ withBuffers (set (p .buffers) (k - 1) b) (max (p .bufferCount) k) p
+  unfolding storedBuffer replaced
+  buffer-in h = rw h
+
+  pub buffer-out : within bufferLimit k ≡ false → storedBuffer k b p ≡ p
+  unfolding storedBuffer
+  buffer-out h = rw h
+
+module _ (k : ℕ) (b : BlackboardT) (p : Partition) where
+  pub blackboard-in : within blackboardLimit k ≡ true → storedBlackboard k b p ≡ withBlackboards (set (p .blackboards) (k - 1) b) (max (p .blackboardCount) k) p
+  unfolding storedBlackboard replaced
+  blackboard-in h = rw h
+
+  pub blackboard-out : within blackboardLimit k ≡ false → storedBlackboard k b p ≡ p
+  unfolding storedBlackboard
+  blackboard-out h = rw h

@@ -231,7 +231,7 @@ module _ (m : Module) (k : ℕ) (u : SoundModule m) (h : Calling m k) where
   semaphore-name-corner start max room new b s =
       let o = v .objects in
       let full : leb semaphoreLimit (p .semaphoreCount) ≡ false = lt-leb semaphoreLimit (p .semaphoreCount) (room .less) in
-      let fresh : (name : ℕ) → NewSemaphore p name → Ob.semaphoreNamed (Number name) (take (p .semaphoreCount) (p .semaphores)) ≡ false = λ name f. new-name (λ (x : SemaphoreT). x .name) name noSemaphore semaphoreLimit (p .semaphoreCount) (p .semaphores) (o .semaphores .few) (o .semaphores .size) f in
+      let fresh : (name : ℕ) → NewSemaphore p name → Ob.semaphoreNamed (Number name) (take (p .semaphoreCount) (p .semaphores)) ≡ false = λ name f. new-name (λ (x : SemaphoreT). x .name) name noSemaphore semaphoreLimit (p .semaphoreCount) (p .semaphores) (o .semaphores .numbered .few) (o .semaphores .numbered .size) f in
       let n = p .semaphoreCount + 1 in
       let x : SemaphoreT = record { name = nameLimit; value = start; max = max } in
       let e : n - 1 ≡ p .semaphoreCount = omega arith in
@@ -241,7 +241,7 @@ module _ (m : Module) (k : ℕ) (u : SoundModule m) (h : Calling m k) where
             (rw (field-number start (omega (arith, b .1)), field-number max (omega (arith, b .1)), full, fresh nameLimit new, le-leb 1 max (b .0), le-leb max valueLimit (b .1), from-zero start, le-leb start max s, normal-not (room .early))))
             (semaphore-in n x p (within-in semaphoreLimit n (omega arith) (omega (arith, room .less))) ∙ rw (e, t)),
         gives m k u h 14 (pos (nameLimit + 1)) (pos start) (pos max) (pos 0) (omega arith) (omega arith) refl (Refused 3)
-            (rw (full, fresh (nameLimit + 1) (λ j r q. omega (arith, o .eachSemaphore j r .name .1)))),
+            (rw (full, fresh (nameLimit + 1) (λ j r q. omega (arith, o .semaphores .each j r .name .1)))),
       )
 
   event-name-corner : Room p (p .eventCount) eventLimit → NewEvent p nameLimit
@@ -251,7 +251,7 @@ module _ (m : Module) (k : ℕ) (u : SoundModule m) (h : Calling m k) where
   event-name-corner room new =
       let o = v .objects in
       let full : leb eventLimit (p .eventCount) ≡ false = lt-leb eventLimit (p .eventCount) (room .less) in
-      let fresh : (name : ℕ) → NewEvent p name → Ob.eventNamed (Number name) (take (p .eventCount) (p .events)) ≡ false = λ name f. new-name (λ (x : EventState). x .name) name noEvent eventLimit (p .eventCount) (p .events) (o .events .few) (o .events .size) f in
+      let fresh : (name : ℕ) → NewEvent p name → Ob.eventNamed (Number name) (take (p .eventCount) (p .events)) ≡ false = λ name f. new-name (λ (x : EventState). x .name) name noEvent eventLimit (p .eventCount) (p .events) (o .events .numbered .few) (o .events .numbered .size) f in
       let n = p .eventCount + 1 in
       let x : EventState = record { name = nameLimit; up = false } in
       let e : n - 1 ≡ p .eventCount = omega arith in
@@ -261,7 +261,7 @@ module _ (m : Module) (k : ℕ) (u : SoundModule m) (h : Calling m k) where
             (rw (full, fresh nameLimit new, normal-not (room .early))))
             (event-in n x p (within-in eventLimit n (omega arith) (omega (arith, room .less))) ∙ rw (e, t)),
         gives m k u h 17 (pos (nameLimit + 1)) (pos 0) (pos 0) (pos 0) (omega arith) (omega arith) refl (Refused 3)
-            (rw (full, fresh (nameLimit + 1) (λ j r q. omega (arith, o .eachEvent j r .name .1)))),
+            (rw (full, fresh (nameLimit + 1) (λ j r q. omega (arith, o .events .each j r .name .1)))),
       )
 
   -- ---------------------------------------------------------------- priorities, delays
@@ -419,7 +419,7 @@ module _ (m : Module) (k : ℕ) (u : SoundModule m) (h : Calling m k) where
       × ((n : ℕ) → semaphore j p .value ≡ suc n → Puts m (callBy k 15 (pos j) (pos 0) (pos 0) (pos 0)) 0 0 k (withSemaphoreAt j n p))
   unfolding Sv.callDecision Sv.services Pl.strayField Ob.waitSemaphore D.awaiting D.queued D.checked
   wait-semaphore-corner j n b =
-      let few = v .objects .semaphores .few in
+      let few = v .objects .semaphores .numbered .few in
       let i = field-number j (omega (arith, b .1)) in
       let q = known j (p .semaphoreCount) b in (
         λ z. gives m k u h 15 (pos j) (pos 0) (pos 0) (pos 0) (omega arith) (omega arith) refl (Refused 2) (rw (i, q, normal-is n, z)),
@@ -437,7 +437,7 @@ module _ (m : Module) (k : ℕ) (u : SoundModule m) (h : Calling m k) where
       × (event j p .up ≡ true → Gives m (callBy k 20 (pos j) (pos 0) (pos 0) (pos 0)) 0 0 (At 0) m)
   unfolding Sv.callDecision Sv.services Pl.strayField Ob.waitEvent D.awaiting D.queued D.checked
   wait-event-corner j n b =
-      let few = v .objects .events .few in
+      let few = v .objects .events .numbered .few in
       let i = field-number j (omega (arith, b .1)) in
       let q = known j (p .eventCount) b in (
         λ z. gives m k u h 20 (pos j) (pos 0) (pos 0) (pos 0) (omega arith) (omega arith) refl (Refused 2) (rw (i, q, normal-is n, z)),
@@ -448,7 +448,7 @@ module _ (m : Module) (k : ℕ) (u : SoundModule m) (h : Calling m k) where
   signal-corner : (j : ℕ) → Between 1 (p .semaphoreCount) j → semaphore j p .value ≡ semaphore j p .max → Refuses m (callBy k 16 (pos j) (pos 0) (pos 0) (pos 0)) 1
   unfolding Sv.callDecision Sv.services Pl.strayField Ob.signal D.checked
   signal-corner j b z =
-      let few = v .objects .semaphores .few in
+      let few = v .objects .semaphores .numbered .few in
       gives m k u h 16 (pos j) (pos 0) (pos 0) (pos 0) (omega arith) (omega arith) refl (Refused 1)
       (rw (field-number j (omega (arith, b .1)), known j (p .semaphoreCount) b, eq-eqb (semaphore j p .value) (semaphore j p .max) z))
 

@@ -24,6 +24,8 @@ use Rattle.machine.specs.Ticks.{tickModule}
 use Rattle.machine.specs.Channels.{erasedTo, portOf, write, read}
 use Rattle.machine.specs.Calls.{setMode, createProcess, start, stop, stopSelf, suspend, suspendSelf, timedWait, periodicWait, resume, setPriority, getStatus}
 use Rattle.machine.specs.Objects.{createSemaphore, createEvent, waitSemaphore, waitEvent, signal, setEvent, resetEvent}
+use Rattle.machine.specs.Buffers.{createBuffer, sendBuffer, receiveBuffer}
+use Rattle.machine.specs.Blackboards.{createBlackboard, show, readBlackboard, clear}
 use Rattle.machine.specs.Decisions.{checked}
 use Rattle.machine.specs.Services.{Service, services, noService, callDecision}
 use Rattle.machine.specs.Places.{malformed, noCaller, ticks}
@@ -65,10 +67,17 @@ module _ (c : Context) (x : Port) (n : ℕ) (r : Request) (p : Partition) (P : D
     (f20 : (k : ℕ) (a : Field) → P (waitEvent c k a p))
     (f21 : n ≡ 21 → (a : Field) → P (write c x a))
     (f22 : P (read c x))
+    (f23 : (name limit : Field) → P (createBuffer name limit p))
+    (f24 : (k : ℕ) (m a : Field) → P (sendBuffer c k m a p))
+    (f25 : (k : ℕ) (a : Field) → P (receiveBuffer c k a p))
+    (f26 : (name : Field) → P (createBlackboard name p))
+    (f27 : (k : ℕ) (m : Field) → P (show k m p))
+    (f28 : (k : ℕ) (a : Field) → P (readBlackboard c k a p))
+    (f29 : (k : ℕ) → P (clear k p))
     (other : (1 ≤ n → n ≤ callLimit → ⊥) → P (Refused 13)) where
   each : Each (λ j (s : Service). n ≡ j → P (s .decides c x r p)) 1 services
   unfolding Each services
-  each = (λ _. f1 _, (λ _. f2 _, (λ _. f3 _ _, (λ _. f3 _ _, (λ _. f5 _, (λ _. f6, (λ _. f7 _, (λ _. f8 _, (λ _. f9 _, (λ _. f10, (λ _. f11 _, (λ _. f12 _ _, (λ _. f13 _, (λ _. f14 _, (λ _. f15 _ _, (λ _. f16 _, (λ _. f17 _, (λ _. f18 _, (λ _. f19 _, (λ _. f20 _ _, (λ e. f21 e _, (λ _. f22, tt))))))))))))))))))))))
+  each = (λ _. f1 _, (λ _. f2 _, (λ _. f3 _ _, (λ _. f3 _ _, (λ _. f5 _, (λ _. f6, (λ _. f7 _, (λ _. f8 _, (λ _. f9 _, (λ _. f10, (λ _. f11 _, (λ _. f12 _ _, (λ _. f13 _, (λ _. f14 _, (λ _. f15 _ _, (λ _. f16 _, (λ _. f17 _, (λ _. f18 _, (λ _. f19 _, (λ _. f20 _ _, (λ e. f21 e _, (λ _. f22, (λ _. f23 _ _, (λ _. f24 _ _ _, (λ _. f25 _ _, (λ _. f26 _, (λ _. f27 _ _, (λ _. f28 _ _, (λ _. f29 _, tt)))))))))))))))))))))))))))))
 
   all : length services ≡ callLimit
   unfolding services

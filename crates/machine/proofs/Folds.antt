@@ -16,7 +16,7 @@ use Rattle.machine.specs.declared.Message.{Message}
 use Rattle.machine.specs.declared.Table.{Table}
 use Rattle.machine.specs.Limits.{greatestTime}
 use Rattle.machine.specs.Ids.{members}
-use Rattle.machine.specs.Partition.{process, stored, preferred, chosen, ended, endedAll, eachFrom, sooner, soonestFrom}
+use Rattle.machine.specs.Partition.{process, stored, preferred, chosen, changedAll, eachFrom, sooner, soonestFrom}
 use Rattle.machine.specs.Module.{channel}
 use Rattle.machine.specs.Decisions.{noMessage}
 use Rattle.machine.specs.Ticks.{tickAt, tickTo}
@@ -25,13 +25,13 @@ use Rattle.machine.proofs.Lists.{next-member, no-member}
 
 -- a list of ids, from place i on
 module _ (q : Ids) (i : ℕ) (p : Partition) where
-  pub ended-more : i < length (members q) → endedAll (drop i (members q)) p ≡ endedAll (drop (i + 1) (members q)) (ended (getD (q .items) i 0) p)
-  unfolding endedAll
-  ended-more h = rw (next-member q i h)
+  pub changed-more : (f : Process → Process) → i < length (members q) → changedAll f (drop i (members q)) p ≡ changedAll f (drop (i + 1) (members q)) (stored (getD (q .items) i 0) (f (process (getD (q .items) i 0) p)) p)
+  unfolding changedAll
+  changed-more f h = rw (next-member q i h)
 
-  pub ended-done : length (members q) ≤ i → endedAll (drop i (members q)) p ≡ p
-  unfolding endedAll
-  ended-done h = rw (no-member q i h)
+  pub changed-done : (f : Process → Process) → length (members q) ≤ i → changedAll f (drop i (members q)) p ≡ p
+  unfolding changedAll
+  changed-done f h = rw (no-member q i h)
 
   pub chosen-more : (c : Choice) → i < length (members q) → chosen p c (drop i (members q)) ≡ chosen p (preferred c (getD (q .items) i 0) (process (getD (q .items) i 0) p .current)) (drop (i + 1) (members q))
   unfolding chosen

@@ -1,5 +1,5 @@
 -- What storing processes, semaphores and events does to a partition's lists, one at a time or over a list of ids. Assumes nothing.
-use Prim.Native.Nat.{ℕ, zero, suc, _+_, _-_, _≤_, _<_}
+use Prim.Native.Nat.{ℕ, zero, suc, _+_, _-_, _≤_, _<_, max}
 use mathlib.Core.Path.{_≡_, refl, ap, sym, _∙_}
 use mathlib.Core.Bool.{Bool, true, false, cond, _&&_, and-true, and-false, or-true}
 use mathlib.Core.List.{List, [], _∷_}
@@ -13,9 +13,9 @@ use Rattle.machine.specs.declared.Process.{Process}
 use Rattle.machine.specs.declared.Partition.{Partition}
 use Rattle.machine.specs.Limits.{processLimit}
 use Rattle.machine.specs.Ids.{members, other, removed, follow}
-use Rattle.machine.specs.Process.{blankProcess, ready, onObject, served}
-use Rattle.machine.specs.Partition.{within, byId, process, withProcesses, stored, arrivedLast, ended, endedAll, eachFrom, each}
-use Rattle.machine.specs.Valid.{Between, contains, Distinct, Tracks, Numbered, ListedIn, ObjectsIn, SoundProcess, settingOf, Valid}
+use Rattle.machine.specs.Process.{blankProcess, ready, onObject}
+use Rattle.machine.specs.Partition.{within, byId, process, withProcesses, stored, arrivedLast, changedAll, eachFrom, each}
+use Rattle.machine.specs.Valid.{Between, contains, Distinct, Tracks, Numbered, Family, KnownOrNext, ListedIn, ObjectsIn, SoundProcess, settingOf, Valid}
 use Rattle.machine.specs.Plain.{idsFrom}
 use Rattle.machine.proofs.Tests.{by-test, not-both}
 use Rattle.machine.proofs.Bounds.{not-so, same-or-not, and-true-parts, within-in, within-out, named-in, named-same, named-other, stored-in, stored-out, either}
@@ -36,6 +36,17 @@ module _ {A : Type 0} {limit : ℕ} {d : A} {l : List A} {n : ℕ} (h : Numbered
       (λ (e : y ≡ id). rw (e, named-same limit d id a l (b .0) (omega arith) (omega (arith, h .size))) new)
       (λ (ne : y ≡ id → ⊥). rw (named-other limit d id a l (b .0) y ne) (old y r ne))
       (same-or-not y id)
+
+-- an object of a family stored: one that is known, or the next
+pub family-set : {A : Type 0} {limit : ℕ} {d : A} {Sound : A → Type 0} {l : List A} {n : ℕ} → Family limit d Sound l n → (k : ℕ) → KnownOrNext limit n k → (a : A) → Sound a → Family limit d Sound (set l (k - 1) a) (max n k)
+family-set {limit = limit} {d = d} {Sound = Sound} {l = l} {n = n} f k b a sound =
+    let h = f .numbered in
+    let r : Between 1 (max n k) k = (b .0 .0, omega arith) in
+    let room : max n k ≤ limit = omega (arith, h .few, b .1) in
+    record {
+      numbered = numbered-set h k a (max n k) (omega arith) r room;
+      each = all-set h k a (max n k) (omega arith) r room Sound sound (λ y q ne. f .each y (q .0, omega (arith, q .1, b .0 .1, ne)));
+    }
 
 -- ---------------------------------------------------------------- what the created processes are
 -- a property that the blank process lacks is one of ids, and of those created
@@ -97,19 +108,10 @@ module _ (p : Partition) (id : ℕ) (x : Process) where
         })
 
 -- ---------------------------------------------------------------- a change of several processes, by their ids
-unfoldable pub changedAll : (Process → Process) → List ℕ → Partition → Partition
-changedAll f [] p = p
-changedAll f (id ∷ l) p = changedAll f l (stored id (f (process id p)) p)
-
 pub each-changed : (f : Process → Process) (n id : ℕ) (p : Partition) → eachFrom f n id p ≡ changedAll f (idsFrom n id) p
 unfolding eachFrom changedAll idsFrom
 each-changed f zero id p = refl
 each-changed f (suc n) id p = each-changed f n (id + 1) (stored id (f (process id p)) p)
-
-pub ended-changed : (l : List ℕ) (p : Partition) → endedAll l p ≡ changedAll served l p
-unfolding endedAll ended changedAll
-ended-changed [] p = refl
-ended-changed (id ∷ l) p = ended-changed l (stored id (served (process id p)) p)
 
 pub from-range : (n id y : ℕ) → contains y (idsFrom n id) ≡ true → (id ≤ y) × (y < id + n)
 unfolding contains idsFrom

@@ -7,43 +7,50 @@ use mathlib.Core.List.{List, [], _∷_}
 use native.Mathlib.Omega.{arith}
 use lib.ListN.{set, replicate, length-replicate}
 use lib.Dec.{eqb, ltb, leb}
-use borrow.Author.Tests.{eq-eqb, ne-eqb, eqb-true, eqb-false, ltb-false, leb-false, not-true, not-false}
+use borrow.Author.Tests.{eq-eqb, ne-eqb, eqb-true, eqb-false, ltb-true, ltb-false, leb-false, not-true, not-false}
 use Rattle.machine.specs.declared.Given.{Given}
 use Rattle.machine.specs.declared.Ids.{Ids}
 use Rattle.machine.specs.declared.Process.{Process}
 use Rattle.machine.specs.declared.Partition.{Partition}
 use Rattle.machine.specs.declared.Context.{Context}
 use Rattle.machine.specs.declared.Change.{Change}
-use Rattle.machine.specs.declared.Change.the-variants.{Nothing, Stored, Created, Last, StoredSemaphore, StoredEvent, Ended, Entered}
+use Rattle.machine.specs.declared.Change.the-variants.{Nothing, Stored, Created, Last, StoredSemaphore, StoredEvent, CreatedBuffer, Moved, StoredBlackboard, Ended, Handed, Entered}
 use Rattle.machine.specs.declared.Port.{Port}
 use Rattle.machine.specs.declared.Decision.{Decision}
 use Rattle.machine.specs.declared.Decision.the-variants.{Refused, Unchanged, Ticked, Blocked, Changed, Restarted, Written}
 use Rattle.machine.specs.declared.Semaphore.{Semaphore as SemaphoreT}
 use Rattle.machine.specs.declared.EventState.{EventState}
+use Rattle.machine.specs.declared.QueueChange.{QueueChange}
+use Rattle.machine.specs.declared.QueueChange.the-variants.{Put, Taken, Exchanged}
+use Rattle.machine.specs.declared.Buffer.{Buffer}
+use Rattle.machine.specs.declared.Blackboard.{Blackboard as BlackboardT}
 use Rattle.machine.specs.declared.Request.{Request}
 use Rattle.machine.specs.declared.Field.{Field}
 use Rattle.machine.specs.declared.Field.the-variants.{Number, MinusOne, Other}
 use Rattle.machine.specs.declared.Wait.{Wait}
-use Rattle.machine.specs.declared.Wait.the-variants.{Timed, Semaphore, Event}
+use Rattle.machine.specs.declared.Wait.the-variants.{Timed, Semaphore, Event, Sending, Receiving, Blackboard}
 use Rattle.machine.specs.declared.Time.{Time}
 use Rattle.machine.specs.declared.Time.the-variants.{Never, At}
-use Rattle.machine.specs.Limits.{processLimit, semaphoreLimit, eventLimit, nameLimit, priorityLimit, valueLimit, modeLimit, durationLimit, timeLimit, frameLimit, numberLimit, greatestValue}
+use Rattle.machine.specs.Limits.{processLimit, semaphoreLimit, eventLimit, bufferLimit, messageLimit, blackboardLimit, nameLimit, priorityLimit, valueLimit, modeLimit, durationLimit, timeLimit, frameLimit, numberLimit, greatestValue}
 use Rattle.machine.specs.Ids.{members}
-use Rattle.machine.specs.Fields.{isNumber, between, isDuration, isMinusOne, isTimeout, isName, numberOf, timeOf}
-use Rattle.machine.specs.Process.{Class, classOf, createdProcess, blankProcess, later, object, onObject, periodic, ready, served, withCurrent, entered, ticked}
-use Rattle.machine.specs.Partition.{normalMode, idleMode, byId, nothingCreated, noSemaphore, noEvent, process, semaphore, withMode, stored, waitsOn, waiters, endedAll, each, running, tickPartition, enteredNormal, created, storedSemaphore, storedEvent, applied, partitionAfter, freshPartition}
+use Rattle.machine.specs.Fields.{isNumber, between, isDuration, isMinusOne, isTimeout, isName, isMessage, numberOf, timeOf}
+use Rattle.machine.specs.Process.{Class, classOf, createdProcess, blankProcess, later, object, onObject, periodic, ready, carried, served, handed, withCurrent, entered, ticked}
+use Rattle.machine.specs.Partition.{normalMode, idleMode, byId, nothingCreated, noSemaphore, noEvent, noBuffer, noBlackboard, process, semaphore, buffer, blackboard, emptyBuffer, movedIn, withMode, stored, waitsOn, waiters, changedAll, each, running, tickPartition, enteredNormal, created, storedSemaphore, storedEvent, storedBuffer, storedBlackboard, applied, partitionAfter, freshPartition}
 use Rattle.machine.specs.Calls.{setMode, isMultiple, above, isPriority, admissible, createProcess, reaches, start, stop, stopSelf, suspend, suspendSelf, timedWait, periodicWait, resume, setPriority, status, getStatus}
 use Rattle.machine.specs.Objects.{createSemaphore, createEvent, withValue, withUp, waitSemaphore, waitEvent, oneMore, signalled, signal, setEvent, resetEvent}
 use Rattle.machine.specs.Channels.{write, read}
+use Rattle.machine.specs.Buffers.{createBuffer, hasRoom, holds, sent, sendBuffer, received, receiveBuffer}
+use Rattle.machine.specs.Blackboards.{createBlackboard, show, readBlackboard, clear}
 use Rattle.machine.specs.Services.{callDecision}
-use Rattle.machine.specs.Valid.{counted, Between, contains, Distinct, Tracks, Timeout, Ahead, SoundPeriod, SoundCapacity, NotAbove, Below, SoundGiven, SoundProcess, SoundSemaphore, SoundEvent, Numbered, ListedIn, settingOf, Valid, SoundContext, SoundMessage, SoundChange, SoundDecision, NotAfter, latestDeadline}
+use Rattle.machine.specs.Valid.{counted, Between, contains, Distinct, Tracks, Timeout, Ahead, SoundPeriod, SoundCapacity, NotAbove, Below, SoundGiven, SoundProcess, SoundSemaphore, SoundEvent, SoundBuffer, SoundBlackboard, AllMessages, Numbered, Family, KnownOrNext, ObjectsIn, ListedIn, settingOf, Valid, SoundContext, SoundMessage, SoundChange, SoundDecision, NotAfter, latestDeadline}
 use Rattle.machine.proofs.Tests.{by-test, by-tests, Passed, passed-parts, by-checks, not-both}
-use Rattle.machine.proofs.Bounds.{not-so, or-false-parts, and-true-parts, known-id, within-in, named-same, named-other, named-replicate, created-in, semaphore-in, event-in, either}
+use Rattle.machine.proofs.Bounds.{not-so, or-false-parts, and-true-parts, known-id, within-in, named-same, named-other, named-replicate, created-in, semaphore-in, event-in, buffer-in, blackboard-in, either}
 use Rattle.machine.proofs.Dispatch.{by-call}
 use Rattle.machine.proofs.Fields.{in-limits}
 use Rattle.machine.proofs.Tracking.{contains-kept, distinct-kept, tracks-same}
-use Rattle.machine.proofs.Keeping.{numbered-set, all-set, process-created, process-stored, each-rest, each-listed, each-process, changedAll, ended-changed, AllCreated, changed-rest, changed-listed, changed-process, valid-of, stored-valid, arrived-valid}
-use Rattle.machine.proofs.Sound.{times-bounded, outside-normal, more-objects, ahead-later, created-sound, start-sound, entered-sound, early-sound, stopped-sound, suspended-sound, priority-sound, resumed-sound, ended-sound, ready-released, waiting-sound, suspends-sound, next-sound, ticked-sound, early-waits}
+use Rattle.machine.proofs.Messages.{queue-sound, moved-sound, first-sound}
+use Rattle.machine.proofs.Keeping.{numbered-set, all-set, family-set, process-created, process-stored, each-rest, each-listed, each-process, AllCreated, changed-rest, changed-listed, changed-process, valid-of, stored-valid, arrived-valid}
+use Rattle.machine.proofs.Sound.{times-bounded, outside-normal, more-objects, ahead-later, created-sound, start-sound, entered-sound, early-sound, stopped-sound, suspended-sound, priority-sound, resumed-sound, ended-sound, handed-sound, carried-sound, ready-released, waiting-sound, suspends-sound, next-sound, ticked-sound, early-waits}
 use Rattle.machine.proofs.Running.{running-runs}
 use Rattle.machine.specs.Decisions.{checked, blocked, startMode, dormant, queued, awaiting}
 
@@ -71,16 +78,19 @@ nothing-valid frame t mode h = record {
     waitings = record { canonical = refl; distinct = tt; exact = λ id. rw (named-replicate processLimit processLimit id blankProcess) };
   };
   objects = record {
-    semaphores = none semaphoreLimit noSemaphore;
-    events = none eventLimit noEvent;
-    eachSemaphore = λ k b. absurd (omega (arith, b .0, b .1));
-    eachEvent = λ k b. absurd (omega (arith, b .0, b .1));
+    semaphores = no-objects semaphoreLimit noSemaphore SoundSemaphore;
+    events = no-objects eventLimit noEvent SoundEvent;
+    buffers = no-objects bufferLimit noBuffer SoundBuffer;
+    blackboards = no-objects blackboardLimit noBlackboard SoundBlackboard;
   };
   eachProcess = λ id b. absurd (omega (arith, b .0, b .1));
 }
   where
     none : {A : Type 0} (limit : ℕ) (d : A) → Numbered limit d (replicate limit d) 0
     none limit d = record { size = length-replicate limit d; few = omega arith; past = λ id _. named-replicate limit limit id d }
+
+    no-objects : {A : Type 0} (limit : ℕ) (d : A) (Sound : A → Type 0) → Family limit d Sound (replicate limit d) 0
+    no-objects limit d Sound = record { numbered = none limit d; each = λ k b. absurd (omega (arith, b .0, b .1)) }
 
 pub fresh-valid : (frame t : ℕ) → Valid frame t freshPartition
 unfolding freshPartition
@@ -104,43 +114,66 @@ timeout-ahead t (Number n) ends h z = ahead-later t n ends (not-zero n z) (in-li
 timeout-ahead t MinusOne ends h z = tt
 timeout-ahead t Other ends h z = not-both _ h refl
 
--- ---------------------------------------------------------------- semaphores and events
-counted-more : (a b a′ b′ : ℕ) → a ≤ a′ → b ≤ b′ → (kind : ℕ) → counted a b kind ≤ counted a′ b′ kind
-counted-more a b a′ b′ h k kind = by-tests (λ (x y : ℕ). x ≤ y) (eqb kind 1) _ refl (λ _. h) (λ _. by-tests (λ (x y : ℕ). x ≤ y) (eqb kind 2) _ refl (λ _. k) (λ _. omega arith))
+-- ---------------------------------------------------------------- objects
+-- no object is lost
+counted-more : (a b c d a′ b′ c′ d′ : ℕ) → a ≤ a′ → b ≤ b′ → c ≤ c′ → d ≤ d′ → (kind : ℕ) → counted a b c d kind ≤ counted a′ b′ c′ d′ kind
+counted-more a b c d a′ b′ c′ d′ f g h k kind =
+    by-tests (λ (x y : ℕ). x ≤ y) (eqb kind 1) _ refl (λ _. f) λ _.
+    by-tests (λ (x y : ℕ). x ≤ y) (eqb kind 2) _ refl (λ _. g) λ _.
+    by-tests (λ (x y : ℕ). x ≤ y) (eqb kind 3) _ refl (λ _. h) λ _.
+    by-tests (λ (x y : ℕ). x ≤ y) (eqb kind 4) _ refl (λ _. h) λ _.
+    by-tests (λ (x y : ℕ). x ≤ y) (eqb kind 5) _ refl (λ _. k) λ _. omega arith
 
--- one that is known, or the next
+-- the objects of q are sound and as many at least, and all else is as in p
+objects-valid : (frame t : ℕ) (p q : Partition) → Valid frame t p
+    → q .mode ≡ p .mode → ListedIn q → q .processes ≡ p .processes → q .processCount ≡ p .processCount → ObjectsIn q
+    → p .semaphoreCount ≤ q .semaphoreCount → p .eventCount ≤ q .eventCount → p .bufferCount ≤ q .bufferCount → p .blackboardCount ≤ q .blackboardCount
+    → Valid frame t q
+objects-valid frame t p q v mode lists processes count objects a b c d = record {
+  mode = rw mode (v .mode);
+  lists = lists;
+  objects = objects;
+  eachProcess = λ id r.
+      rw (mode, processes)
+      (more-objects frame t (normalMode p) _ _ (counted-more _ _ _ _ _ _ _ _ a b c d) (process id p) (v .eachProcess id (r .0, omega (arith, r .1, count))));
+}
+
+-- one stored that is known, or the next
 module _ (frame t : ℕ) (p : Partition) (v : Valid frame t p) (k : ℕ) where
-  pub semaphore-valid : Between 1 (p .semaphoreCount + 1) k → k ≤ semaphoreLimit → (s : SemaphoreT) → SoundSemaphore s → Valid frame t (storedSemaphore k s p)
-  semaphore-valid b room s sound =
-      let o = v .objects in
-      let n = max (p .semaphoreCount) k in
-      rw (semaphore-in k s p (within-in semaphoreLimit k (b .0) room)) (record {
-        mode = v .mode;
-        lists = v .lists;
-        objects = record {
-          semaphores = numbered-set (o .semaphores) k s n (omega arith) (b .0, omega arith) (omega (arith, o .semaphores .few));
-          events = o .events;
-          eachSemaphore = all-set (o .semaphores) k s n (omega arith) (b .0, omega arith) (omega (arith, o .semaphores .few)) SoundSemaphore sound (λ y r ne. o .eachSemaphore y (r .0, omega (arith, r .1, b .1, ne)));
-          eachEvent = o .eachEvent;
-        };
-        eachProcess = λ id r. more-objects frame t (normalMode p) _ _ (counted-more (p .semaphoreCount) (p .eventCount) n (p .eventCount) (omega arith) (omega arith)) (process id p) (v .eachProcess id r);
-      })
+  abbrev o : ObjectsIn p
+  o = v .objects
 
-  pub event-valid : Between 1 (p .eventCount + 1) k → k ≤ eventLimit → (s : EventState) → SoundEvent s → Valid frame t (storedEvent k s p)
-  event-valid b room s sound =
-      let o = v .objects in
-      let n = max (p .eventCount) k in
-      rw (event-in k s p (within-in eventLimit k (b .0) room)) (record {
-        mode = v .mode;
-        lists = v .lists;
-        objects = record {
-          semaphores = o .semaphores;
-          events = numbered-set (o .events) k s n (omega arith) (b .0, omega arith) (omega (arith, o .events .few));
-          eachSemaphore = o .eachSemaphore;
-          eachEvent = all-set (o .events) k s n (omega arith) (b .0, omega arith) (omega (arith, o .events .few)) SoundEvent sound (λ y r ne. o .eachEvent y (r .0, omega (arith, r .1, b .1, ne)));
-        };
-        eachProcess = λ id r. more-objects frame t (normalMode p) _ _ (counted-more (p .semaphoreCount) (p .eventCount) (p .semaphoreCount) n (omega arith) (omega arith)) (process id p) (v .eachProcess id r);
-      })
+  pub semaphore-valid : KnownOrNext semaphoreLimit (p .semaphoreCount) k → (s : SemaphoreT) → SoundSemaphore s → Valid frame t (storedSemaphore k s p)
+  semaphore-valid b s sound =
+      rw (semaphore-in k s p (within-in semaphoreLimit k (b .0 .0) (b .1)))
+      (objects-valid frame t p _ v refl (v .lists) refl refl
+      (record { semaphores = family-set (o .semaphores) k b s sound; events = o .events; buffers = o .buffers; blackboards = o .blackboards })
+      (omega arith) (omega arith) (omega arith) (omega arith))
+
+  pub event-valid : KnownOrNext eventLimit (p .eventCount) k → (s : EventState) → SoundEvent s → Valid frame t (storedEvent k s p)
+  event-valid b s sound =
+      rw (event-in k s p (within-in eventLimit k (b .0 .0) (b .1)))
+      (objects-valid frame t p _ v refl (v .lists) refl refl
+      (record { semaphores = o .semaphores; events = family-set (o .events) k b s sound; buffers = o .buffers; blackboards = o .blackboards })
+      (omega arith) (omega arith) (omega arith) (omega arith))
+
+  pub buffer-valid : KnownOrNext bufferLimit (p .bufferCount) k → (s : Buffer) → SoundBuffer s → Valid frame t (storedBuffer k s p)
+  buffer-valid b s sound =
+      rw (buffer-in k s p (within-in bufferLimit k (b .0 .0) (b .1)))
+      (objects-valid frame t p _ v refl (v .lists) refl refl
+      (record { semaphores = o .semaphores; events = o .events; buffers = family-set (o .buffers) k b s sound; blackboards = o .blackboards })
+      (omega arith) (omega arith) (omega arith) (omega arith))
+
+  pub blackboard-valid : KnownOrNext blackboardLimit (p .blackboardCount) k → (s : BlackboardT) → SoundBlackboard s → Valid frame t (storedBlackboard k s p)
+  blackboard-valid b s sound =
+      rw (blackboard-in k s p (within-in blackboardLimit k (b .0 .0) (b .1)))
+      (objects-valid frame t p _ v refl (v .lists) refl refl
+      (record { semaphores = o .semaphores; events = o .events; buffers = o .buffers; blackboards = family-set (o .blackboards) k b s sound })
+      (omega arith) (omega arith) (omega arith) (omega arith))
+
+-- one that is known
+pub known-next : (limit count k : ℕ) → Between 1 count k → count ≤ limit → KnownOrNext limit count k
+known-next limit count k b few = ((b .0, omega (arith, b .1)), omega (arith, b .1))
 
 -- ---------------------------------------------------------------- queues
 -- the queue of an object holds just the processes that wait on it, each once
@@ -167,14 +200,15 @@ module _ (c : Context) (p : Partition) (v : Valid (c .frame) (c .time) p) where
   puts : (id : ℕ) → Between 1 (p .processCount) id → (x : Process) → SoundProcess (settingOf (c .frame) (c .time) p) x → Valid (c .frame) (c .time) (stored id x p)
   puts id b x s = stored-valid (c .frame) (c .time) p v id b x s
 
-  -- the waits of these processes end
-  ended-all-valid : (l : List ℕ) → Distinct l → ((id : ℕ) → contains id l ≡ true → onObject (process id p) ≡ true) → AllCreated l (p .processCount) → Valid (c .frame) (c .time) (endedAll l p)
-  ended-all-valid l dis on all =
-      let f = served in
-      rw (ended-changed l p) (valid-of (c .frame) (c .time) p (changedAll f l p) (changed-rest f l p) (v .mode) (v .objects) (changed-listed f l p (v .lists) all) (λ id b.
-      rw (changed-process f l p (v .lists) all dis id) (by-test (SoundProcess (settingOf (c .frame) (c .time) p)) (contains id l)
-      (λ e. ended-sound _ (process id p) (v .eachProcess id b) (on id e))
-      (λ _. v .eachProcess id b))))
+  -- the waits on an object end, each process changed by f
+  all-valid : (f : Process → Process) → ((x : Process) → SoundProcess (settingOf (c .frame) (c .time) p) x → onObject x ≡ true → SoundProcess (settingOf (c .frame) (c .time) p) (f x)) → (o : ℕ) → Valid (c .frame) (c .time) (changedAll f (waiters o p) p)
+  all-valid f sound o =
+      let l = waiters o p in
+      let all = waiters-created p (v .lists) o in
+      valid-of (c .frame) (c .time) p (changedAll f l p) (changed-rest f l p) (v .mode) (v .objects) (changed-listed f l p (v .lists) all) (λ id b.
+      rw (changed-process f l p (v .lists) all (waiters-distinct p (v .lists) o) id) (by-test (SoundProcess (settingOf (c .frame) (c .time) p)) (contains id l)
+      (λ e. sound (process id p) (v .eachProcess id b) (waiters-on p (v .lists) o id e))
+      (λ _. v .eachProcess id b)))
 
   -- the next process, DORMANT
   new-process-valid : p .processCount < processLimit → (g : Given) → SoundGiven (c .frame) g → Valid (c .frame) (c .time) (created (p .processCount + 1) (createdProcess g) p)
@@ -213,9 +247,14 @@ change-valid c k p v Nothing h = v
 change-valid c k p v (Stored id x) h = puts c p v id (h .0) x (h .1)
 change-valid c k p v (Created id x) h = rw (h .next, h .dormant) (new-process-valid c p v (h .room) (x .given) (h .given))
 change-valid c k p v (Last id) h = arrived-valid (c .frame) (c .time) p v id h
-change-valid c k p v (StoredSemaphore j s) h = semaphore-valid (c .frame) (c .time) p v j (h .0 .0) (h .0 .1) s (h .1)
-change-valid c k p v (StoredEvent j e) h = event-valid (c .frame) (c .time) p v j (h .0 .0) (h .0 .1) e (h .1)
-change-valid c k p v (Ended o) h = ended-all-valid c p v (waiters o p) (waiters-distinct p (v .lists) o) (waiters-on p (v .lists) o) (waiters-created p (v .lists) o)
+change-valid c k p v (StoredSemaphore j s) h = semaphore-valid (c .frame) (c .time) p v j (h .0) s (h .1)
+change-valid c k p v (StoredEvent j e) h = event-valid (c .frame) (c .time) p v j (h .0) e (h .1)
+change-valid c k p v (CreatedBuffer j name limit) h = buffer-valid (c .frame) (c .time) p v j (h .0) (emptyBuffer name limit) (h .1)
+change-valid c k p v (Moved j a) h =
+    buffer-valid (c .frame) (c .time) p v j (known-next bufferLimit (p .bufferCount) j (h .0) (v .objects .buffers .numbered .few)) (movedIn a (buffer j p)) (moved-sound (buffer j p) (v .objects .buffers .each j (h .0)) a (h .1))
+change-valid c k p v (StoredBlackboard j s) h = blackboard-valid (c .frame) (c .time) p v j (h .0) s (h .1)
+change-valid c k p v (Ended o) h = all-valid c p v served (λ x g on. ended-sound _ x g on) o
+change-valid c k p v (Handed o m) h = all-valid c p v (handed m) (λ x g on. handed-sound _ x g on m h) o
 change-valid c k p v (Entered d) h = rw (h .0) (entered-valid c p v (k .time) (k .frame .1) (k .near) (h .1))
 
 -- and so does each decision
@@ -428,45 +467,46 @@ module _ (c : Context) (p : Partition) (v : Valid (c .frame) (c .time) p) (k : S
 
   -- one that is known
   value-sound : (j : ℕ) → Between 1 (p .semaphoreCount) j → (n : ℕ) → n ≤ semaphore j p .max → SoundChange c p (withValue j n p)
-  value-sound j b n h = let s = v .objects .eachSemaphore j b in (((b .0, omega (arith, b .1)), omega (arith, b .1, v .objects .semaphores .few)), record { name = s .name; value = h; max = s .max })
+  value-sound j b n h = let s = v .objects .semaphores .each j b in (known-next semaphoreLimit (p .semaphoreCount) j b (v .objects .semaphores .numbered .few), record { name = s .name; value = h; max = s .max })
 
   up-sound : (j : ℕ) → Between 1 (p .eventCount) j → (up : Bool) → SoundChange c p (withUp j up p)
-  up-sound j b up = (((b .0, omega (arith, b .1)), omega (arith, b .1, v .objects .events .few)), record { name = v .objects .eachEvent j b .name })
+  up-sound j b up = (known-next eventLimit (p .eventCount) j b (v .objects .events .numbered .few), record { name = v .objects .events .each j b .name })
 
   -- a call that waits: where its first checks tell that the object is known, success or the wait is sound
-  await-sound : (before : List (Bool × ℕ)) (beside : Bool) (after : List (Bool × ℕ)) (a : Field) (b : Bool) (success : Decision) (w : Wait) (kind j : ℕ)
-      → classOf w ≡ Class.onto kind j
-      → (Passed before → SoundDecision c p success)
-      → (Passed before → Between 1 (settingOf (c .frame) (c .time) p .counts kind) j)
+  await-sound : (before : List (Bool × ℕ)) (beside : Bool) (after : List (Bool × ℕ)) (a : Field) (b : Bool) (success : Decision) (w : Wait) (kind j m : ℕ)
+      → classOf w ≡ Class.onto kind j m
+      → (Passed before → beside ≡ true → b ≡ true → Sound c p success)
+      → (Passed before → beside ≡ true → Between 1 (settingOf (c .frame) (c .time) p .counts kind) j × (m ≤ durationLimit))
       → Sound c p (awaiting c before beside after a b success w p)
   unfolding awaiting queued blocked Passed
-  await-sound before beside after a b success w kind j class done known = by-checks (Sound c p) Refused _ _ (λ n. record { is = tt }) (λ h.
+  await-sound before beside after a b success w kind j m class done known = by-checks (Sound c p) Refused _ _ (λ n. record { is = tt }) (λ h.
       let f = passed-parts before _ h in
       let n = in-normal (f .1 .0) in
       let q = normal-caller n in
       let x = process (c .caller) p in
       let g = v .eachProcess (c .caller) (q .created) in
+      let t = and-true-parts beside _ (not-false _ (f .1 .1 .0)) in
       by-test (Sound c p) b
-      (λ _. record { is = done (f .0) })
+      (λ e. done (f .0) (t .0) e)
       (λ _. in-checks _ _ (λ e.
-      (q .created, waiting-sound _ x g n (q .isReady) w (rw class (known (f .0))) _ (rw class (timeout-ahead (c .time) a (k .time) (and-true-parts beside _ (not-false _ (f .1 .1 .0)) .1) (e .0))) (rw class (ready-released _ x g n (q .isReady)))))))
+      (q .created, waiting-sound _ x g n (q .isReady) w (rw class (known (f .0) (t .0))) _ (rw class (timeout-ahead (c .time) a (k .time) (t .1) (e .0))) (rw class (ready-released _ x g n (q .isReady)))))))
 
   pub wait-semaphore-sound : (j : ℕ) (a : Field) → Sound c p (waitSemaphore c j a p)
   unfolding waitSemaphore Passed
-  wait-semaphore-sound j a = await-sound _ _ _ _ _ _ (Semaphore j) 1 j refl
-      (λ h. ((value-sound j (known-id j (p .semaphoreCount) (h .0)) (semaphore j p .value - 1) (omega (arith, v .objects .eachSemaphore j (known-id j (p .semaphoreCount) (h .0)) .value))), tt, omega arith))
-      (λ h. known-id j (p .semaphoreCount) (h .0))
+  wait-semaphore-sound j a = await-sound _ _ _ _ _ _ (Semaphore j) 1 j 0 refl
+      (λ h _ _. record { is = ((value-sound j (known-id j (p .semaphoreCount) (h .0)) (semaphore j p .value - 1) (omega (arith, v .objects .semaphores .each j (known-id j (p .semaphoreCount) (h .0)) .value))), tt, omega arith) })
+      (λ h _. (known-id j (p .semaphoreCount) (h .0), omega arith))
 
   pub wait-event-sound : (j : ℕ) (a : Field) → Sound c p (waitEvent c j a p)
   unfolding waitEvent Passed
-  wait-event-sound j a = await-sound _ _ _ _ _ _ (Event j) 2 j refl
-      (λ h. (omega arith, omega arith))
-      (λ h. known-id j (p .eventCount) (h .0))
+  wait-event-sound j a = await-sound _ _ _ _ _ _ (Event j) 2 j 0 refl
+      (λ h _ _. record { is = (omega arith, omega arith) })
+      (λ h _. (known-id j (p .eventCount) (h .0), omega arith))
 
   signalled-sound : (l : List ℕ) (j : ℕ) → Between 1 (p .semaphoreCount) j → (semaphore j p .value ≡ semaphore j p .max → ⊥) → ((id : ℕ) → contains id l ≡ true → onObject (process id p) ≡ true) → AllCreated l (p .processCount) → SoundChange c p (signalled l j p)
   unfolding signalled contains
   signalled-sound [] j b below on all =
-      let s = v .objects .eachSemaphore j b in
+      let s = v .objects .semaphores .each j b in
       value-sound j b (oneMore (semaphore j p .value)) (by-test (λ (n : ℕ). n ≤ semaphore j p .max) (ltb (semaphore j p .value) greatestValue) (λ _. omega (arith, s .value)) (λ _. s .value))
   signalled-sound (id ∷ l) j b below on all = let i : (eqb id id || contains id l) ≡ true = rw (eq-eqb id id refl) in (all id i, ended-sound _ (process id p) (v .eachProcess id (all id i)) (on id i))
 
@@ -483,6 +523,82 @@ module _ (c : Context) (p : Partition) (v : Valid (c .frame) (c .time) p) (k : S
   pub reset-sound : (j : ℕ) → Sound c p (resetEvent j p)
   unfolding resetEvent Passed
   reset-sound j = in-checks _ _ (λ h. ((up-sound j (known-id j (p .eventCount) (h .0)) false), tt, omega arith))
+
+  -- ------------------------------------------------------------ buffers
+  pub create-buffer-sound : (name limit : Field) → Sound c p (createBuffer name limit p)
+  unfolding createBuffer Passed AllMessages
+  create-buffer-sound name limit = in-checks _ _ (λ h.
+      let room = leb-false bufferLimit (p .bufferCount) (h .0) in
+      let f = and-true-parts (isName name) _ (not-false _ (h .1 .1 .0)) in (
+        (((omega arith, omega arith), omega arith), record { name = in-limits 1 nameLimit name (f .0); limit = in-limits 1 messageLimit limit (f .1); queue = queue-sound (numberOf limit) [] (omega arith) tt }),
+        tt,
+        omega arith,
+      ))
+
+  sent-sound : (l : List ℕ) (j m : ℕ) → Between 1 (p .bufferCount) j → hasRoom (buffer j p) ≡ true → m ≤ durationLimit → ((id : ℕ) → contains id l ≡ true → onObject (process id p) ≡ true) → AllCreated l (p .processCount) → SoundChange c p (sent l j m p)
+  unfolding sent contains
+  sent-sound [] j m b room few on all = (b, (ltb-true _ _ room, few))
+  sent-sound (id ∷ l) j m b room few on all = let i : (eqb id id || contains id l) ≡ true = rw (eq-eqb id id refl) in (all id i, handed-sound _ (process id p) (v .eachProcess id (all id i)) (on id i) m few)
+
+  pub send-sound : (j : ℕ) (m a : Field) → Sound c p (sendBuffer c j m a p)
+  unfolding sendBuffer Passed
+  send-sound j m a =
+      let o = object (Receiving j) in
+      let few : isMessage m ≡ true → numberOf m ≤ durationLimit = λ g. in-limits 0 durationLimit m g .1 in
+      await-sound _ _ _ _ _ _ (Sending j (numberOf m)) 3 j (numberOf m) refl
+      (λ h g e. record { is = (sent-sound (waiters o p) j (numberOf m) (known-id j (p .bufferCount) (h .0)) e (few g) (waiters-on p (v .lists) o) (waiters-created p (v .lists) o), tt, omega arith) })
+      (λ h g. (known-id j (p .bufferCount) (h .0), few g))
+
+  received-sound : (l : List ℕ) (j : ℕ) → Between 1 (p .bufferCount) j → holds (buffer j p) ≡ true → ((id : ℕ) → contains id l ≡ true → onObject (process id p) ≡ true) → AllCreated l (p .processCount) → Sound c p (received l j p)
+  unfolding received contains
+  received-sound [] j b some on all = record { is = ((b, ltb-true 0 _ some), tt, omega (arith, first-sound (buffer j p) (v .objects .buffers .each j b))) }
+  received-sound (id ∷ l) j b some on all =
+      let i : (eqb id id || contains id l) ≡ true = rw (eq-eqb id id refl) in
+      let x = process id p in
+      let a = Exchanged (carried x) in
+      let e : max (p .bufferCount) j ≡ p .bufferCount = omega (arith, b .1) in
+      record {
+        is = (
+          (b, (ltb-true 0 _ some, carried-sound _ x (v .eachProcess id (all id i)))),
+          rw (buffer-in j (movedIn a (buffer j p)) p (within-in bufferLimit j (b .0) (omega (arith, b .1, v .objects .buffers .numbered .few))), e) (all id i, ended-sound _ x (v .eachProcess id (all id i)) (on id i)),
+          omega (arith, first-sound (buffer j p) (v .objects .buffers .each j b)),
+        );
+      }
+
+  pub receive-sound : (j : ℕ) (a : Field) → Sound c p (receiveBuffer c j a p)
+  unfolding receiveBuffer Passed
+  receive-sound j a =
+      let o = object (Sending j 0) in
+      await-sound _ _ _ _ _ _ (Receiving j) 4 j 0 refl
+      (λ h _ e. received-sound (waiters o p) j (known-id j (p .bufferCount) (h .0)) e (waiters-on p (v .lists) o) (waiters-created p (v .lists) o))
+      (λ h _. (known-id j (p .bufferCount) (h .0), omega arith))
+
+  -- ------------------------------------------------------------ blackboards
+  pub create-blackboard-sound : (name : Field) → Sound c p (createBlackboard name p)
+  unfolding createBlackboard Passed
+  create-blackboard-sound name = in-checks _ _ (λ h.
+      let room = leb-false blackboardLimit (p .blackboardCount) (h .0) in
+      ((((omega arith, omega arith), omega arith), record { name = in-limits 1 nameLimit name (not-false _ (h .1 .1 .0)); message = omega arith; blank = λ _. refl }), tt, omega arith))
+
+  -- one that is known
+  blackboard-known : (j : ℕ) → Between 1 (p .blackboardCount) j → (shown : Bool) (m : ℕ) → m ≤ durationLimit → (shown ≡ false → m ≡ 0) → SoundChange c p (StoredBlackboard j (record { name = blackboard j p .name; shown = shown; message = m }))
+  blackboard-known j b shown m few blank = (known-next blackboardLimit (p .blackboardCount) j b (v .objects .blackboards .numbered .few), record { name = v .objects .blackboards .each j b .name; message = few; blank = blank })
+
+  pub show-sound : (j : ℕ) (m : Field) → Sound c p (show j m p)
+  unfolding show Passed
+  show-sound j m = in-checks _ _ (λ h.
+      let few = in-limits 0 durationLimit m (not-false _ (h .1 .0)) .1 in
+      (blackboard-known j (known-id j (p .blackboardCount) (h .0)) true (numberOf m) few (λ e. not-both _ refl e), few, omega arith))
+
+  pub read-blackboard-sound : (j : ℕ) (a : Field) → Sound c p (readBlackboard c j a p)
+  unfolding readBlackboard Passed
+  read-blackboard-sound j a = await-sound _ _ _ _ _ _ (Blackboard j) 5 j 0 refl
+      (λ h _ _. record { is = (omega (arith, v .objects .blackboards .each j (known-id j (p .blackboardCount) (h .0)) .message), omega arith) })
+      (λ h _. (known-id j (p .blackboardCount) (h .0), omega arith))
+
+  pub clear-sound : (j : ℕ) → Sound c p (clear j p)
+  unfolding clear Passed
+  clear-sound j = in-checks _ _ (λ h. (blackboard-known j (known-id j (p .blackboardCount) (h .0)) false 0 (omega arith) (λ _. refl), tt, omega arith))
 
   -- ------------------------------------------------------------ channels
   pub write-sound : (x : Port) (a : Field) → Sound c p (write c x a)
@@ -519,4 +635,11 @@ call-sound c x n r p v k s =
     (wait-event-sound c p v k)
     (λ _. write-sound c p v k x)
     (read-sound c p v k x s)
+    (create-buffer-sound c p v k)
+    (send-sound c p v k)
+    (receive-sound c p v k)
+    (create-blackboard-sound c p v k)
+    (show-sound c p v k)
+    (read-blackboard-sound c p v k)
+    (clear-sound c p v k)
     (λ _. record { is = tt })

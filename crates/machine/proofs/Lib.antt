@@ -15,6 +15,7 @@ pub mod TextLine
 pub mod TextInput
 pub mod TextCases
 pub mod Lists
+pub mod Messages
 pub mod Bounds
 pub mod Calling
 pub mod Folds

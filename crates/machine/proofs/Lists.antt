@@ -1,4 +1,4 @@
--- Laws of lists of ids, as code goes through them: what a scan keeps, what is left from a place on.
+-- Laws of lists of ids and of queues of messages, as code goes through them: what a scan keeps, what is left from a place on.
 use Prim.Native.Nat.{ℕ, suc, _+_, _-_, _≤_, _<_, min}
 use mathlib.Core.Path.{_≡_, refl, ap, sym, _∙_}
 use mathlib.Core.Bool.{Bool, true, false, cond}
@@ -10,7 +10,9 @@ use lib.ListN.{length, getD, set, take, drop, replicate, length-append, length-t
 use lib.Seq.{set-append-seam, take-suc, drop-cons, take-append-seam, getD-take, take-take}
 use borrow.Author.Tests.{lt-ltb}
 use Rattle.machine.specs.declared.Ids.{Ids}
-use Rattle.machine.specs.Limits.{processLimit}
+use Rattle.machine.specs.declared.Queue.{Queue}
+use Rattle.machine.specs.Limits.{processLimit, messageLimit}
+use Rattle.machine.specs.Messages.{held, queueOf, put}
 use Rattle.machine.specs.Ids.{members, idsOf, keptIf, kept, appended}
 
 pub length-members : (q : Ids) → length (q .items) ≡ processLimit → length (members q) ≡ min (q .len) processLimit
@@ -41,15 +43,34 @@ next-member q i h =
 pub no-member : (q : Ids) (i : ℕ) → length (members q) ≤ i → drop i (members q) ≡ []
 no-member q i h = drop-of-length-le (members q) h
 
+-- one more behind a list that is filled up with zeros
+seam-set : (limit : ℕ) (l : List ℕ) (x : ℕ) → length l < limit → set (l ++ replicate (limit - length l) 0) (length l) x ≡ (l ++ (x ∷ [])) ++ replicate (limit - length (l ++ (x ∷ []))) 0
+seam-set limit l x h =
+    let e : limit - length l ≡ suc (limit - length (l ++ (x ∷ []))) = omega (arith, length-append l (x ∷ [])) in
+    rw e (rw set-append-seam (sym (append-assoc l (x ∷ []) _)))
+
+length-snoc : (l : List ℕ) (x : ℕ) → length l + 1 ≡ length (l ++ (x ∷ []))
+length-snoc l x = omega (arith, length-append l (x ∷ []))
+
 pub appended-idsOf : (l : List ℕ) (x : ℕ) → length l < processLimit → appended x (idsOf l) ≡ idsOf (l ++ (x ∷ []))
 unfolding appended
 appended-idsOf l x h =
-    let e : processLimit - length l ≡ suc (processLimit - length (l ++ (x ∷ []))) = omega (arith, length-append l (x ∷ [])) in
-    let s : set (l ++ replicate (processLimit - length l) 0) (length l) x ≡ (l ++ (x ∷ [])) ++ replicate (processLimit - length (l ++ (x ∷ []))) 0 =
-    rw e (rw set-append-seam (sym (append-assoc l (x ∷ []) _))) in
-    let n : length l + 1 ≡ length (l ++ (x ∷ [])) = omega (arith, length-append l (x ∷ [])) in
+    let s = seam-set processLimit l x h in
+    let n = length-snoc l x in
     let r : _≡_ {A = Ids} (record { items = set (l ++ replicate (processLimit - length l) 0) (length l) x; len = length l + 1 }) (idsOf (l ++ (x ∷ []))) = λ i. record { items = s i; len = n i } in
     rw (lt-ltb (length l) processLimit h) r
+
+-- the same of a queue of messages
+pub put-queueOf : (l : List ℕ) (x : ℕ) → length l < messageLimit → put x (queueOf l) ≡ queueOf (l ++ (x ∷ []))
+unfolding put
+put-queueOf l x h =
+    let s = seam-set messageLimit l x h in
+    let n = length-snoc l x in
+    let r : _≡_ {A = Queue} (record { items = set (l ++ replicate (messageLimit - length l) 0) (length l) x; len = length l + 1 }) (queueOf (l ++ (x ∷ []))) = λ i. record { items = s i; len = n i } in
+    rw (lt-ltb (length l) messageLimit h) r
+
+pub held-queueOf : (l : List ℕ) → held (queueOf l) ≡ l
+held-queueOf l = take-append-seam l _
 
 pub kept-snoc : (f : ℕ → Bool) (l : List ℕ) (x : ℕ) → kept f (l ++ (x ∷ [])) ≡ kept f l ++ keptIf (f x) x []
 unfolding kept

@@ -15,7 +15,7 @@ use Rattle.machine.specs.declared.Process.{Process}
 use Rattle.machine.specs.declared.Partition.{Partition}
 use Rattle.machine.specs.declared.Context.{Context}
 use Rattle.machine.specs.declared.Change.{Change}
-use Rattle.machine.specs.declared.Change.the-variants.{Nothing, Stored, Created, Last, StoredSemaphore, StoredEvent, Ended, Entered}
+use Rattle.machine.specs.declared.Change.the-variants.{Nothing, Stored, Created, Last, StoredSemaphore, StoredEvent, CreatedBuffer, Moved, StoredBlackboard, Ended, Handed, Entered}
 use Rattle.machine.specs.declared.Decision.{Decision}
 use Rattle.machine.specs.declared.Decision.the-variants.{Refused, Unchanged, Ticked, Blocked, Changed, Restarted, Written}
 use Rattle.machine.specs.declared.Request.{Request}
@@ -26,11 +26,11 @@ use Rattle.machine.specs.declared.Stepped.{Stepped}
 use Rattle.machine.specs.declared.Field.{Field}
 use Rattle.machine.specs.declared.Time.{Time}
 use Rattle.machine.specs.declared.Time.the-variants.{Never, At}
-use Rattle.machine.specs.Limits.{processLimit, semaphoreLimit, eventLimit, durationLimit, timeLimit, partitionLimit, greatestTime, greatestValue}
+use Rattle.machine.specs.Limits.{processLimit, semaphoreLimit, eventLimit, bufferLimit, blackboardLimit, durationLimit, timeLimit, partitionLimit, greatestTime, greatestValue}
 use Rattle.machine.specs.Fields.{field, requestOf, isNumber, between, isMinusOne, numberOf}
 use Rattle.machine.specs.Ids.{members, idsOf, kept, other, removed, follow}
-use Rattle.machine.specs.Process.{blankProcess, later, isNever, periodic, ready, onObject, served, ticked, entered}
-use Rattle.machine.specs.Partition.{normalMode, byId, noSemaphore, noEvent, process, withMode, withProcesses, stored, arrivedLast, waiters, each, tickPartition, enteredNormal, applied, noted}
+use Rattle.machine.specs.Process.{blankProcess, later, isNever, periodic, ready, onObject, served, handed, ticked, entered}
+use Rattle.machine.specs.Partition.{normalMode, byId, noSemaphore, noEvent, noBuffer, noBlackboard, process, buffer, emptyBuffer, movedIn, withMode, withProcesses, stored, arrivedLast, waiters, changedAll, each, tickPartition, enteredNormal, applied, noted}
 use Rattle.machine.specs.Decisions.{checked, unknown}
 use Rattle.machine.specs.Objects.{oneMore}
 use Rattle.machine.specs.Windows.{lookup, releaseAfter, nextStart}
@@ -40,13 +40,14 @@ use Rattle.machine.specs.Ticks.{tickModule}
 use Rattle.machine.specs.Places.{malformed}
 use Rattle.machine.specs.Step.{contextOf, decision, moduleAfter, sees, step}
 use Rattle.machine.specs.Valid.{Between, contains, Tracks, NotAfter, latestWake, latestDeadline, Setting, LastingIn, SoundProcess, ListedIn, Valid, SoundContext, SoundTable, SoundModule, Reached, SoundChange, SoundDecision, plainLater, plainTick, plainTickTo}
-use Rattle.machine.specs.Plain.{plainById, followed, idsFrom, changedFirst, plainStored, plainCreated, plainLast, countWith, plainSemaphore, plainEvent, plainAll, plainApplied, InPlace, plainTickPartition, plainTicked, plainAfter, AllInPlace, Uncapped, plainBetween, plainNumber, plainMinusOne, plainUnknown, Lossless, PlainReads, PlainNumbers, PlainTable, CapsSeen, NoBoundActs, EmptyStays}
+use Rattle.machine.specs.Plain.{plainById, followed, idsFrom, changedFirst, plainStored, plainCreated, plainLast, countWith, plainSemaphore, plainEvent, plainBuffer, plainBlackboard, plainAll, plainApplied, InPlace, plainTickPartition, plainTicked, plainAfter, AllInPlace, Uncapped, plainBetween, plainNumber, plainMinusOne, plainUnknown, Lossless, PlainReads, PlainNumbers, PlainTable, CapsSeen, NoBoundActs, EmptyStays}
 use Rattle.machine.proofs.Tests.{by-test, by-tests, or-left, or-right}
 use Rattle.machine.proofs.Fields.{in-limits}
-use Rattle.machine.proofs.Bounds.{either, within-in, outside-high, named-in, named-out, stored-in, created-in, semaphore-in, event-in}
+use Rattle.machine.proofs.Bounds.{either, within-in, outside-high, named-in, named-out, stored-in, created-in, semaphore-in, event-in, buffer-in, blackboard-in}
 use Rattle.machine.proofs.Tracking.{tracks-room, appended-plain}
 use Rattle.machine.proofs.Lists.{members-idsOf, appended-idsOf}
-use Rattle.machine.proofs.Keeping.{process-ranged, process-created, removed-room, changedAll, each-changed, ended-changed, AllCreated, from-range, stored-rest, rest-count, stored-listed}
+use Rattle.machine.proofs.Messages.{moved-in-plain}
+use Rattle.machine.proofs.Keeping.{process-ranged, process-created, removed-room, each-changed, AllCreated, from-range, stored-rest, rest-count, stored-listed}
 use Rattle.machine.proofs.Sound.{later-plain, later-not-after, at-most-more, at-most-not-after, capacity-bound, period-not-after, at-most-released, ready-released, times-bounded}
 use Rattle.machine.proofs.Dispatch.{Calls, by-event}
 use Rattle.machine.proofs.Bodies.{Bodily}
@@ -69,8 +70,10 @@ module _ {A : Type 0} (limit : ℕ) (d : A) (l : List A) (long : length l ≡ li
 pub reads-plain : (frame t : ℕ) (p : Partition) → Valid frame t p → PlainReads p
 reads-plain frame t p v = record {
   processes = by-id-plain processLimit blankProcess (p .processes) (v .lists .numbered .size);
-  semaphores = by-id-plain semaphoreLimit noSemaphore (p .semaphores) (v .objects .semaphores .size);
-  events = by-id-plain eventLimit noEvent (p .events) (v .objects .events .size);
+  semaphores = by-id-plain semaphoreLimit noSemaphore (p .semaphores) (v .objects .semaphores .numbered .size);
+  events = by-id-plain eventLimit noEvent (p .events) (v .objects .events .numbered .size);
+  buffers = by-id-plain bufferLimit noBuffer (p .buffers) (v .objects .buffers .numbered .size);
+  blackboards = by-id-plain blackboardLimit noBlackboard (p .blackboards) (v .objects .blackboards .numbered .size);
 }
 
 -- ---------------------------------------------------------------- one process stored
@@ -128,7 +131,7 @@ count-with n id h = by-test (λ (k : ℕ). max n id ≡ k) (ltb n id) (λ e. ome
 -- each change of a valid partition is the plain one
 module _ (c : Context) {o : Partition} (k : SoundContext c o) where
   pub change-plain : (p : Partition) → Valid (c .frame) (c .time) p → (a : Change) → SoundChange c p a → applied a p ≡ plainApplied a p
-  unfolding plainCreated plainLast plainSemaphore plainEvent enteredNormal
+  unfolding plainCreated plainLast plainSemaphore plainEvent plainBuffer plainBlackboard enteredNormal
   change-plain p v Nothing h = refl
   change-plain p v (Stored id x) h = stored-plain p (v .lists) id (h .0) x
   change-plain p v (Created id x) h =
@@ -137,7 +140,14 @@ module _ (c : Context) {o : Partition} (k : SoundContext c o) where
   change-plain p v (Last id) h = arrived-plain p (v .lists) id h
   change-plain p v (StoredSemaphore j s) h = semaphore-in j s p (within-in semaphoreLimit j (h .0 .0 .0) (h .0 .1)) ∙ rw (count-with (p .semaphoreCount) j (h .0 .0 .1))
   change-plain p v (StoredEvent j e) h = event-in j e p (within-in eventLimit j (h .0 .0 .0) (h .0 .1)) ∙ rw (count-with (p .eventCount) j (h .0 .0 .1))
-  change-plain p v (Ended o) h = ended-changed (waiters o p) p ∙ all-plain served (waiters o p) p (v .lists) (waiters-created p (v .lists) o)
+  change-plain p v (CreatedBuffer j name limit) h = buffer-in j (emptyBuffer name limit) p (within-in bufferLimit j (h .0 .0 .0) (h .0 .1)) ∙ rw (count-with (p .bufferCount) j (h .0 .0 .1))
+  change-plain p v (Moved j a) h =
+      let few = v .objects .buffers .numbered .few in
+      buffer-in j (movedIn a (buffer j p)) p (within-in bufferLimit j (h .0 .0) (omega (arith, h .0 .1, few)))
+      ∙ rw (count-with (p .bufferCount) j (omega (arith, h .0 .1)), moved-in-plain (buffer j p) (v .objects .buffers .each j (h .0)) a (h .1), by-id-plain bufferLimit noBuffer (p .buffers) (v .objects .buffers .numbered .size) j)
+  change-plain p v (StoredBlackboard j b) h = blackboard-in j b p (within-in blackboardLimit j (h .0 .0 .0) (h .0 .1)) ∙ rw (count-with (p .blackboardCount) j (h .0 .0 .1))
+  change-plain p v (Ended o) h = all-plain served (waiters o p) p (v .lists) (waiters-created p (v .lists) o)
+  change-plain p v (Handed o m) h = all-plain (handed m) (waiters o p) p (v .lists) (waiters-created p (v .lists) o)
   change-plain p v (Entered d) h = each-plain (entered d) (withMode 3 p) (v .lists)
 
   -- and what it stores has its place
@@ -146,9 +156,13 @@ module _ (c : Context) {o : Partition} (k : SoundContext c o) where
   change-in-place p v (Stored id x) h = (h .0 .0, omega (arith, h .0 .1, v .lists .numbered .few, v .lists .numbered .size))
   change-in-place p v (Created id x) h = (omega (arith, h .next), omega (arith, h .next, h .room, v .lists .numbered .size))
   change-in-place p v (Last id) h = let b = process-created ready refl p (v .lists) id h in (b .0, omega (arith, b .1, v .lists .numbered .few, v .lists .numbered .size))
-  change-in-place p v (StoredSemaphore j s) h = (h .0 .0 .0, omega (arith, h .0 .1, v .objects .semaphores .size))
-  change-in-place p v (StoredEvent j e) h = (h .0 .0 .0, omega (arith, h .0 .1, v .objects .events .size))
+  change-in-place p v (StoredSemaphore j s) h = (h .0 .0 .0, omega (arith, h .0 .1, v .objects .semaphores .numbered .size))
+  change-in-place p v (StoredEvent j e) h = (h .0 .0 .0, omega (arith, h .0 .1, v .objects .events .numbered .size))
+  change-in-place p v (CreatedBuffer j name limit) h = (h .0 .0 .0, omega (arith, h .0 .1, v .objects .buffers .numbered .size))
+  change-in-place p v (Moved j a) h = (h .0 .0, omega (arith, h .0 .1, v .objects .buffers .numbered .few, v .objects .buffers .numbered .size))
+  change-in-place p v (StoredBlackboard j b) h = (h .0 .0 .0, omega (arith, h .0 .1, v .objects .blackboards .numbered .size))
   change-in-place p v (Ended o) h = tt
+  change-in-place p v (Handed o m) h = tt
   change-in-place p v (Entered d) h = omega (arith, v .lists .numbered .few, v .lists .numbered .size)
 
 -- ---------------------------------------------------------------- the tick
@@ -265,7 +279,7 @@ numbers-plain frame t p v ends = record {
       let u = times-bounded _ (process id p) (v .eachProcess id b) ends in
       let s = process id p .times in
       record { release = uncapped latestWake (s .release) (u .release) (omega arith); deadline = uncapped latestDeadline (s .deadline) (u .deadline) (omega arith); wake = uncapped latestWake (s .wake) (u .wake) (omega arith) };
-  values = λ k b. let u = v .objects .eachSemaphore k b in omega (arith, u .value, u .max .1);
+  values = λ k b. let u = v .objects .semaphores .each k b in omega (arith, u .value, u .max .1);
 }
 
 -- the sums of a call, each said by itself

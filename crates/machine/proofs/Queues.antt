@@ -15,11 +15,13 @@ use Rattle.machine.specs.declared.Process.{Process}
 use Rattle.machine.specs.declared.Partition.{Partition}
 use Rattle.machine.specs.declared.Context.{Context}
 use Rattle.machine.specs.declared.Change.{Change}
-use Rattle.machine.specs.declared.Change.the-variants.{Nothing, Stored, Created, Last, StoredSemaphore, StoredEvent, Ended, Entered}
+use Rattle.machine.specs.declared.Change.the-variants.{Nothing, Stored, Created, Last, StoredSemaphore, StoredEvent, CreatedBuffer, Moved, StoredBlackboard, Ended, Handed, Entered}
 use Rattle.machine.specs.declared.Decision.{Decision}
 use Rattle.machine.specs.declared.Decision.the-variants.{Refused, Unchanged, Ticked, Blocked, Changed, Restarted, Written}
 use Rattle.machine.specs.declared.Semaphore.{Semaphore as SemaphoreT}
 use Rattle.machine.specs.declared.EventState.{EventState}
+use Rattle.machine.specs.declared.Buffer.{Buffer}
+use Rattle.machine.specs.declared.Blackboard.{Blackboard as BlackboardT}
 use Rattle.machine.specs.declared.Wait.{Wait}
 use Rattle.machine.specs.declared.Wait.the-variants.{Semaphore, Event}
 use Rattle.machine.specs.declared.Time.the-variants.{At}
@@ -29,15 +31,17 @@ use Rattle.machine.specs.declared.Port.{Port}
 use Rattle.machine.specs.declared.Request.{Request}
 use Rattle.machine.specs.declared.Event.{Event as EventT}
 use Rattle.machine.specs.declared.Module.{Module}
-use Rattle.machine.specs.Limits.{callLimit, processLimit, semaphoreLimit, eventLimit, durationLimit, greatestValue}
+use Rattle.machine.specs.Limits.{callLimit, processLimit, semaphoreLimit, eventLimit, bufferLimit, blackboardLimit, durationLimit, greatestValue}
 use Rattle.machine.specs.Ids.{members, keptIf, kept, other}
-use Rattle.machine.specs.Process.{Class, classOf, objectIn, forNormal, blankProcess, later, object, onObject, periodic, ready, due, waitsForNothing, waitsForNormal, onlyMarked, served, waitingFor, woken, expired, ticked, entered, startRule, startedEarly}
-use Rattle.machine.specs.Partition.{within, byId, nothingCreated, idleMode, normalMode, noSemaphore, noEvent, process, semaphore, event, stored, created, storedSemaphore, storedEvent, arrivedLast, endedAll, waitsOn, waiters, running, applied, tickPartition, enteredNormal, withMode, withEvents, each, noted}
+use Rattle.machine.specs.Process.{Class, classOf, objectIn, forNormal, blankProcess, later, object, onObject, periodic, ready, due, waitsForNothing, waitsForNormal, onlyMarked, served, handed, waitingFor, woken, expired, ticked, entered, startRule, startedEarly}
+use Rattle.machine.specs.Partition.{within, byId, nothingCreated, idleMode, normalMode, noSemaphore, noEvent, process, semaphore, event, stored, created, storedSemaphore, storedEvent, storedBuffer, storedBlackboard, emptyBuffer, movedIn, buffer, arrivedLast, changedAll, waitsOn, waiters, running, applied, tickPartition, enteredNormal, withMode, withEvents, each, noted}
 use Rattle.machine.specs.Fields.{field, requestOf, isNumber, isTimeout, numberOf, timeOf}
 use Rattle.machine.specs.Decisions.{checked, replyOf, changed, unchanged, unknown, blocked, startMode, queued, awaiting}
 use Rattle.machine.specs.Calls.{setMode, createProcess, start, stop, stopSelf, suspend, suspendSelf, timedWait, periodicWait, resume, setPriority, getStatus}
 use Rattle.machine.specs.Objects.{oneMore, withValue, withUp, createSemaphore, waitSemaphore, signalled, signal, createEvent, setEvent, resetEvent, waitEvent}
 use Rattle.machine.specs.Channels.{portOf, channelChecks, write, read}
+use Rattle.machine.specs.Buffers.{createBuffer, sent, sendBuffer, received, receiveBuffer}
+use Rattle.machine.specs.Blackboards.{createBlackboard, show, readBlackboard, clear}
 use Rattle.machine.specs.Services.{services, serviceOf, callDecision}
 use Rattle.machine.specs.Places.{strayField}
 use Rattle.machine.specs.Module.{noPartition, part, withPart, withTime}
@@ -51,7 +55,7 @@ use Rattle.machine.proofs.Tests.{by-test, not-both, or-left, or-right, 
 use Rattle.machine.proofs.Bounds.{either, same-or-not, not-so, within-in, within-out, named-same, named-other, semaphore-in, event-in, created-in, created-out}
 use Rattle.machine.proofs.Lists.{members-idsOf, kept-snoc}
 use Rattle.machine.proofs.Tracking.{contains-kept, kept-same, kept-kept, kept-all, kept-no, kept-whole}
-use Rattle.machine.proofs.Keeping.{process-other, process-stored, stored-rest, rest-count, stored-listed, changedAll, ended-changed, each-changed, from-range, changed-rest, changed-listed, changed-process, each-listed, each-process, AllCreated}
+use Rattle.machine.proofs.Keeping.{process-other, process-stored, stored-rest, rest-count, stored-listed, each-changed, from-range, changed-rest, changed-listed, changed-process, each-listed, each-process, AllCreated}
 use Rattle.machine.proofs.Sound.{ready-off}
 use Rattle.machine.proofs.Dispatch.{by-call, Calls, by-event}
 use Rattle.machine.proofs.Bodies.{Bodily, bodyRefusal}
@@ -215,7 +219,7 @@ normal-off Class.nothing e = refl
 normal-off Class.normal e = refl
 normal-off Class.timer e = refl
 normal-off Class.release e = refl
-normal-off (Class.onto kind k) e = not-both _ e refl
+normal-off (Class.onto kind k n) e = not-both _ e refl
 
 entered-on : (c : Context) (x : Process) → (object (x .wait) ≡ 0 → ⊥) → entered c x ≡ x
 unfolding entered
@@ -252,6 +256,14 @@ module _ (p : Partition) (v : ListedIn p) (o : ℕ) (some : o ≡ 0 → ⊥) whe
   unfolding storedEvent
   event-queue k e = by-test (λ (q : Partition). waiters o q ≡ waiters o p) (within eventLimit k) (λ _. same-queue o p _ refl (λ _. refl)) (λ _. refl)
 
+  buffer-queue : (k : ℕ) (b : Buffer) → waiters o (storedBuffer k b p) ≡ waiters o p
+  unfolding storedBuffer
+  buffer-queue k b = by-test (λ (q : Partition). waiters o q ≡ waiters o p) (within bufferLimit k) (λ _. same-queue o p _ refl (λ _. refl)) (λ _. refl)
+
+  blackboard-queue : (k : ℕ) (b : BlackboardT) → waiters o (storedBlackboard k b p) ≡ waiters o p
+  unfolding storedBlackboard
+  blackboard-queue k b = by-test (λ (q : Partition). waiters o q ≡ waiters o p) (within blackboardLimit k) (λ _. same-queue o p _ refl (λ _. refl)) (λ _. refl)
+
   -- every process changed, so that waits are kept or end
   pub each-queue : (f : Process → Process) → ((x : Process) → KeepsOrEnds x (f x)) → waiters o (each f p) ≡ kept (λ y. eqb (object (f (process y p) .wait)) o) (waiters o p)
   each-queue f k =
@@ -263,19 +275,16 @@ module _ (p : Partition) (v : ListedIn p) (o : ℕ) (some : o ≡ 0 → ⊥) whe
   in-queue : (y : ℕ) → contains y (waiters o p) ≡ true → object (process y p .wait) ≡ o
   in-queue y c = eqb-true _ o (sym (waiters-exact p v o some y) ∙ c)
 
-  -- the waits on object u end
-  module _ (u : ℕ) where
+  -- the waits on object u end, each process changed by f
+  module _ (f : Process → Process) (ends : (x : Process) → object (f x .wait) ≡ 0) (u : ℕ) where
     abbrev after : Partition
-    after = endedAll (waiters u p) p
+    after = changedAll f (waiters u p) p
 
-    pub ended-process : (y : ℕ) → process y after ≡ cond (contains y (waiters u p)) (served (process y p)) (process y p)
-    ended-process y = rw (ended-changed (waiters u p) p) (changed-process served (waiters u p) p v (waiters-created p v u) (waiters-distinct p v u) y)
-
-    ended-listed : ListedIn after
-    ended-listed = rw (ended-changed (waiters u p) p) (changed-listed served (waiters u p) p v (waiters-created p v u))
+    pub ended-process : (y : ℕ) → process y after ≡ cond (contains y (waiters u p)) (f (process y p)) (process y p)
+    ended-process y = changed-process f (waiters u p) p v (waiters-created p v u) (waiters-distinct p v u) y
 
     ended-waits : waiters o after ≡ kept (waitsOn o after) (waiters o p)
-    ended-waits = part-waits o after (queue-of after ended-listed o some) (waiters o p) (rw (ended-changed (waiters u p) p) (all-part o some served (λ _. inl refl) (waiters u p) p v (waiters-created p v u)))
+    ended-waits = part-waits o after (queue-of after (changed-listed f (waiters u p) p v (waiters-created p v u)) o some) (waiters o p) (all-part o some f (λ x. inl (ends x)) (waiters u p) p v (waiters-created p v u))
 
     pub ended-other : (u ≡ o → ⊥) → waiters o after ≡ waiters o p
     unfolding waiters
@@ -284,8 +293,8 @@ module _ (p : Partition) (v : ListedIn p) (o : ℕ) (some : o ≡ 0 → ⊥) whe
         let out : contains y (waiters u p) ≡ false = contains-kept (waitsOn u p) y (members (p .waiting)) ∙ rw (ne-eqb (object (process y p .wait)) u (λ e. ne (sym e ∙ is))) in
         rw (ended-process y, out) (eq-eqb _ o is))
 
-  pub ended-queue : waiters o (endedAll (waiters o p) p) ≡ []
-  ended-queue = ended-waits o ∙ kept-no (waitsOn o (after o)) (waiters o p) (λ y c. rw (ended-process o y, c) (ne-eqb 0 o (λ e. some (sym e))))
+  pub ended-queue : (f : Process → Process) → ((x : Process) → object (f x .wait) ≡ 0) → waiters o (changedAll f (waiters o p) p) ≡ []
+  ended-queue f ends = ended-waits f ends o ∙ kept-no (waitsOn o (after f ends o)) (waiters o p) (λ y c. rw (ended-process f ends o y, c, ends (process y p)) (ne-eqb 0 o (λ e. some (sym e))))
 
   pub ticked-queue : (t : ℕ) → normalMode p ≡ true → waiters o (tickPartition t p) ≡ kept (λ id. not (due t (process id p .times .wake))) (waiters o p)
   unfolding tickPartition
@@ -308,8 +317,12 @@ changes-queue p v o some = record {
   arrived = arrived-queue p v o some;
   semaphore = semaphore-queue p v o some;
   event = event-queue p v o some;
-  ended = ended-queue p v o some;
-  endedOther = ended-other p v o some;
+  buffer = buffer-queue p v o some;
+  blackboard = blackboard-queue p v o some;
+  ended = ended-queue p v o some served (λ _. refl);
+  endedOther = ended-other p v o some served (λ _. refl);
+  handed = λ m. ended-queue p v o some (handed m) (λ _. refl);
+  handedOther = λ m. ended-other p v o some (handed m) (λ _. refl);
   entered = entered-queue p v o some;
   ticked = ticked-queue p v o some;
 }
@@ -323,7 +336,11 @@ OrderlyChange p (Created id x) = Unit {0}
 OrderlyChange p (Last id) = Unit {0}
 OrderlyChange p (StoredSemaphore k s) = Unit {0}
 OrderlyChange p (StoredEvent k e) = Unit {0}
+OrderlyChange p (CreatedBuffer k name limit) = Unit {0}
+OrderlyChange p (Moved k a) = Unit {0}
+OrderlyChange p (StoredBlackboard k b) = Unit {0}
 OrderlyChange p (Ended o) = Unit {0}
+OrderlyChange p (Handed o m) = Unit {0}
 OrderlyChange p (Entered c) = Unit {0}
 
 -- only the caller begins to wait, in NORMAL, and the answer is 7 then
@@ -358,8 +375,18 @@ module _ (c : Context) (p : Partition) where
   signalled-order [] k = tt
   signalled-order (id ∷ l) k = inl refl
 
+  sent-order : (l : List ℕ) (k m : ℕ) → OrderlyChange p (sent l k m p)
+  unfolding sent
+  sent-order [] k m = tt
+  sent-order (id ∷ l) k m = inl refl
+
+  received-order : (l : List ℕ) (k : ℕ) → InOrder c p (received l k p)
+  unfolding received
+  received-order [] k = fine (tt, tt)
+  received-order (id ∷ l) k = fine (tt, inl refl)
+
   pub call-order : (x : Port) (n : ℕ) (r : Request) → InOrder c p (callDecision c x n r p)
-  unfolding setMode createProcess start stop stopSelf suspend suspendSelf timedWait periodicWait resume setPriority getStatus createSemaphore createEvent blocked waitSemaphore waitEvent signal setEvent resetEvent write read channelChecks Passed
+  unfolding setMode createProcess start stop stopSelf suspend suspendSelf timedWait periodicWait resume setPriority getStatus createSemaphore createEvent blocked waitSemaphore waitEvent signal setEvent resetEvent write read channelChecks createBuffer sendBuffer receiveBuffer createBlackboard show readBlackboard clear Passed
   call-order x n r =
       by-call c x n r p (InOrder c p)
       (λ a. in-order _ _ (λ _. by-test (InOrder c p) (isNumber 3 a) (λ _. fine (tt, tt)) (λ _. fine tt)))
@@ -383,6 +410,13 @@ module _ (c : Context) (p : Partition) where
       (λ _ _. await-order _ _ _ _ _ _ _ (fine tt))
       (λ _ _. in-order _ _ (λ _. in-order _ _ (λ _. fine tt)))
       (in-order _ _ (λ _. in-order _ _ (λ _. fine tt)))
+      (λ _ _. in-order _ _ (λ _. fine (tt, tt)))
+      (λ _ _ _. await-order _ _ _ _ _ _ _ (fine (sent-order _ _ _, tt)))
+      (λ _ _. await-order _ _ _ _ _ _ _ (received-order _ _))
+      (λ _. in-order _ _ (λ _. fine (tt, tt)))
+      (λ _ _. in-order _ _ (λ _. fine (tt, tt)))
+      (λ _ _. await-order _ _ _ _ _ _ _ (fine tt))
+      (λ _. in-order _ _ (λ _. fine (tt, tt)))
       (λ _. fine tt)
     where
       starts : (id delay : ℕ) → KeepsOrEnds (process id p) (cond (normalMode p) (startRule c delay (process id p)) (startedEarly delay (process id p)))
@@ -407,7 +441,11 @@ module _ (o : ℕ) (some : o ≡ 0 → ⊥) where
   change-part c p v (Last id) h k = part-of _ _ (arrived-queue p (v .lists) o some id)
   change-part c p v (StoredSemaphore j s) h k = part-of _ _ (semaphore-queue p (v .lists) o some j s)
   change-part c p v (StoredEvent j e) h k = part-of _ _ (event-queue p (v .lists) o some j e)
-  change-part c p v (Ended u) h k = record { by = _; is = ended-waits p (v .lists) o some u }
+  change-part c p v (CreatedBuffer j name limit) h k = part-of _ _ (buffer-queue p (v .lists) o some j (emptyBuffer name limit))
+  change-part c p v (Moved j a) h k = part-of _ _ (buffer-queue p (v .lists) o some j (movedIn a (buffer j p)))
+  change-part c p v (StoredBlackboard j b) h k = part-of _ _ (blackboard-queue p (v .lists) o some j b)
+  change-part c p v (Ended u) h k = record { by = _; is = ended-waits p (v .lists) o some served (λ _. refl) u }
+  change-part c p v (Handed u m) h k = record { by = _; is = ended-waits p (v .lists) o some (handed m) (λ _. refl) u }
   change-part c p v (Entered d) h k = part-of _ _ (entered-queue p (v .lists) o some d)
 
 -- a READY process that begins to wait: it joins last, where it waits on the object
@@ -577,13 +615,11 @@ module _ (o : ℕ) (some : o ≡ 0 → ⊥) (p : Partition) (v : ListedIn p) (id
       (kept-whole id rest (d .0))
 
 -- all of a queue are served: those READY then join the arrival list in queue order
-pub all-served : (o : ℕ) → (o ≡ 0 → ⊥) → (p : Partition) → ListedIn p → members (endedAll (waiters o p) p .arrival) ≡ members (p .arrival) ++ kept (λ y. ready (process y (endedAll (waiters o p) p))) (waiters o p)
-all-served o some p v =
-    let f = served in
+pub all-served : (f : Process → Process) → ((x : Process) → object (f x .wait) ≡ 0) → (o : ℕ) → (o ≡ 0 → ⊥) → (p : Partition) → ListedIn p → members (changedAll f (waiters o p) p .arrival) ≡ members (p .arrival) ++ kept (λ y. ready (process y (changedAll f (waiters o p) p))) (waiters o p)
+all-served f ends o some p v =
     let l = waiters o p in
-    ap (λ (q : Partition). members (q .arrival)) (ended-changed l p)
-    ∙ all-arrive f l p v (waiters-created p v o) (waiters-distinct p v o) (λ y c. on-not-ready (process y p) (waiters-on p v o y c))
-    ∙ ap (λ (k : List ℕ). members (p .arrival) ++ k) (kept-same (λ y. ready (f (process y p))) (λ y. ready (process y (endedAll l p))) l (λ y c. let is : process y (endedAll l p) ≡ f (process y p) = ended-process p v o some o y ∙ rw c in ap ready (sym is)))
+    all-arrive f l p v (waiters-created p v o) (waiters-distinct p v o) (λ y c. on-not-ready (process y p) (waiters-on p v o y c))
+    ∙ ap (λ (k : List ℕ). members (p .arrival) ++ k) (kept-same (λ y. ready (f (process y p))) (λ y. ready (process y (changedAll f l p))) l (λ y c. let is : process y (changedAll f l p) ≡ f (process y p) = ended-process p v o some f ends o y ∙ rw c in ap ready (sym is)))
 
 -- ---------------------------------------------------------------- the calls
 -- a time-out other than 0
@@ -628,11 +664,11 @@ module _ (m : Module) (k : ℕ) (u : SoundModule m) (h : Calling m k) where
 
   wait-semaphore : (j : ℕ) (a : ℤ) → p .mode ≡ 3 → Between 1 (p .semaphoreCount) j → semaphore j p .value ≡ 0 → WaitsFor a → Queued m k (callBy k 15 (pos j) a (pos 0) (pos 0)) (Semaphore j)
   unfolding callDecision services strayField waitSemaphore
-  wait-semaphore j a n b z t = queued-last 15 j (p .semaphoreCount) a (Semaphore j) (omega arith) (omega arith) (λ e. omega arith) (changed (withValue j (semaphore j p .value - 1) p)) refl (rw (field-number j (omega (arith, b .1, valid .objects .semaphores .few)), z)) b n t
+  wait-semaphore j a n b z t = queued-last 15 j (p .semaphoreCount) a (Semaphore j) (omega arith) (omega arith) (λ e. omega arith) (changed (withValue j (semaphore j p .value - 1) p)) refl (rw (field-number j (omega (arith, b .1, valid .objects .semaphores .numbered .few)), z)) b n t
 
   wait-event : (j : ℕ) (a : ℤ) → p .mode ≡ 3 → Between 1 (p .eventCount) j → event j p .up ≡ false → WaitsFor a → Queued m k (callBy k 20 (pos j) a (pos 0) (pos 0)) (Event j)
   unfolding callDecision services strayField waitEvent
-  wait-event j a n b z t = queued-last 20 j (p .eventCount) a (Event j) (omega arith) (omega arith) (λ e. omega arith) unchanged refl (rw (field-number j (omega (arith, b .1, valid .objects .events .few)), z)) b n t
+  wait-event j a n b z t = queued-last 20 j (p .eventCount) a (Event j) (omega arith) (omega arith) (λ e. omega arith) unchanged refl (rw (field-number j (omega (arith, b .1, valid .objects .events .numbered .few)), z)) b n t
 
   -- SIGNAL
   module _ (j : ℕ) (b : Between 1 (p .semaphoreCount) j) (below : semaphore j p .value ≡ semaphore j p .max → ⊥) where
@@ -648,7 +684,7 @@ module _ (m : Module) (k : ℕ) (u : SoundModule m) (h : Calling m k) where
     signal-gives : (l : List ℕ) → waiters o p ≡ l → Gives m signals 0 0 (At 0) (withPart (k - 1) (applied (signalled l j p) p) m)
     unfolding callDecision services strayField signal checked
     signal-gives l e =
-        let f : field (pos j) ≡ Number j = field-number j (omega (arith, b .1, valid .objects .semaphores .few)) in
+        let f : field (pos j) ≡ Number j = field-number j (omega (arith, b .1, valid .objects .semaphores .numbered .few)) in
         gives m k u h 16 (pos j) (pos 0) (pos 0) (pos 0) (omega arith) (omega arith) refl (changed (signalled l j p)) (rw (f, known m k u h j (p .semaphoreCount) b, ne-eqb _ _ below, e))
 
     pub signal-first : (id : ℕ) (rest : List ℕ) → waiters o p ≡ id ∷ rest → FirstServed m k signals o id rest
@@ -669,16 +705,16 @@ module _ (m : Module) (k : ℕ) (u : SoundModule m) (h : Calling m k) where
     signal-none : waiters o p ≡ [] → NoneServed m k signals j
     unfolding signalled
     signal-none e =
-        let few : j ≤ semaphoreLimit = omega (arith, b .1, valid .objects .semaphores .few) in
+        let few : j ≤ semaphoreLimit = omega (arith, b .1, valid .objects .semaphores .numbered .few) in
         let i = within-in semaphoreLimit j (b .0) few in
-        let t = valid .objects .eachSemaphore j b in
+        let t = valid .objects .semaphores .each j b in
         let s : SemaphoreT = record { name = semaphore j p .name; value = oneMore (semaphore j p .value); max = semaphore j p .max } in
         let q = storedSemaphore j s p in
         let g = signal-gives [] e in
         record {
           code = g .codeIs;
           queue = rw (own-after m k u h q g) (same-queue o q (noted q) refl (λ _. refl) ∙ semaphore-queue p (valid .lists) o some j s ∙ e);
-          value = rw (own-after m k u h q g, semaphore-in j s p i, named-same semaphoreLimit noSemaphore j s (p .semaphores) (b .0) few (omega (arith, valid .objects .semaphores .size))) (rw (lt-ltb (semaphore j p .value) greatestValue (omega (arith, t .value, t .max .1))));
+          value = rw (own-after m k u h q g, semaphore-in j s p i, named-same semaphoreLimit noSemaphore j s (p .semaphores) (b .0) few (omega (arith, valid .objects .semaphores .numbered .size))) (rw (lt-ltb (semaphore j p .value) greatestValue (omega (arith, t .value, t .max .1))));
           processes = rw (own-after m k u h q g) (ap (λ (r : Partition). r .processes) (semaphore-in j s p i));
         }
 
@@ -701,10 +737,10 @@ module _ (m : Module) (k : ℕ) (u : SoundModule m) (h : Calling m k) where
     up = storedEvent j state p
 
     abbrev done : Partition
-    done = endedAll (waiters queue up) up
+    done = changedAll served (waiters queue up) up
 
     up-is : up ≡ withEvents (set (p .events) (j - 1) state) (max (p .eventCount) j) p
-    up-is = event-in j state p (within-in eventLimit j (b .0) (omega (arith, b .1, valid .objects .events .few)))
+    up-is = event-in j state p (within-in eventLimit j (b .0) (omega (arith, b .1, valid .objects .events .numbered .few)))
 
     up-listed : ListedIn up
     up-listed = rw up-is (valid .lists)
@@ -718,27 +754,27 @@ module _ (m : Module) (k : ℕ) (u : SoundModule m) (h : Calling m k) where
     set-gives : Gives m sets 0 0 (At 0) (withPart (k - 1) done m)
     unfolding callDecision services strayField setEvent checked
     set-gives =
-        let f : field (pos j) ≡ Number j = field-number j (omega (arith, b .1, valid .objects .events .few)) in
+        let f : field (pos j) ≡ Number j = field-number j (omega (arith, b .1, valid .objects .events .numbered .few)) in
         gives m k u h 18 (pos j) (pos 0) (pos 0) (pos 0) (omega arith) (omega arith) refl (Changed (withUp j true p) (Ended queue) 0) (rw (f, known m k u h j (p .eventCount) b))
 
     set-events : done .events ≡ set (p .events) (j - 1) state
-    set-events = ap (λ (r : Partition). r .events) (ended-changed (waiters queue up) up ∙ changed-rest served (waiters queue up) up) ∙ ap (λ (r : Partition). r .events) up-is
+    set-events = ap (λ (r : Partition). r .events) (changed-rest served (waiters queue up) up) ∙ ap (λ (r : Partition). r .events) up-is
 
     set-up : event j done .up ≡ true
     set-up =
-        let few = valid .objects .events .few in
-        ap (λ (l : List EventState). byId eventLimit noEvent j l .up) set-events ∙ ap (λ (e : EventState). e .up) (named-same eventLimit noEvent j state (p .events) (b .0) (omega (arith, b .1, few)) (omega (arith, b .1, few, valid .objects .events .size)))
+        let few = valid .objects .events .numbered .few in
+        ap (λ (l : List EventState). byId eventLimit noEvent j l .up) set-events ∙ ap (λ (e : EventState). e .up) (named-same eventLimit noEvent j state (p .events) (b .0) (omega (arith, b .1, few)) (omega (arith, b .1, few, valid .objects .events .numbered .size)))
 
     pub set-event : AllServed m k sets queue × (event j (own (step m sets .state) k) .up ≡ true)
     set-event =
-        let is : (y : ℕ) → process y done ≡ cond (contains y (waiters queue p)) (served (process y p)) (process y p) = λ y. ended-process up up-listed queue is-some queue y ∙ rw (up-queue, up-process y) in
+        let is : (y : ℕ) → process y done ≡ cond (contains y (waiters queue p)) (served (process y p)) (process y p) = λ y. ended-process up up-listed queue is-some served (λ _. refl) queue y ∙ rw (up-queue, up-process y) in
         let g = own-after m k u h done set-gives in (
           record {
             code = set-gives .codeIs;
-            queue = rw g (same-queue queue done (noted done) refl (λ _. refl) ∙ ended-queue up up-listed queue is-some);
+            queue = rw g (same-queue queue done (noted done) refl (λ _. refl) ∙ ended-queue up up-listed queue is-some served (λ _. refl));
             ended = λ id c. rw (g, is id, c) (ended-is (process id p));
             others = λ id c. rw (g, is id, c);
-            arrival = rw g (all-served queue is-some up up-listed ∙ rw (up-queue, ap (λ (r : Partition). r .arrival) up-is));
+            arrival = rw g (all-served served (λ _. refl) queue is-some up up-listed ∙ rw (up-queue, ap (λ (r : Partition). r .arrival) up-is));
           },
           rw g set-up,
         )

@@ -14,7 +14,7 @@ use Rattle.machine.specs.declared.Wait.the-variants.{None}
 use Rattle.machine.specs.declared.Time.{Time}
 use Rattle.machine.specs.declared.Time.the-variants.{Never, At}
 use Rattle.machine.specs.Limits.{priorityLimit, durationLimit, timeLimit, frameLimit, greatestTime}
-use Rattle.machine.specs.Process.{Class, classOf, objectIn, forNothing, createdProcess, capped, later, due, isNever, periodic, onObject, object, waitsForNothing, waitsForNormal, ready, withDeadline, served, withSuspended, withCurrent, waitingFor, suspendedUntil, onlyMarked, woken, expired, ticked, begun, startRule, startedEarly, entered, stopped, resumed, nextRelease}
+use Rattle.machine.specs.Process.{Class, classOf, objectIn, forNothing, createdProcess, capped, later, due, isNever, periodic, onObject, object, carriedIn, carried, waitsForNothing, waitsForNormal, ready, withDeadline, served, handed, withSuspended, withCurrent, waitingFor, suspendedUntil, onlyMarked, woken, expired, ticked, begun, startRule, startedEarly, entered, stopped, resumed, nextRelease}
 use Rattle.machine.specs.Valid.{Between, latestWake, latestDeadline, AtMost, NotAfter, Ahead, Timeout, SoundPeriod, Below, SoundCapacity, SoundGiven, Timeless, Bounded, Dormant, Early, KnownWait, SoundWake, Released, SoundRelease, Setting, setting, Going, Lasting, LastingIn, SoundCode, SoundMark, SoundProcess}
 use Rattle.machine.proofs.Tests.{by-test, not-both}
 use Rattle.machine.proofs.Bounds.{either, not-so, so, and-true-parts}
@@ -128,14 +128,14 @@ wake-on t false r Class.nothing w h e = h
 wake-on t mark r Class.normal w h e = h
 wake-on t mark r Class.timer w h e = ahead-on t w h e
 wake-on t mark r Class.release w h e = h
-wake-on t mark r (Class.onto kind k) w h e = timeout-on t w h e
+wake-on t mark r (Class.onto kind k n) w h e = timeout-on t w h e
 
 release-on : (t : ℕ) (p : Time) (v : Class) (r : Time) → SoundRelease t p v r → SoundRelease (t + 1) p v r
 release-on t p Class.nothing r h = released-more t p r h
 release-on t p Class.normal r h = h
 release-on t p Class.timer r h = released-more t p r h
 release-on t p Class.release r h = h
-release-on t p (Class.onto kind k) r h = released-more t p r h
+release-on t p (Class.onto kind k n) r h = released-more t p r h
 
 due-at-most : (t : ℕ) (w : Time) → due t w ≡ true → AtMost t w
 due-at-most t Never e = not-both _ e refl
@@ -147,7 +147,7 @@ release-ended t p mark Class.nothing r w h k e = released-more t p r h
 release-ended t p mark Class.normal r w h k e = absurd h
 release-ended t p mark Class.timer r w h k e = released-more t p r h
 release-ended t p mark Class.release r w h k e = released-at-most (t + 1) p r (h .0) (due-at-most (t + 1) r (rw k at e))
-release-ended t p mark (Class.onto kind j) r w h k e = released-more t p r h
+release-ended t p mark (Class.onto kind j n) r w h k e = released-more t p r h
 
 -- a wait on an object, ended before its time
 release-object : (t : ℕ) (p : Time) (v : Class) (r : Time) → not (eqb (objectIn v) 0) ≡ true → SoundRelease t p v r → Released t p r
@@ -155,7 +155,7 @@ release-object t p Class.nothing r e h = h
 release-object t p Class.normal r e h = absurd h
 release-object t p Class.timer r e h = h
 release-object t p Class.release r e h = not-both _ e refl
-release-object t p (Class.onto kind k) r e h = h
+release-object t p (Class.onto kind k n) r e h = h
 
 -- the mark set, and the mark taken away where there is a wait
 wake-suspended : (t : ℕ) (mark : Bool) (r : Time) (v : Class) (w : Time) → SoundWake t mark r v w → SoundWake t true r v w
@@ -164,21 +164,21 @@ wake-suspended t false r Class.nothing w h = rw h tt
 wake-suspended t mark r Class.normal w h = h
 wake-suspended t mark r Class.timer w h = h
 wake-suspended t mark r Class.release w h = h
-wake-suspended t mark r (Class.onto kind k) w h = h
+wake-suspended t mark r (Class.onto kind k n) w h = h
 
 wake-resumed : (t : ℕ) (mark : Bool) (r : Time) (v : Class) (w : Time) → forNothing v ≡ false → SoundWake t mark r v w → SoundWake t false r v w
 wake-resumed t mark r Class.nothing w e h = not-both _ refl e
 wake-resumed t mark r Class.normal w e h = h
 wake-resumed t mark r Class.timer w e h = h
 wake-resumed t mark r Class.release w e h = h
-wake-resumed t mark r (Class.onto kind k) w e h = h
+wake-resumed t mark r (Class.onto kind k n) w e h = h
 
 for-nothing : (v : Class) → forNothing v ≡ true → v ≡ Class.nothing
 for-nothing Class.nothing e = refl
 for-nothing Class.normal e = not-both _ e refl
 for-nothing Class.timer e = not-both _ e refl
 for-nothing Class.release e = not-both _ e refl
-for-nothing (Class.onto kind k) e = not-both _ e refl
+for-nothing (Class.onto kind k n) e = not-both _ e refl
 
 -- ---------------------------------------------------------------- creating and starting
 no-times : (delay : ℕ) → Timeless (record { release = Never; deadline = Never; wake = Never; delay = delay })
@@ -186,13 +186,13 @@ no-times delay = record { release = refl; deadline = refl; wake = refl }
 
 pub created-sound : (s : Setting) (g : Given) → SoundGiven (s .frame) g → SoundProcess s (createdProcess g)
 created-sound s g h = as-dormant s (createdProcess g)
-    (record { given = h; current = omega arith; priority = λ e. not-both _ e refl; delay = omega arith; early = zero-below (s .frame) (g .period) (h .period) })
+    (record { given = h; current = omega arith; priority = λ e. not-both _ e refl; delay = omega arith; early = zero-below (s .frame) (g .period) (h .period); message = omega arith })
     (inl refl) (and-false (not (isNever (g .period)))) refl
     (record { wait = refl; unmarked = refl; times = no-times 0 })
 
 -- with current priority n
-with-current : (frame : ℕ) (x : Process) → LastingIn frame x → (n : ℕ) → Between 1 priorityLimit n → (started : Bool) → Lasting frame (x .given) n started (x .times .delay)
-with-current frame x l n b started = record { given = l .given; current = b .1; priority = λ _. b .0; delay = l .delay; early = l .early }
+with-current : (frame : ℕ) (x : Process) → LastingIn frame x → (n : ℕ) → Between 1 priorityLimit n → (started : Bool) → Lasting frame (x .given) n started (x .times .delay) (x .message)
+with-current frame x l n b started = record { given = l .given; current = b .1; priority = λ _. b .0; delay = l .delay; early = l .early; message = l .message }
 
 -- the start rule, with any mark that the process may have and any priority
 module _ (c : Context) (ends : c .time ≤ timeLimit) (frame : c .frame ≤ frameLimit) (near : c .release < c .time + c .frame + c .frame) (normal : Bool) (e : normal ≡ true) (a : ℕ → ℕ) where
@@ -262,7 +262,7 @@ module _ (s : Setting) (x : Process) where
   pub early-sound : LastingIn (s .frame) x → Timeless (x .times) → s .normal ≡ false → (delay : ℕ) → delay ≤ durationLimit → Below (x .given .period) delay → SoundProcess s (startedEarly delay x)
   early-sound l h n delay short below =
       as-early s (startedEarly delay x)
-      (record { given = l .given; current = l .given .base .1; priority = λ _. l .given .base .0; delay = short; early = below })
+      (record { given = l .given; current = l .given .base .1; priority = λ _. l .given .base .0; delay = short; early = below; message = l .message })
       (inl refl) (and-false (periodic x)) refl n
       (record { wait = refl; times = record { release = h .release; deadline = h .deadline; wake = h .wake } })
 
@@ -271,7 +271,7 @@ module _ (s : Setting) (x : Process) where
     stopped-sound =
         let l = h .lasting in
         as-dormant s (stopped x)
-        (record { given = l .given; current = l .current; priority = λ e. not-both _ e refl; delay = l .delay; early = l .early })
+        (record { given = l .given; current = l .current; priority = λ e. not-both _ e refl; delay = l .delay; early = l .early; message = l .message })
         (h .code) (and-false (periodic x)) refl
         (record { wait = refl; unmarked = refl; times = no-times (x .times .delay) })
 
@@ -315,16 +315,20 @@ module _ (s : Setting) (x : Process) where
             going = λ d n. let g = h .going d n in record { wait = g .wait; wake = wake-resumed (s .time) (x .suspended) (x .times .release) (classOf (x .wait)) (x .times .wake) k (g .wake); release = g .release; deadline = g .deadline };
           })
 
-    -- a wait on an object ends before its time
-    pub ended-sound : onObject x ≡ true → SoundProcess s (served x)
-    ended-sound k = record {
-      lasting = h .lasting;
+    -- a wait on an object ends before its time, with a message
+    pub handed-sound : onObject x ≡ true → (m : ℕ) → m ≤ durationLimit → SoundProcess s (handed m x)
+    handed-sound k m few = record {
+      lasting = let l = h .lasting in record { given = l .given; current = l .current; priority = l .priority; delay = l .delay; early = l .early; message = few };
       code = inl refl;
       mark = h .mark;
       dormant = λ d. not-both _ k (ap (λ (v : Wait). not (eqb (object v) 0)) (h .dormant d .wait));
       early = λ d n. not-both _ k (ap (λ (v : Wait). not (eqb (object v) 0)) (h .early d n .wait));
       going = λ d n. let g = h .going d n in record { wait = tt; wake = none-wake (s .time) (x .suspended) (x .times .release); release = release-object (s .time) (x .given .period) (classOf (x .wait)) (x .times .release) k (g .release); deadline = g .deadline };
     }
+
+    -- the one that it has stays
+    pub ended-sound : onObject x ≡ true → SoundProcess s (served x)
+    ended-sound k = handed-sound k (x .message) (h .lasting .message)
 
 -- what is READY
 pub ready-parts : (x : Process) → ready x ≡ true → (x .started ≡ true) × (x .suspended ≡ false) × (classOf (x .wait) ≡ Class.nothing)
@@ -371,7 +375,7 @@ known-more f g h Class.nothing q = tt
 known-more f g h Class.normal q = q
 known-more f g h Class.timer q = tt
 known-more f g h Class.release q = tt
-known-more f g h (Class.onto kind j) q = (q .0, omega (arith, q .1, h kind))
+known-more f g h (Class.onto kind j n) q = ((q .0 .0, omega (arith, q .0 .1, h kind)), q .1)
 
 pub more-objects : (frame t : ℕ) (normal : Bool) (f g : ℕ → ℕ) → ((kind : ℕ) → f kind ≤ g kind) → (x : Process) → SoundProcess (setting frame t normal f) x → SoundProcess (setting frame t normal g) x
 more-objects frame t normal f g more x h = record {
@@ -443,7 +447,7 @@ wake-bound t false r Class.nothing w ends k h = never-bound latestWake w h
 wake-bound t mark r Class.normal w ends k h = absurd h
 wake-bound t mark r Class.timer w ends k h = ahead-bound t w ends (ahead-timeout t w h)
 wake-bound t mark r Class.release w ends k h = rw h k
-wake-bound t mark r (Class.onto kind j) w ends k h = ahead-bound t w ends h
+wake-bound t mark r (Class.onto kind j n) w ends k h = ahead-bound t w ends h
 
 released-bound : (t : ℕ) (p r : Time) → t ≤ timeLimit → Released t p r → NotAfter latestWake r
 released-bound t Never r ends h = never-bound latestWake r h
@@ -454,7 +458,7 @@ release-bound t p Class.nothing r ends h = released-bound t p r ends h
 release-bound t p Class.normal r ends h = absurd h
 release-bound t p Class.timer r ends h = released-bound t p r ends h
 release-bound t p Class.release r ends h = at-most-not-after latestWake r (h .1)
-release-bound t p (Class.onto kind k) r ends h = released-bound t p r ends h
+release-bound t p (Class.onto kind k n) r ends h = released-bound t p r ends h
 
 module _ (s : Setting) (x : Process) (h : SoundProcess s x) where
   timeless-bounded : Timeless (x .times) → Bounded (x .times)
@@ -478,6 +482,21 @@ module _ (s : Setting) (x : Process) (h : SoundProcess s x) where
       (λ n. rw (k, u) at (h .going e n .wake))
       (λ n. h .early e n .times .wake))
       (λ e. h .dormant e .times .wake)
+
+  -- a message kept with a wait is one
+  pub carried-sound : carried x ≤ durationLimit
+  carried-sound = either (x .started)
+      (λ e. either (s .normal)
+      (λ n. known (classOf (x .wait)) (h .going e n .wait))
+      (λ n. rw (h .early e n .wait) (omega arith)))
+      (λ e. rw (h .dormant e .wait) (omega arith))
+    where
+      known : (v : Class) → KnownWait (s .counts) v → carriedIn v ≤ durationLimit
+      known Class.nothing q = omega arith
+      known Class.normal q = omega arith
+      known Class.timer q = omega arith
+      known Class.release q = omega arith
+      known (Class.onto kind k m) q = q .1
 
   -- outside NORMAL none is READY
   pub early-waits : s .normal ≡ false → ready x ≡ false

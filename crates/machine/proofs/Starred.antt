@@ -23,7 +23,7 @@ use Rattle.machine.specs.declared.Decision.the-variants.{Written, Ticked
 use Rattle.machine.specs.declared.Field.{Field}
 use Rattle.machine.specs.declared.Field.the-variants.{Number, MinusOne, Other}
 use Rattle.machine.specs.declared.Wait.{Wait}
-use Rattle.machine.specs.declared.Wait.the-variants.{None, Normal, Delay, Timed, Period, Semaphore, Event}
+use Rattle.machine.specs.declared.Wait.the-variants.{None, Normal, Delay, Timed, Period, Semaphore, Event, Sending, Receiving, Blackboard}
 use Rattle.machine.specs.declared.Time.{Time}
 use Rattle.machine.specs.declared.Time.the-variants.{Never, At}
 use Rattle.machine.specs.Limits.{timeLimit, channelLimit}
@@ -159,6 +159,9 @@ waits Timed h = refl
 waits Period h = refl
 waits (Semaphore j) h = refl
 waits (Event j) h = refl
+waits (Sending j m) h = refl
+waits (Receiving j) h = refl
+waits (Blackboard j) h = refl
 
 -- the wait that names semaphore j, event j
 semaphore-is : (w : Wait) (j : ℕ) → j ≤ 255 → object w ≡ object (Semaphore j) → w ≡ Semaphore j
@@ -169,6 +172,9 @@ semaphore-is Timed j h e = absurd (omega arith)
 semaphore-is Period j h e = absurd (omega arith)
 semaphore-is (Semaphore i) j h e = ap Semaphore (omega arith)
 semaphore-is (Event i) j h e = absurd (omega arith)
+semaphore-is (Sending i m) j h e = absurd (omega arith)
+semaphore-is (Receiving i) j h e = absurd (omega arith)
+semaphore-is (Blackboard i) j h e = absurd (omega arith)
 
 suspended-not-ready : (x : Process) → x .suspended ≡ true → ready x ≡ false
 suspended-not-ready x h = rw h (and-false (x .started))
@@ -234,6 +240,9 @@ module _ (t : ℕ) (x : Process) where
   ticks-of = record {
     semaphore = λ w j e h r. wait-over w 6 e h (rw r) (rw (r, ne-eqb (256 * 1 + j) 0 (λ z. omega arith)));
     event = λ w j e h r. wait-over w 6 e h (rw r) (rw (r, ne-eqb (256 * 2 + j) 0 (λ z. omega arith)));
+    sending = λ w j n e h r. wait-over w 6 e h (rw r) (rw (r, ne-eqb (256 * 3 + j) 0 (λ z. omega arith)));
+    receiving = λ w j e h r. wait-over w 6 e h (rw r) (rw (r, ne-eqb (256 * 4 + j) 0 (λ z. omega arith)));
+    blackboard = λ w j e h r. wait-over w 6 e h (rw r) (rw (r, ne-eqb (256 * 5 + j) 0 (λ z. omega arith)));
     delay = λ w e h r. wait-over w 0 e h (rw r) (rw r);
     timed = λ w e h r. wait-over w 0 e h (rw r) (rw r);
     period = λ w e h r. wait-over w 0 e h (rw r) (rw r);
@@ -319,7 +328,7 @@ module _ (m : Module) (k : ℕ) (u : SoundModule m) (h : Calling m k) where
       (split : members (own m k .waiting) ≡ before ++ (id ∷ after)) (w : process id (own m k) .wait ≡ Semaphore j)
       (first : (y : ℕ) → contains y before ≡ true → process y (own m k) .wait ≡ Semaphore j → ⊥) where
     few : j ≤ 255
-    few = omega (arith, b .1, calling-valid m k u h .objects .semaphores .few)
+    few = omega (arith, b .1, calling-valid m k u h .objects .semaphores .numbered .few)
 
     -- it is the first of the queue
     queue-is : waiters (object (Semaphore j)) (own m k) ≡ id ∷ kept (waitsOn (object (Semaphore j)) (own m k)) after

@@ -24,7 +24,7 @@ use Rattle.machine.specs.Partition.{normalMode, process}
 use Rattle.machine.specs.Decisions.{checked, changed, unchanged, blocked, unknown, startMode, dormant, nameTaken, creationChecks}
 
 -- 1 SET_PARTITION_MODE a. 3: not 0..3. 1: 3 in NORMAL. 5: 2 in COLD_START. 5: 3 with no process. Modes 0, 1, 2: mode set; processes,
--- semaphores, events erased (the messages by `moduleAfter`, in Step).
+-- semaphores, events, buffers, blackboards erased (the messages on channels by `moduleAfter`, in Step).
 unfoldable pub setMode : Context → Field → Partition → Decision
 setMode c a p =
     checked Refused

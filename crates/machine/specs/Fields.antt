@@ -40,6 +40,10 @@ between low high Other = false
 abbrev pub isDuration : Field → Bool
 isDuration f = between 0 durationLimit f
 
+-- a message of a buffer or a blackboard: 0..9,999,999
+abbrev pub isMessage : Field → Bool
+isMessage f = isDuration f
+
 abbrev pub isMinusOne : Field → Bool
 isMinusOne (Number n) = false
 isMinusOne MinusOne = true

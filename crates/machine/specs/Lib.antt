@@ -1,11 +1,14 @@
 pub mod Limits
 pub mod Fields
 pub mod Ids
+pub mod Messages
 pub mod Process
 pub mod Partition
 pub mod Decisions
 pub mod Calls
 pub mod Objects
+pub mod Buffers
+pub mod Blackboards
 pub mod Windows
 pub mod Module
 pub mod Ticks

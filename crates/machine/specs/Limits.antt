@@ -1,4 +1,4 @@
--- Every limit of document 01, as the constants of `Module` name them, and the bounds of the record's numbers.
+-- Every limit of documents 01 and 02, as the constants of `Module` name them, and the bounds of the record's numbers.
 use Prim.Native.Nat.{ℕ}
 
 -- Module::PROCESSES
@@ -12,6 +12,18 @@ semaphoreLimit = 8
 -- Module::EVENTS
 abbrev pub eventLimit : ℕ
 eventLimit = 8
+
+-- Module::BUFFERS
+abbrev pub bufferLimit : ℕ
+bufferLimit = 8
+
+-- Module::MESSAGES
+abbrev pub messageLimit : ℕ
+messageLimit = 16
+
+-- Module::BLACKBOARDS
+abbrev pub blackboardLimit : ℕ
+blackboardLimit = 8
 
 -- Module::NAME
 abbrev pub nameLimit : ℕ
@@ -31,7 +43,7 @@ modeLimit = 3
 
 -- Module::CALL
 abbrev pub callLimit : ℕ
-callLimit = 22
+callLimit = 29
 
 -- Module::DURATION
 abbrev pub durationLimit : ℕ

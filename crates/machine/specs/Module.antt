@@ -27,6 +27,10 @@ noPartition = record {
   semaphoreCount = 0;
   events = [];
   eventCount = 0;
+  buffers = [];
+  bufferCount = 0;
+  blackboards = [];
+  blackboardCount = 0;
   arrival = record { items = []; len = 0 };
   waiting = record { items = []; len = 0 };
   soonest = 0;

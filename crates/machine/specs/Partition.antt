@@ -8,18 +8,22 @@ use Rattle.machine.specs.declared.Ids.{Ids}
 use Rattle.machine.specs.declared.Process.{Process}
 use Rattle.machine.specs.declared.Semaphore.{Semaphore as SemaphoreT}
 use Rattle.machine.specs.declared.EventState.{EventState}
+use Rattle.machine.specs.declared.Buffer.{Buffer}
+use Rattle.machine.specs.declared.Blackboard.{Blackboard as BlackboardT}
+use Rattle.machine.specs.declared.QueueChange.{QueueChange}
 use Rattle.machine.specs.declared.Partition.{Partition}
 use Rattle.machine.specs.declared.Choice.{Choice}
 use Rattle.machine.specs.declared.Context.{Context}
 use Rattle.machine.specs.declared.Change.{Change}
-use Rattle.machine.specs.declared.Change.the-variants.{Nothing, Stored, Created, Last, StoredSemaphore, StoredEvent, Ended, Entered}
+use Rattle.machine.specs.declared.Change.the-variants.{Nothing, Stored, Created, Last, StoredSemaphore, StoredEvent, CreatedBuffer, Moved, StoredBlackboard, Ended, Handed, Entered}
 use Rattle.machine.specs.declared.Decision.{Decision}
 use Rattle.machine.specs.declared.Decision.the-variants.{Refused, Unchanged, Ticked, Blocked, Changed, Restarted, Written}
 use Rattle.machine.specs.declared.Time.{Time}
 use Rattle.machine.specs.declared.Time.the-variants.{Never, At}
-use Rattle.machine.specs.Limits.{processLimit, semaphoreLimit, eventLimit, greatestTime}
+use Rattle.machine.specs.Limits.{processLimit, semaphoreLimit, eventLimit, bufferLimit, blackboardLimit, greatestTime}
 use Rattle.machine.specs.Ids.{members, idsOf, kept, appended, removed, follow}
-use Rattle.machine.specs.Process.{blankProcess, ready, object, onObject, ticked, served, entered}
+use Rattle.machine.specs.Messages.{queueOf, moved}
+use Rattle.machine.specs.Process.{blankProcess, ready, object, onObject, ticked, served, handed, entered}
 
 -- IDLE 0, COLD_START 1, WARM_START 2, NORMAL 3
 abbrev pub idleMode : Partition → Bool
@@ -34,6 +38,12 @@ noSemaphore = record { name = 0; value = 0; max = 0 }
 abbrev pub noEvent : EventState
 noEvent = record { name = 0; up = false }
 
+abbrev pub noBuffer : Buffer
+noBuffer = record { name = 0; limit = 0; queue = queueOf [] }
+
+abbrev pub noBlackboard : BlackboardT
+noBlackboard = record { name = 0; shown = false; message = 0 }
+
 -- a partition in this mode with nothing created
 abbrev pub nothingCreated : ℕ → Partition
 nothingCreated mode = record {
@@ -44,6 +54,10 @@ nothingCreated mode = record {
   semaphoreCount = 0;
   events = replicate eventLimit noEvent;
   eventCount = 0;
+  buffers = replicate bufferLimit noBuffer;
+  bufferCount = 0;
+  blackboards = replicate blackboardLimit noBlackboard;
+  blackboardCount = 0;
   arrival = idsOf [];
   waiting = idsOf [];
   soonest = 0;
@@ -69,6 +83,12 @@ semaphore k p = byId semaphoreLimit noSemaphore k (p .semaphores)
 abbrev pub event : ℕ → Partition → EventState
 event k p = byId eventLimit noEvent k (p .events)
 
+abbrev pub buffer : ℕ → Partition → Buffer
+buffer k p = byId bufferLimit noBuffer k (p .buffers)
+
+abbrev pub blackboard : ℕ → Partition → BlackboardT
+blackboard k p = byId blackboardLimit noBlackboard k (p .blackboards)
+
 abbrev pub withMode : ℕ → Partition → Partition
 withMode mode p = record {
   mode = mode;
@@ -78,6 +98,10 @@ withMode mode p = record {
   semaphoreCount = p .semaphoreCount;
   events = p .events;
   eventCount = p .eventCount;
+  buffers = p .buffers;
+  bufferCount = p .bufferCount;
+  blackboards = p .blackboards;
+  blackboardCount = p .blackboardCount;
   arrival = p .arrival;
   waiting = p .waiting;
   soonest = p .soonest;
@@ -92,6 +116,10 @@ withProcesses l n a w p = record {
   semaphoreCount = p .semaphoreCount;
   events = p .events;
   eventCount = p .eventCount;
+  buffers = p .buffers;
+  bufferCount = p .bufferCount;
+  blackboards = p .blackboards;
+  blackboardCount = p .blackboardCount;
   arrival = a;
   waiting = w;
   soonest = p .soonest;
@@ -106,6 +134,10 @@ withSemaphores l n p = record {
   semaphoreCount = n;
   events = p .events;
   eventCount = p .eventCount;
+  buffers = p .buffers;
+  bufferCount = p .bufferCount;
+  blackboards = p .blackboards;
+  blackboardCount = p .blackboardCount;
   arrival = p .arrival;
   waiting = p .waiting;
   soonest = p .soonest;
@@ -120,6 +152,46 @@ withEvents l n p = record {
   semaphoreCount = p .semaphoreCount;
   events = l;
   eventCount = n;
+  buffers = p .buffers;
+  bufferCount = p .bufferCount;
+  blackboards = p .blackboards;
+  blackboardCount = p .blackboardCount;
+  arrival = p .arrival;
+  waiting = p .waiting;
+  soonest = p .soonest;
+}
+
+abbrev pub withBuffers : List Buffer → ℕ → Partition → Partition
+withBuffers l n p = record {
+  mode = p .mode;
+  processes = p .processes;
+  processCount = p .processCount;
+  semaphores = p .semaphores;
+  semaphoreCount = p .semaphoreCount;
+  events = p .events;
+  eventCount = p .eventCount;
+  buffers = l;
+  bufferCount = n;
+  blackboards = p .blackboards;
+  blackboardCount = p .blackboardCount;
+  arrival = p .arrival;
+  waiting = p .waiting;
+  soonest = p .soonest;
+}
+
+abbrev pub withBlackboards : List BlackboardT → ℕ → Partition → Partition
+withBlackboards l n p = record {
+  mode = p .mode;
+  processes = p .processes;
+  processCount = p .processCount;
+  semaphores = p .semaphores;
+  semaphoreCount = p .semaphoreCount;
+  events = p .events;
+  eventCount = p .eventCount;
+  buffers = p .buffers;
+  bufferCount = p .bufferCount;
+  blackboards = l;
+  blackboardCount = n;
   arrival = p .arrival;
   waiting = p .waiting;
   soonest = p .soonest;
@@ -134,6 +206,10 @@ withSoonest n p = record {
   semaphoreCount = p .semaphoreCount;
   events = p .events;
   eventCount = p .eventCount;
+  buffers = p .buffers;
+  bufferCount = p .bufferCount;
+  blackboards = p .blackboards;
+  blackboardCount = p .blackboardCount;
   arrival = p .arrival;
   waiting = p .waiting;
   soonest = n;
@@ -158,6 +234,21 @@ storedSemaphore k s p = cond (within semaphoreLimit k) (withSemaphores (replaced
 -- event k, the same way
 unfoldable pub storedEvent : ℕ → EventState → Partition → Partition
 storedEvent k e p = cond (within eventLimit k) (withEvents (replaced eventLimit k e (p .events)) (max (p .eventCount) k) p) p
+
+-- buffer k, blackboard k
+unfoldable pub storedBuffer : ℕ → Buffer → Partition → Partition
+storedBuffer k b p = cond (within bufferLimit k) (withBuffers (replaced bufferLimit k b (p .buffers)) (max (p .bufferCount) k) p) p
+
+unfoldable pub storedBlackboard : ℕ → BlackboardT → Partition → Partition
+storedBlackboard k b p = cond (within blackboardLimit k) (withBlackboards (replaced blackboardLimit k b (p .blackboards)) (max (p .blackboardCount) k) p) p
+
+-- a buffer with nothing in it
+abbrev pub emptyBuffer : ℕ → ℕ → Buffer
+emptyBuffer name limit = record { name = name; limit = limit; queue = queueOf [] }
+
+-- a buffer whose messages moved
+abbrev pub movedIn : QueueChange → Buffer → Buffer
+movedIn a b = record { name = b .name; limit = b .limit; queue = moved a (b .queue) }
 
 -- process id is created with this record, which neither is READY nor waits
 unfoldable pub created : ℕ → Process → Partition → Partition
@@ -187,13 +278,10 @@ waitsOn o p id = eqb (object (process id p .wait)) o
 unfoldable pub waiters : ℕ → Partition → List ℕ
 waiters o p = kept (waitsOn o p) (members (p .waiting))
 
--- the wait of process id ends (w −1, wake code 0)
-unfoldable pub ended : ℕ → Partition → Partition
-ended id p = stored id (served (process id p)) p
-
-unfoldable pub endedAll : List ℕ → Partition → Partition
-endedAll [] p = p
-endedAll (id ∷ l) p = endedAll l (ended id p)
+-- a change of these processes, one after the other
+unfoldable pub changedAll : (Process → Process) → List ℕ → Partition → Partition
+changedAll f [] p = p
+changedAll f (id ∷ l) p = changedAll f l (stored id (f (process id p)) p)
 
 -- a change of every process by ascending id: n of them from id on
 unfoldable pub eachFrom : (Process → Process) → ℕ → ℕ → Partition → Partition
@@ -219,7 +307,11 @@ applied (Created id x) p = created id x p
 applied (Last id) p = arrivedLast id p
 applied (StoredSemaphore k s) p = storedSemaphore k s p
 applied (StoredEvent k e) p = storedEvent k e p
-applied (Ended o) p = endedAll (waiters o p) p
+applied (CreatedBuffer k name limit) p = storedBuffer k (emptyBuffer name limit) p
+applied (Moved k a) p = storedBuffer k (movedIn a (buffer k p)) p
+applied (StoredBlackboard k b) p = storedBlackboard k b p
+applied (Ended o) p = changedAll served (waiters o p) p
+applied (Handed o m) p = changedAll (handed m) (waiters o p) p
 applied (Entered c) p = enteredNormal c p
 
 -- what a decision leaves of the partition; a refused call leaves the record as it is

@@ -1,5 +1,5 @@
 -- The machine with no bound. So as to be total, the definitions carry bounds: an id outside its limit names the default and stores nothing,
--- a full list stays as it is, sums of times and a semaphore's value stop at the greatest, at most 8 partitions are ticked, M = 0 gives 0, and
+-- a full list or queue stays as it is, sums of times and a semaphore's value stop at the greatest, at most 8 partitions are ticked, M = 0 gives 0, and
 -- a number past the greatest time is no number. Here the same is said without them, and what it means that none of them acts at an event:
 -- `no-bound-acts` proves it of every event at every record that a run reaches. Nothing of the machine rests on it.
 use Prim.Native.Nat.{ℕ, zero, suc, _+_, _-_, _*_, _/_, _%_, _≤_, _<_}
@@ -7,7 +7,7 @@ use mathlib.Core.Path.{_≡_}
 use mathlib.Core.Bool.{Bool, true, false, cond, _&&_}
 use mathlib.Core.List.{List, [], _∷_, _++_}
 use mathlib.Core.Logic.{_⊎_}
-use lib.ListN.{length, getD, set}
+use lib.ListN.{length, getD, set, drop}
 use lib.Dec.{eqb, leb, ltb}
 use lib.IntN.{ℤ, pos, negsuc}
 use Rattle.machine.specs.declared.Time.{Time}
@@ -17,9 +17,13 @@ use Rattle.machine.specs.declared.Times.{Times}
 use Rattle.machine.specs.declared.Process.{Process}
 use Rattle.machine.specs.declared.Semaphore.{Semaphore as SemaphoreT}
 use Rattle.machine.specs.declared.EventState.{EventState}
+use Rattle.machine.specs.declared.QueueChange.{QueueChange}
+use Rattle.machine.specs.declared.QueueChange.the-variants.{Put, Taken, Exchanged}
+use Rattle.machine.specs.declared.Buffer.{Buffer}
+use Rattle.machine.specs.declared.Blackboard.{Blackboard as BlackboardT}
 use Rattle.machine.specs.declared.Partition.{Partition}
 use Rattle.machine.specs.declared.Change.{Change}
-use Rattle.machine.specs.declared.Change.the-variants.{Nothing, Stored, Created, Last, StoredSemaphore, StoredEvent, Ended, Entered}
+use Rattle.machine.specs.declared.Change.the-variants.{Nothing, Stored, Created, Last, StoredSemaphore, StoredEvent, CreatedBuffer, Moved, StoredBlackboard, Ended, Handed, Entered}
 use Rattle.machine.specs.declared.Decision.{Decision}
 use Rattle.machine.specs.declared.Decision.the-variants.{Refused, Unchanged, Ticked, Blocked, Changed, Restarted, Written}
 use Rattle.machine.specs.declared.Event.{Event as EventT}
@@ -30,8 +34,9 @@ use Rattle.machine.specs.declared.Stepped.{Stepped}
 use Rattle.machine.specs.Limits.{channelLimit, greatestTime, greatestValue}
 use Rattle.machine.specs.Fields.{field, requestOf, isNumber, between, isMinusOne, numberOf}
 use Rattle.machine.specs.Ids.{members, idsOf, kept, other}
-use Rattle.machine.specs.Process.{blankProcess, later, ready, onObject, served, ticked, entered}
-use Rattle.machine.specs.Partition.{normalMode, nothingCreated, noSemaphore, noEvent, process, semaphore, event, withMode, withProcesses, withSemaphores, withEvents, waiters, noted}
+use Rattle.machine.specs.Messages.{held, queueOf}
+use Rattle.machine.specs.Process.{blankProcess, later, ready, onObject, served, handed, ticked, entered}
+use Rattle.machine.specs.Partition.{normalMode, nothingCreated, noSemaphore, noEvent, noBuffer, noBlackboard, process, semaphore, event, buffer, blackboard, emptyBuffer, withMode, withProcesses, withSemaphores, withEvents, withBuffers, withBlackboards, waiters, noted}
 use Rattle.machine.specs.Decisions.{replyOf, unknown}
 use Rattle.machine.specs.Objects.{oneMore}
 use Rattle.machine.specs.Windows.{windows, owner, lookup, firstFlagged, releasePoint, startsFrom, firstStart, aheadOf, nextStart}
@@ -93,6 +98,21 @@ plainSemaphore k s p = withSemaphores (set (p .semaphores) (k - 1) s) (countWith
 unfoldable pub plainEvent : ℕ → EventState → Partition → Partition
 plainEvent k e p = withEvents (set (p .events) (k - 1) e) (countWith k (p .eventCount)) p
 
+unfoldable pub plainBuffer : ℕ → Buffer → Partition → Partition
+plainBuffer k b p = withBuffers (set (p .buffers) (k - 1) b) (countWith k (p .bufferCount)) p
+
+unfoldable pub plainBlackboard : ℕ → BlackboardT → Partition → Partition
+plainBlackboard k b p = withBlackboards (set (p .blackboards) (k - 1) b) (countWith k (p .blackboardCount)) p
+
+-- a queue's messages after they moved
+abbrev pub plainMoved : QueueChange → List ℕ → List ℕ
+plainMoved (Put m) l = l ++ (m ∷ [])
+plainMoved Taken l = drop 1 l
+plainMoved (Exchanged m) l = drop 1 l ++ (m ∷ [])
+
+abbrev pub plainMovedIn : QueueChange → Buffer → Buffer
+plainMovedIn a b = record { name = b .name; limit = b .limit; queue = queueOf (plainMoved a (held (b .queue))) }
+
 -- a change of these processes, one after the other
 unfoldable pub plainAll : (Process → Process) → List ℕ → Partition → Partition
 plainAll f [] p = p
@@ -109,7 +129,11 @@ plainApplied (Created id x) p = plainCreated id x p
 plainApplied (Last id) p = plainLast id p
 plainApplied (StoredSemaphore k s) p = plainSemaphore k s p
 plainApplied (StoredEvent k e) p = plainEvent k e p
+plainApplied (CreatedBuffer k name limit) p = plainBuffer k (emptyBuffer name limit) p
+plainApplied (Moved k a) p = plainBuffer k (plainMovedIn a (plainById noBuffer k (p .buffers))) p
+plainApplied (StoredBlackboard k b) p = plainBlackboard k b p
 plainApplied (Ended o) p = plainAll served (waiters o p) p
+plainApplied (Handed o m) p = plainAll (handed m) (waiters o p) p
 plainApplied (Entered c) p = plainEach (entered c) (withMode 3 p)
 
 -- what is stored has its place in its list
@@ -120,7 +144,11 @@ InPlace (Created id x) p = Between 1 (length (p .processes)) id
 InPlace (Last id) p = Between 1 (length (p .processes)) id
 InPlace (StoredSemaphore k s) p = Between 1 (length (p .semaphores)) k
 InPlace (StoredEvent k e) p = Between 1 (length (p .events)) k
+InPlace (CreatedBuffer k name limit) p = Between 1 (length (p .buffers)) k
+InPlace (Moved k a) p = Between 1 (length (p .buffers)) k
+InPlace (StoredBlackboard k b) p = Between 1 (length (p .blackboards)) k
 InPlace (Ended o) p = Unit {0}
+InPlace (Handed o m) p = Unit {0}
 InPlace (Entered c) p = p .processCount ≤ length (p .processes)
 
 -- ---------------------------------------------------------------- an event
@@ -206,6 +234,8 @@ pub record PlainReads (p : Partition) : Type 0 where
   pub processes : (id : ℕ) → process id p ≡ plainById blankProcess id (p .processes)
   pub semaphores : (k : ℕ) → semaphore k p ≡ plainById noSemaphore k (p .semaphores)
   pub events : (k : ℕ) → event k p ≡ plainById noEvent k (p .events)
+  pub buffers : (k : ℕ) → buffer k p ≡ plainById noBuffer k (p .buffers)
+  pub blackboards : (k : ℕ) → blackboard k p ≡ plainById noBlackboard k (p .blackboards)
 
 -- no number that the partition holds is one that a cap made
 pub record PlainNumbers (p : Partition) : Type 0 where

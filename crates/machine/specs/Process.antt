@@ -7,7 +7,7 @@ use Rattle.machine.specs.declared.Times.{Times}
 use Rattle.machine.specs.declared.Process.{Process}
 use Rattle.machine.specs.declared.Context.{Context}
 use Rattle.machine.specs.declared.Wait.{Wait}
-use Rattle.machine.specs.declared.Wait.the-variants.{None, Normal, Delay, Timed, Period, Semaphore, Event}
+use Rattle.machine.specs.declared.Wait.the-variants.{None, Normal, Delay, Timed, Period, Semaphore, Event, Sending, Receiving, Blackboard}
 use Rattle.machine.specs.declared.Time.{Time}
 use Rattle.machine.specs.declared.Time.the-variants.{Never, At}
 use Rattle.machine.specs.Limits.{greatestTime}
@@ -21,6 +21,7 @@ createdProcess g = record {
   suspended = false;
   missed = false;
   code = 0;
+  message = 0;
   started = false;
   wait = None;
 }
@@ -52,23 +53,26 @@ isNever (At n) = false
 abbrev pub periodic : Process → Bool
 periodic x = not (isNever (x .given .period))
 
--- what a wait is for: nothing, NORMAL, a time, the release, or object k of a kind
+-- what a wait is for: nothing, NORMAL, a time, the release, or queue k of a kind, with the message that is kept with the wait (0 for none)
 pub data Class : Type 0 where
   nothing : Class
   normal : Class
   timer : Class
   release : Class
-  onto : ℕ → ℕ → Class
+  onto : ℕ → ℕ → ℕ → Class
 
--- A later family of objects adds its line here; no other rule goes through the reasons.
+-- A later family of objects adds a line here for each of its queues; no other rule goes through the reasons.
 abbrev pub classOf : Wait → Class
 classOf None = Class.nothing
 classOf Normal = Class.normal
 classOf Delay = Class.timer
 classOf Timed = Class.timer
 classOf Period = Class.release
-classOf (Semaphore k) = Class.onto 1 k
-classOf (Event k) = Class.onto 2 k
+classOf (Semaphore k) = Class.onto 1 k 0
+classOf (Event k) = Class.onto 2 k 0
+classOf (Sending k m) = Class.onto 3 k m
+classOf (Receiving k) = Class.onto 4 k 0
+classOf (Blackboard k) = Class.onto 5 k 0
 
 -- the object that a wait names, as a number; 0 for none
 abbrev pub objectIn : Class → ℕ
@@ -76,10 +80,21 @@ objectIn Class.nothing = 0
 objectIn Class.normal = 0
 objectIn Class.timer = 0
 objectIn Class.release = 0
-objectIn (Class.onto kind k) = 256 * kind + k
+objectIn (Class.onto kind k m) = 256 * kind + k
 
 abbrev pub object : Wait → ℕ
 object w = objectIn (classOf w)
+
+-- A waiting sender's message is kept with its wait.
+abbrev pub carriedIn : Class → ℕ
+carriedIn Class.nothing = 0
+carriedIn Class.normal = 0
+carriedIn Class.timer = 0
+carriedIn Class.release = 0
+carriedIn (Class.onto kind k m) = m
+
+abbrev pub carried : Process → ℕ
+carried x = carriedIn (classOf (x .wait))
 
 abbrev pub onObject : Process → Bool
 onObject x = not (eqb (object (x .wait)) 0)
@@ -89,7 +104,7 @@ forNothing Class.nothing = true
 forNothing Class.normal = false
 forNothing Class.timer = false
 forNothing Class.release = false
-forNothing (Class.onto kind k) = false
+forNothing (Class.onto kind k m) = false
 
 abbrev pub waitsForNothing : Wait → Bool
 waitsForNothing w = forNothing (classOf w)
@@ -99,7 +114,7 @@ forNormal Class.nothing = false
 forNormal Class.normal = true
 forNormal Class.timer = false
 forNormal Class.release = false
-forNormal (Class.onto kind k) = false
+forNormal (Class.onto kind k m) = false
 
 abbrev pub waitsForNormal : Wait → Bool
 waitsForNormal w = forNormal (classOf w)
@@ -123,31 +138,36 @@ releasedAt r capacity s = record { release = r; deadline = later r capacity; wak
 
 -- the wait ends (w −1) with this wake code; a suspended mark stays
 abbrev pub waitEnded : ℕ → Process → Process
-waitEnded code x = record { given = x .given; times = withWake Never (x .times); current = x .current; suspended = x .suspended; missed = x .missed; code = code; started = x .started; wait = None }
+waitEnded code x = record { given = x .given; times = withWake Never (x .times); current = x .current; suspended = x .suspended; missed = x .missed; code = code; message = x .message; started = x .started; wait = None }
 
 abbrev pub withSuspended : Bool → Process → Process
-withSuspended b x = record { given = x .given; times = x .times; current = x .current; suspended = b; missed = x .missed; code = x .code; started = x .started; wait = x .wait }
+withSuspended b x = record { given = x .given; times = x .times; current = x .current; suspended = b; missed = x .missed; code = x .code; message = x .message; started = x .started; wait = x .wait }
 
 abbrev pub withCurrent : ℕ → Process → Process
-withCurrent n x = record { given = x .given; times = x .times; current = n; suspended = x .suspended; missed = x .missed; code = x .code; started = x .started; wait = x .wait }
+withCurrent n x = record { given = x .given; times = x .times; current = n; suspended = x .suspended; missed = x .missed; code = x .code; message = x .message; started = x .started; wait = x .wait }
 
--- the wait ends because what it waits for came (w −1, wake code 0): SIGNAL, SET_EVENT
+-- the wait ends because what it waits for came (w −1, wake code 0): SIGNAL, SET_EVENT, a sender whose message is let in
 abbrev pub served : Process → Process
 served x = waitEnded 0 x
 
+-- the same where a message is handed over: it goes straight into its process record, beside the wake code, and stays till the next
+abbrev pub handed : ℕ → Process → Process
+handed m x = record { given = x .given; times = withWake Never (x .times); current = x .current; suspended = x .suspended; missed = x .missed; code = 0; message = m; started = x .started; wait = None }
+
 -- it waits, until this time
 abbrev pub waitingFor : Wait → Time → Process → Process
-waitingFor w until x = record { given = x .given; times = withWake until (x .times); current = x .current; suspended = x .suspended; missed = x .missed; code = x .code; started = x .started; wait = w }
+waitingFor w until x = record { given = x .given; times = withWake until (x .times); current = x .current; suspended = x .suspended; missed = x .missed; code = x .code; message = x .message; started = x .started; wait = w }
 
 -- SUSPEND_SELF: mark set, w; the wait stays none
 abbrev pub suspendedUntil : Time → Process → Process
-suspendedUntil until x = record { given = x .given; times = withWake until (x .times); current = x .current; suspended = true; missed = x .missed; code = x .code; started = x .started; wait = x .wait }
+suspendedUntil until x = record { given = x .given; times = withWake until (x .times); current = x .current; suspended = true; missed = x .missed; code = x .code; message = x .message; started = x .started; wait = x .wait }
 
 -- it had no wait but the mark
 abbrev pub onlyMarked : Process → Bool
 onlyMarked x = waitsForNothing (x .wait) && x .suspended
 
--- if w is not −1 and w ≤ t, the wait ends (w −1); semaphore and event waiters leave their queue with wake code 6, others get 0, and a
+-- if w is not −1 and w ≤ t, the wait ends (w −1); semaphore and event waiters (and those of document 02's objects, which wait by the
+-- semaphore's rules) leave their queue with wake code 6, others get 0, and a
 -- suspended mark stays; a process that had no wait but the mark loses the mark instead, wake code 6, w −1. (A process with
 -- neither, which no run reaches, has w −1 and wake code 0.)
 unfoldable pub woken : ℕ → Process → Process
@@ -160,7 +180,7 @@ woken t x =
 
 -- missed mark 1, d −1
 abbrev pub deadlineMissed : Process → Process
-deadlineMissed x = record { given = x .given; times = withDeadline Never (x .times); current = x .current; suspended = x .suspended; missed = true; code = x .code; started = x .started; wait = x .wait }
+deadlineMissed x = record { given = x .given; times = withDeadline Never (x .times); current = x .current; suspended = x .suspended; missed = true; code = x .code; message = x .message; started = x .started; wait = x .wait }
 
 -- Then if d is not −1 and d ≤ t: missed mark 1, d −1.
 unfoldable pub expired : ℕ → Process → Process
@@ -172,7 +192,7 @@ ticked t x = expired t (woken t x)
 
 -- Current priority = base; marks, wake code cleared. It is started, with these times and this wait.
 abbrev pub begun : Times → Wait → Process → Process
-begun s w x = record { given = x .given; times = s; current = x .given .base; suspended = false; missed = false; code = 0; started = true; wait = w }
+begun s w x = record { given = x .given; times = s; current = x .given .base; suspended = false; missed = false; code = 0; message = x .message; started = true; wait = w }
 
 -- Start rule(delay), document 01's term. Aperiodic (period −1): d = t + delay + capacity, or −1; delay 0 means READY, else waits
 -- delay with w = t + delay.
@@ -212,6 +232,7 @@ stopped x = record {
   suspended = false;
   missed = x .missed;
   code = x .code;
+  message = x .message;
   started = false;
   wait = None;
 }
@@ -229,6 +250,7 @@ waitingForRelease r x = record {
   suspended = x .suspended;
   missed = x .missed;
   code = x .code;
+  message = x .message;
   started = x .started;
   wait = Period;
 }

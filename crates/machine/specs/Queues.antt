@@ -13,6 +13,9 @@ use Rattle.machine.specs.declared.Partition.{Partition}
 use Rattle.machine.specs.declared.Context.{Context}
 use Rattle.machine.specs.declared.Semaphore.{Semaphore as SemaphoreT}
 use Rattle.machine.specs.declared.EventState.{EventState}
+use Rattle.machine.specs.declared.Buffer.{Buffer}
+use Rattle.machine.specs.declared.Blackboard.{Blackboard as BlackboardT}
+use Rattle.machine.specs.declared.Change.the-variants.{Ended, Handed}
 use Rattle.machine.specs.declared.Wait.{Wait}
 use Rattle.machine.specs.declared.Wait.the-variants.{Semaphore, Event}
 use Rattle.machine.specs.declared.Event.{Event as EventT}
@@ -21,7 +24,7 @@ use Rattle.machine.specs.Limits.{durationLimit}
 use Rattle.machine.specs.Fields.{requestOf, numberOf}
 use Rattle.machine.specs.Ids.{members, kept}
 use Rattle.machine.specs.Process.{object, due, ready}
-use Rattle.machine.specs.Partition.{normalMode, process, semaphore, event, stored, storedSemaphore, storedEvent, created, arrivedLast, endedAll, tickPartition, enteredNormal, running, waitsOn, waiters}
+use Rattle.machine.specs.Partition.{normalMode, process, semaphore, event, stored, storedSemaphore, storedEvent, created, storedBuffer, storedBlackboard, arrivedLast, applied, tickPartition, enteredNormal, running, waitsOn, waiters}
 use Rattle.machine.specs.Module.{part}
 use Rattle.machine.specs.Step.{step}
 use Rattle.machine.specs.Valid.{Between, contains, Distinct, Reached}
@@ -47,14 +50,19 @@ pub record QueueChanges (o : ℕ) (p : Partition) : Type 0 where
   -- process id gets the record x: one that begins to wait on the object joins last, one that ceases leaves, the others stay in their order
   pub stored : (id : ℕ) (x : Process) → Between 1 (p .processCount) id → NotExchanged (process id p) x
       → waiters o (stored id x p) ≡ followed (waitsOn o p id) (eqb (object (x .wait)) o) id (waiters o p)
-  -- one created, one put last in the arrival list, a semaphore or an event stored: the queue stays
+  -- one created, one put last in the arrival list, an object stored: the queue stays
   pub created : (x : Process) → object (x .wait) ≡ 0 → waiters o (created (p .processCount + 1) x p) ≡ waiters o p
   pub arrived : (id : ℕ) → waiters o (arrivedLast id p) ≡ waiters o p
   pub semaphore : (k : ℕ) (s : SemaphoreT) → waiters o (storedSemaphore k s p) ≡ waiters o p
   pub event : (k : ℕ) (e : EventState) → waiters o (storedEvent k e p) ≡ waiters o p
+  pub buffer : (k : ℕ) (b : Buffer) → waiters o (storedBuffer k b p) ≡ waiters o p
+  pub blackboard : (k : ℕ) (b : BlackboardT) → waiters o (storedBlackboard k b p) ≡ waiters o p
   -- all waits on an object end: its queue is empty then, and that of another object stays
-  pub ended : waiters o (endedAll (waiters o p) p) ≡ []
-  pub endedOther : (u : ℕ) → (u ≡ o → ⊥) → waiters o (endedAll (waiters u p) p) ≡ waiters o p
+  pub ended : waiters o (applied (Ended o) p) ≡ []
+  pub endedOther : (u : ℕ) → (u ≡ o → ⊥) → waiters o (applied (Ended u) p) ≡ waiters o p
+  -- the same where a message is handed over
+  pub handed : (m : ℕ) → waiters o (applied (Handed o m) p) ≡ []
+  pub handedOther : (m u : ℕ) → (u ≡ o → ⊥) → waiters o (applied (Handed u m) p) ≡ waiters o p
   -- entering NORMAL: the queue stays
   pub entered : (c : Context) → waiters o (enteredNormal c p) ≡ waiters o p
   -- a tick of a NORMAL partition: those whose wake time has come leave

@@ -1,4 +1,4 @@
--- Calls 1 to 22 by number: for each how many of the fields a, b, c, e it uses, and what it decides.
+-- Calls 1 to 29 by number: for each how many of the fields a, b, c, e it uses, and what it decides.
 use Prim.Native.Nat.{ℕ, _-_}
 use mathlib.Core.Bool.{cond}
 use mathlib.Core.List.{List, [], _∷_}
@@ -16,6 +16,8 @@ use Rattle.machine.specs.Decisions.{checked, noCallerAs}
 use Rattle.machine.specs.Calls.{setMode, createProcess, start, stop, stopSelf, suspend, suspendSelf, timedWait, periodicWait, resume, setPriority, getStatus}
 use Rattle.machine.specs.Objects.{createSemaphore, createEvent, waitSemaphore, waitEvent, signal, setEvent, resetEvent}
 use Rattle.machine.specs.Channels.{write, read}
+use Rattle.machine.specs.Buffers.{createBuffer, sendBuffer, receiveBuffer}
+use Rattle.machine.specs.Blackboards.{createBlackboard, show, readBlackboard, clear}
 
 -- a call: the fields that it uses, counted from a on, and what it decides from what it sees, its request and its partition's record
 pub record Service : Type 0 where
@@ -50,6 +52,13 @@ services =
     ∷ service 2 (λ c x r p. waitEvent c (numberOf (r .a)) (r .b) p)
     ∷ service 2 (λ c x r p. write c x (r .b))
     ∷ service 1 (λ c x r p. read c x)
+    ∷ service 2 (λ c x r p. createBuffer (r .a) (r .b) p)
+    ∷ service 3 (λ c x r p. sendBuffer c (numberOf (r .a)) (r .b) (r .c) p)
+    ∷ service 2 (λ c x r p. receiveBuffer c (numberOf (r .a)) (r .b) p)
+    ∷ service 1 (λ c x r p. createBlackboard (r .a) p)
+    ∷ service 2 (λ c x r p. show (numberOf (r .a)) (r .b) p)
+    ∷ service 2 (λ c x r p. readBlackboard c (numberOf (r .a)) (r .b) p)
+    ∷ service 1 (λ c x r p. clear (numberOf (r .a)) p)
     ∷ []
 
 -- another number, which 13 refuses before, decides nothing

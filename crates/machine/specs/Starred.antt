@@ -15,7 +15,7 @@ use Rattle.machine.specs.declared.Partition.{Partition}
 use Rattle.machine.specs.declared.Event.{Event as EventT}
 use Rattle.machine.specs.declared.Module.{Module}
 use Rattle.machine.specs.declared.Window.{Window}
-use Rattle.machine.specs.declared.Wait.the-variants.{None, Normal, Delay, Timed, Period, Semaphore, Event}
+use Rattle.machine.specs.declared.Wait.the-variants.{None, Normal, Delay, Timed, Period, Semaphore, Event, Sending, Receiving, Blackboard}
 use Rattle.machine.specs.declared.Time.{Time}
 use Rattle.machine.specs.declared.Time.the-variants.{Never, At}
 use Rattle.machine.specs.Limits.{processLimit, semaphoreLimit, eventLimit, nameLimit, priorityLimit, valueLimit, timeLimit}
@@ -145,6 +145,7 @@ awaitsRelease r delay n mark missed x = record {
   suspended = mark;
   missed = missed;
   code = 0;
+  message = x .message;
   started = true;
   wait = Period;
 }
@@ -158,6 +159,7 @@ awaitsNext r x = record {
   suspended = x .suspended;
   missed = x .missed;
   code = x .code;
+  message = x .message;
   started = x .started;
   wait = Period;
 }
@@ -171,6 +173,7 @@ awaitsNormal delay x = record {
   suspended = false;
   missed = false;
   code = 0;
+  message = x .message;
   started = true;
   wait = Normal;
 }
@@ -267,6 +270,9 @@ ReadyUnmarked x y = x .suspended ≡ true → ready y ≡ false
 pub record Ticks (t : ℕ) (x y : Process) : Type 0 where
   pub semaphore : (w j : ℕ) → x .times .wake ≡ At w → w ≤ t → x .wait ≡ Semaphore j → WaitEnded 6 x y
   pub event : (w j : ℕ) → x .times .wake ≡ At w → w ≤ t → x .wait ≡ Event j → WaitEnded 6 x y
+  pub sending : (w j n : ℕ) → x .times .wake ≡ At w → w ≤ t → x .wait ≡ Sending j n → WaitEnded 6 x y
+  pub receiving : (w j : ℕ) → x .times .wake ≡ At w → w ≤ t → x .wait ≡ Receiving j → WaitEnded 6 x y
+  pub blackboard : (w j : ℕ) → x .times .wake ≡ At w → w ≤ t → x .wait ≡ Blackboard j → WaitEnded 6 x y
   pub delay : (w : ℕ) → x .times .wake ≡ At w → w ≤ t → x .wait ≡ Delay → WaitEnded 0 x y
   pub timed : (w : ℕ) → x .times .wake ≡ At w → w ≤ t → x .wait ≡ Timed → WaitEnded 0 x y
   pub period : (w : ℕ) → x .times .wake ≡ At w → w ≤ t → x .wait ≡ Period → WaitEnded 0 x y

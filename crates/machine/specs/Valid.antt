@@ -17,10 +17,15 @@ use Rattle.machine.specs.declared.Times.{Times}
 use Rattle.machine.specs.declared.Process.{Process}
 use Rattle.machine.specs.declared.Semaphore.{Semaphore as SemaphoreT}
 use Rattle.machine.specs.declared.EventState.{EventState}
+use Rattle.machine.specs.declared.Queue.{Queue}
+use Rattle.machine.specs.declared.QueueChange.{QueueChange}
+use Rattle.machine.specs.declared.QueueChange.the-variants.{Put, Taken, Exchanged}
+use Rattle.machine.specs.declared.Buffer.{Buffer}
+use Rattle.machine.specs.declared.Blackboard.{Blackboard as BlackboardT}
 use Rattle.machine.specs.declared.Partition.{Partition}
 use Rattle.machine.specs.declared.Context.{Context}
 use Rattle.machine.specs.declared.Change.{Change}
-use Rattle.machine.specs.declared.Change.the-variants.{Nothing, Stored, Created, Last, StoredSemaphore, StoredEvent, Ended, Entered}
+use Rattle.machine.specs.declared.Change.the-variants.{Nothing, Stored, Created, Last, StoredSemaphore, StoredEvent, CreatedBuffer, Moved, StoredBlackboard, Ended, Handed, Entered}
 use Rattle.machine.specs.declared.Decision.{Decision}
 use Rattle.machine.specs.declared.Decision.the-variants.{Refused, Unchanged, Ticked, Blocked, Changed, Restarted, Written}
 use Rattle.machine.specs.declared.Reply.{Reply}
@@ -31,10 +36,11 @@ use Rattle.machine.specs.declared.Message.{Message}
 use Rattle.machine.specs.declared.Module.{Module}
 use Rattle.machine.specs.declared.Event.{Event as EventT}
 use Rattle.machine.specs.declared.Answer.{Answer}
-use Rattle.machine.specs.Limits.{processLimit, semaphoreLimit, eventLimit, nameLimit, priorityLimit, valueLimit, modeLimit, durationLimit, timeLimit, frameLimit, partitionLimit, windowLimit, channelLimit, numberLimit}
+use Rattle.machine.specs.Limits.{processLimit, semaphoreLimit, eventLimit, bufferLimit, messageLimit, blackboardLimit, nameLimit, priorityLimit, valueLimit, modeLimit, durationLimit, timeLimit, frameLimit, partitionLimit, windowLimit, channelLimit, numberLimit}
 use Rattle.machine.specs.Ids.{members, idsOf}
+use Rattle.machine.specs.Messages.{held, queueOf}
 use Rattle.machine.specs.Process.{Class, classOf, blankProcess, createdProcess, isNever, periodic, ready, onObject}
-use Rattle.machine.specs.Partition.{normalMode, byId, noSemaphore, noEvent, process, running, tickPartition, applied, soonestOf}
+use Rattle.machine.specs.Partition.{normalMode, byId, noSemaphore, noEvent, noBuffer, noBlackboard, process, buffer, emptyBuffer, running, tickPartition, applied, soonestOf}
 use Rattle.machine.specs.Table.{hasFlagged, readTable}
 use Rattle.machine.specs.Windows.{windows}
 use Rattle.machine.specs.Module.{channel, part, message, withPart, withTime, emptyModule}
@@ -53,6 +59,11 @@ contains id (x ∷ l) = eqb x id || contains id l
 unfoldable pub Distinct : List ℕ → Type 0
 Distinct [] = Unit {0}
 Distinct (x ∷ l) = (contains x l ≡ false) × Distinct l
+
+-- each of a list is a message: 0..9,999,999
+unfoldable pub AllMessages : List ℕ → Type 0
+AllMessages [] = Unit {0}
+AllMessages (m ∷ l) = (m ≤ durationLimit) × AllMessages l
 
 -- a list holds just the ids of which f says true, each once
 pub record Tracks (f : ℕ → Bool) (q : Ids) : Type 0 where
@@ -145,13 +156,13 @@ pub record Early (v : Wait) (s : Times) : Type 0 where
   pub wait : v ≡ Normal
   pub times : Timeless s
 
--- the object of a wait has been created; in NORMAL none waits for NORMAL
+-- the object of a wait has been created, and a message kept with it is one; in NORMAL none waits for NORMAL
 abbrev pub KnownWait : (ℕ → ℕ) → Class → Type 0
 KnownWait counts Class.nothing = Unit {0}
 KnownWait counts Class.normal = ⊥
 KnownWait counts Class.timer = Unit {0}
 KnownWait counts Class.release = Unit {0}
-KnownWait counts (Class.onto kind k) = Between 1 (counts kind) k
+KnownWait counts (Class.onto kind k m) = Between 1 (counts kind) k × (m ≤ durationLimit)
 
 -- w, by the wait, in NORMAL at t: a wake time with no wait stands only where the suspended mark does
 abbrev pub SoundWake : ℕ → Bool → Time → Class → Time → Type 0
@@ -159,7 +170,7 @@ SoundWake t mark r Class.nothing w = cond mark (Timeout t w) (w ≡ Never)
 SoundWake t mark r Class.normal w = ⊥
 SoundWake t mark r Class.timer w = Ahead t w
 SoundWake t mark r Class.release w = w ≡ r
-SoundWake t mark r (Class.onto kind k) w = Timeout t w
+SoundWake t mark r (Class.onto kind k m) w = Timeout t w
 
 -- r of a process that does not wait for its period: −1 for an aperiodic one, at most t for a periodic one
 abbrev pub Released : ℕ → Time → Time → Type 0
@@ -172,7 +183,7 @@ SoundRelease t period Class.nothing r = Released t period r
 SoundRelease t period Class.normal r = ⊥
 SoundRelease t period Class.timer r = Released t period r
 SoundRelease t period Class.release r = (isNever period ≡ false) × AtMost latestWake r
-SoundRelease t period (Class.onto kind k) r = Released t period r
+SoundRelease t period (Class.onto kind k m) r = Released t period r
 
 -- what a process's rules look at besides its own record: M, the time, whether the mode is NORMAL, how many objects of a kind there are
 pub record Setting : Type 0 where
@@ -192,15 +203,16 @@ pub record Going (c : Setting) (period : Time) (mark : Bool) (v : Class) (s : Ti
   pub deadline : NotAfter latestDeadline (s .deadline)
 
 -- what no mode and no time changes
-pub record Lasting (frame : ℕ) (g : Given) (n : ℕ) (started : Bool) (d : ℕ) : Type 0 where
+pub record Lasting (frame : ℕ) (g : Given) (n : ℕ) (started : Bool) (d m : ℕ) : Type 0 where
   pub given : SoundGiven frame g
   pub current : n ≤ priorityLimit
   pub priority : started ≡ true → 1 ≤ n
   pub delay : d ≤ durationLimit
   pub early : Below (g .period) d
+  pub message : m ≤ durationLimit
 
 abbrev pub LastingIn : ℕ → Process → Type 0
-LastingIn frame x = Lasting frame (x .given) (x .current) (x .started) (x .times .delay)
+LastingIn frame x = Lasting frame (x .given) (x .current) (x .started) (x .times .delay) (x .message)
 
 -- a wake code
 abbrev pub SoundCode : ℕ → Type 0
@@ -227,6 +239,22 @@ pub record SoundSemaphore (s : SemaphoreT) : Type 0 where
 pub record SoundEvent (e : EventState) : Type 0 where
   pub name : Between 1 nameLimit (e .name)
 
+-- the messages of a queue: as many as its limit at most, each one a message
+pub record SoundQueue (limit : ℕ) (q : Queue) : Type 0 where
+  pub canonical : q ≡ queueOf (held q)
+  pub few : q .len ≤ limit
+  pub each : AllMessages (held q)
+
+pub record SoundBuffer (b : Buffer) : Type 0 where
+  pub name : Between 1 nameLimit (b .name)
+  pub limit : Between 1 messageLimit (b .limit)
+  pub queue : SoundQueue (b .limit) (b .queue)
+
+pub record SoundBlackboard (b : BlackboardT) : Type 0 where
+  pub name : Between 1 nameLimit (b .name)
+  pub message : b .message ≤ durationLimit
+  pub blank : b .shown ≡ false → b .message ≡ 0
+
 -- a list with room for `limit`, of which n have been created; an id past these names the default
 pub record Numbered {A : Type 0} (limit : ℕ) (d : A) (l : List A) (n : ℕ) : Type 0 where
   pub size : length l ≡ limit
@@ -242,21 +270,26 @@ pub record Listed (l : List Process) (n : ℕ) (arrival waiting : Ids) : Type 0 
 abbrev pub ListedIn : Partition → Type 0
 ListedIn p = Listed (p .processes) (p .processCount) (p .arrival) (p .waiting)
 
-pub record Objects (l : List SemaphoreT) (n : ℕ) (l′ : List EventState) (n′ : ℕ) : Type 0 where
-  pub semaphores : Numbered semaphoreLimit noSemaphore l n
-  pub events : Numbered eventLimit noEvent l′ n′
-  pub eachSemaphore : (k : ℕ) → Between 1 n k → SoundSemaphore (byId semaphoreLimit noSemaphore k l)
-  pub eachEvent : (k : ℕ) → Between 1 n′ k → SoundEvent (byId eventLimit noEvent k l′)
+-- the objects of one kind: a numbered list, and each that has been created is sound
+pub record Family {A : Type 0} (limit : ℕ) (d : A) (Sound : A → Type 0) (l : List A) (n : ℕ) : Type 0 where
+  pub numbered : Numbered limit d l n
+  pub each : (k : ℕ) → Between 1 n k → Sound (byId limit d k l)
+
+pub record Objects (s : List SemaphoreT) (n : ℕ) (e : List EventState) (n′ : ℕ) (b : List Buffer) (n″ : ℕ) (w : List BlackboardT) (n‴ : ℕ) : Type 0 where
+  pub semaphores : Family semaphoreLimit noSemaphore SoundSemaphore s n
+  pub events : Family eventLimit noEvent SoundEvent e n′
+  pub buffers : Family bufferLimit noBuffer SoundBuffer b n″
+  pub blackboards : Family blackboardLimit noBlackboard SoundBlackboard w n‴
 
 abbrev pub ObjectsIn : Partition → Type 0
-ObjectsIn p = Objects (p .semaphores) (p .semaphoreCount) (p .events) (p .eventCount)
+ObjectsIn p = Objects (p .semaphores) (p .semaphoreCount) (p .events) (p .eventCount) (p .buffers) (p .bufferCount) (p .blackboards) (p .blackboardCount)
 
 -- how many objects of a kind there are, by the kinds of classOf
-abbrev pub counted : ℕ → ℕ → ℕ → ℕ
-counted s e kind = cond (eqb kind 1) s (cond (eqb kind 2) e 0)
+abbrev pub counted : ℕ → ℕ → ℕ → ℕ → ℕ → ℕ
+counted s e b w kind = cond (eqb kind 1) s (cond (eqb kind 2) e (cond (eqb kind 3) b (cond (eqb kind 4) b (cond (eqb kind 5) w 0))))
 
 abbrev pub settingOf : ℕ → ℕ → Partition → Setting
-settingOf frame t p = setting frame t (normalMode p) (counted (p .semaphoreCount) (p .eventCount))
+settingOf frame t p = setting frame t (normalMode p) (counted (p .semaphoreCount) (p .eventCount) (p .bufferCount) (p .blackboardCount))
 
 pub record Valid (frame t : ℕ) (p : Partition) : Type 0 where
   pub mode : p .mode ≤ modeLimit
@@ -289,6 +322,12 @@ pub record SoundCreated (frame : ℕ) (p : Partition) (id : ℕ) (x : Process) :
 abbrev pub KnownOrNext : ℕ → ℕ → ℕ → Type 0
 KnownOrNext limit count k = Between 1 (count + 1) k × (k ≤ limit)
 
+-- messages of a buffer that may move so: one joins where there is room, the first leaves where there is one
+abbrev pub SoundMove : Buffer → QueueChange → Type 0
+SoundMove b (Put m) = (b .queue .len < b .limit) × (m ≤ durationLimit)
+SoundMove b Taken = 1 ≤ b .queue .len
+SoundMove b (Exchanged m) = (1 ≤ b .queue .len) × (m ≤ durationLimit)
+
 -- a change that keeps a valid partition valid
 abbrev pub SoundChange : Context → Partition → Change → Type 0
 SoundChange c p Nothing = Unit {0}
@@ -297,7 +336,11 @@ SoundChange c p (Created id x) = SoundCreated (c .frame) p id x
 SoundChange c p (Last id) = ready (process id p) ≡ true
 SoundChange c p (StoredSemaphore k s) = KnownOrNext semaphoreLimit (p .semaphoreCount) k × SoundSemaphore s
 SoundChange c p (StoredEvent k e) = KnownOrNext eventLimit (p .eventCount) k × SoundEvent e
+SoundChange c p (CreatedBuffer k name limit) = KnownOrNext bufferLimit (p .bufferCount) k × SoundBuffer (emptyBuffer name limit)
+SoundChange c p (Moved k a) = Between 1 (p .bufferCount) k × SoundMove (buffer k p) a
+SoundChange c p (StoredBlackboard k b) = KnownOrNext blackboardLimit (p .blackboardCount) k × SoundBlackboard b
 SoundChange c p (Ended o) = Unit {0}
+SoundChange c p (Handed o m) = m ≤ durationLimit
 SoundChange c p (Entered d) = (d ≡ c) × (normalMode p ≡ false)
 
 -- value and extra are in the line writer's range

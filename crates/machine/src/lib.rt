@@ -1,7 +1,7 @@
 // The record of the executive, by value, and every limit, named once with the module.
 ghost use mathlib.Core.Path.{_≡_};
 ghost use Rattle.machine.specs.Process.{blankProcess};
-ghost use Rattle.machine.specs.Partition.{freshPartition, emptyPartition};
+ghost use Rattle.machine.specs.Partition.{noBuffer, freshPartition, emptyPartition};
 ghost use Rattle.machine.specs.Module.{emptyTable, freshModule, emptyModule};
 
 // A time in ticks; −1 of document 01 is Never.
@@ -10,7 +10,7 @@ pub enum Time {
     At(u32),
 }
 
-// What a process waits for, with the id of the semaphore or event.
+// What a process waits for, with the id of the object. Sending and Receiving are on a buffer; a sender's message is kept with its wait.
 pub enum Wait {
     None,
     Normal,
@@ -19,6 +19,9 @@ pub enum Wait {
     Period,
     Semaphore(u8),
     Event(u8),
+    Sending(u8, u32),
+    Receiving(u8),
+    Blackboard(u8),
 }
 
 // What CREATE_PROCESS gives; it never changes.
@@ -36,7 +39,7 @@ pub struct Times {
     pub delay: u32,
 }
 
-// DORMANT is: not started.
+// DORMANT is: not started. message: the one that was last handed over to it.
 pub struct Process {
     pub given: Given,
     pub times: Times,
@@ -44,6 +47,7 @@ pub struct Process {
     pub suspended: bool,
     pub missed: bool,
     pub code: u8,
+    pub message: u32,
     pub started: bool,
     pub wait: Wait,
 }
@@ -66,6 +70,25 @@ pub struct EventState {
     pub up: bool,
 }
 
+// Messages, first in first out; what lies past len is 0.
+pub struct Queue {
+    pub items: [u32; Module::MESSAGES],
+    pub len: u8,
+}
+
+pub struct Buffer {
+    pub name: u16,
+    pub limit: u8,
+    pub queue: Queue,
+}
+
+// The message is 0 where none is shown.
+pub struct Blackboard {
+    pub name: u16,
+    pub shown: bool,
+    pub message: u32,
+}
+
 // arrival: the READY processes. waiting: those that wait on an object, in the order in which they began; the queue of an
 // object is the part of it that waits for this object. soonest: no wake time or deadline comes before it (Module).
 pub struct Partition {
@@ -76,6 +99,10 @@ pub struct Partition {
     pub semaphoreCount: u8,
     pub events: [EventState; Module::EVENTS],
     pub eventCount: u8,
+    pub buffers: [Buffer; Module::BUFFERS],
+    pub bufferCount: u8,
+    pub blackboards: [Blackboard; Module::BLACKBOARDS],
+    pub blackboardCount: u8,
     pub arrival: Ids,
     pub waiting: Ids,
     pub soonest: u32,
@@ -216,7 +243,15 @@ pub struct Port {
     pub message: Message,
 }
 
-// One change of a partition's record. An object with the next id is created by storing it.
+// What happens to the messages of a queue: one joins last, the first leaves, or the first leaves and then one joins last.
+pub enum QueueChange {
+    Put(u32),
+    Taken,
+    Exchanged(u32),
+}
+
+// One change of a partition's record. An object with the next id is created by storing it; a buffer, which holds an array, by its name and
+// limit.
 pub enum Change {
     Nothing,
     Stored(u32, Process),
@@ -224,7 +259,11 @@ pub enum Change {
     Last(u8),
     StoredSemaphore(u32, Semaphore),
     StoredEvent(u32, EventState),
+    CreatedBuffer(u32, u16, u8),
+    Moved(u32, QueueChange),
+    StoredBlackboard(u32, Blackboard),
     Ended(u16),
+    Handed(u16, u32),
     Entered(Context),
 }
 
@@ -279,6 +318,12 @@ impl Module {
     pub const SEMAPHORES: usize = 8;
 
     pub const EVENTS: usize = 8;
+
+    pub const BUFFERS: usize = 8;
+    // A buffer's limit is 1 to this.
+    pub const MESSAGES: usize = 16;
+
+    pub const BLACKBOARDS: usize = 8;
     // Names are 1 to this.
     pub const NAME: u32 = 255;
     // Priorities are 1 to this.
@@ -288,7 +333,7 @@ impl Module {
     // Modes are 0 to this.
     pub const MODE: u32 = 3;
     // Calls are 1 to this.
-    pub const CALL: u32 = 22;
+    pub const CALL: u32 = 29;
     // D: 0 to this.
     pub const DURATION: u32 = 9999999;
     // Time ends here.
@@ -390,8 +435,24 @@ impl Process {
             suspended: false,
             missed: false,
             code: 0,
+            message: 0,
             started: false,
             wait: Wait::None,
+        }
+    }
+}
+
+impl Buffer {
+    pub fn blank() -> Buffer
+        ensures { λ r. ⌜ r ≡ noBuffer ⌝ }
+    {
+        Buffer {
+            name: 0,
+            limit: 0,
+            queue: Queue {
+                items: [0; Module::MESSAGES],
+                len: 0,
+            },
         }
     }
 }
@@ -401,6 +462,7 @@ impl Partition {
         ensures { λ r. ⌜ r ≡ emptyPartition ⌝ }
     {
         let x = Process::blank();
+        let b = Buffer::blank();
         Partition {
             mode: 0,
             processes: [x; Module::PROCESSES],
@@ -413,6 +475,14 @@ impl Partition {
             semaphoreCount: 0,
             events: [EventState { name: 0, up: false }; Module::EVENTS],
             eventCount: 0,
+            buffers: [b; Module::BUFFERS],
+            bufferCount: 0,
+            blackboards: [Blackboard {
+                name: 0,
+                shown: false,
+                message: 0,
+            }; Module::BLACKBOARDS],
+            blackboardCount: 0,
             arrival: Ids {
                 items: [0; Module::PROCESSES],
                 len: 0,

@@ -4,7 +4,7 @@ use Rattle.machine.proofs.Partition.empty.Tie as tie
 
 returns : tie.Need-returns
 unfolding emptyPartition
-returns c = rw (c .blank .ensures)
+returns c = rw (c .before .blank .ensures, c .blank2 .ensures)
 
 pub empty-spec : {M : Type 1} → statement M
-empty-spec = tie.close (tie.spec (λ _ _. tt) returns)
+empty-spec = tie.close (tie.spec (λ _ _. tt) (λ _ _. tt) returns)

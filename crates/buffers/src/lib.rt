@@ -125,10 +125,10 @@ pub fn send_buffer(p: Partition, c: Context, k: u32, m: Field, a: Field) -> Deci
 }
 
 // The first message leaves; where a sender waits for this object, the first one's message is let in and its wait ends.
-fn receive_first(p: Partition, k: u32, o: u16) -> Decision
+fn receive_first(p: Partition, k: u32, b: Buffer, o: u16) -> Decision
+    requires { ⌜ b ≡ buffer k p ⌝ }
     ensures { λ r. ⌜ r ≡ received (waiters o p) k p ⌝ }
 {
-    let b = buffer_at(p, k);
     let first = messages::first_of(b.queue);
     let q = partition::queue_of(p, o);
     if q.len == 0 {
@@ -154,8 +154,8 @@ pub fn receive_buffer(p: Partition, c: Context, k: u32, a: Field) -> Decision
     let code = decisions::wait_code(unknown, p.mode != 3, fields::is_timeout(a));
     let id = objects::short_id(k);
     let o = process::object_of(Wait::Sending(id, 0));
-    let success = receive_first(p, k, o);
     let b = buffer_at(p, k);
+    let success = receive_first(p, k, b, o);
     let q = b.queue;
     objects::awaited(p, c, code, a, 0 < q.len, success, Wait::Receiving(id))
 }

@@ -331,11 +331,11 @@ module _ (c : Context) (p : Partition) (v : Valid (c .frame) (c .time) p) (k : S
   in-checks : (l : List (Bool × ℕ)) (d : Decision) → (Passed l → SoundDecision c p d) → Sound c p (checked Refused l d)
   in-checks l d f = by-checks (Sound c p) Refused l d (λ n. record { is = tt }) (λ h. record { is = f h })
 
-  normal-caller : normalMode p ≡ true → Caller (c .caller) p
+  pub normal-caller : normalMode p ≡ true → Caller (c .caller) p
   normal-caller n = rw (k .caller) (running-caller p (v .lists) (λ z. not-both _ (rw (n, z)) (or-false-parts (idleMode p) _ (k .calls) .1)))
 
   -- not a start mode
-  in-normal : startMode p ≡ false → normalMode p ≡ true
+  pub in-normal : startMode p ≡ false → normalMode p ≡ true
   in-normal h = not-false (normalMode p) h
 
   -- DORMANT or periodic is refused

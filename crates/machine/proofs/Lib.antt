@@ -33,3 +33,4 @@ pub mod Replays
 pub mod Applied
 pub mod Starts
 pub mod Queues
+pub mod Available

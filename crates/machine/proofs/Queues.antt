@@ -156,7 +156,7 @@ pub record Part (l k : List ℕ) : Type 0 where
 part-whole : (l : List ℕ) → Part l l
 part-whole l = record { by = λ _. true; is = sym (kept-all (λ _. true) l (λ _ _. refl)) }
 
-part-trans : {l k j : List ℕ} → Part l k → Part k j → Part l j
+pub part-trans : {l k j : List ℕ} → Part l k → Part k j → Part l j
 part-trans {l} a b = record { by = λ x. b .by x && a .by x; is = b .is ∙ ap (kept (b .by)) (a .is) ∙ kept-kept (b .by) (a .by) l }
 
 -- a queue that is a part of another list holds those of the list that wait on the object
@@ -227,7 +227,7 @@ entered-on c x some = by-test (λ (y : Process). y ≡ x) (waitsForNormal (x .wa
 
 -- ---------------------------------------------------------------- the changes
 -- a partition with the same waiting list, whose processes wait as before
-same-queue : (o : ℕ) (p q : Partition) → q .waiting ≡ p .waiting → ((y : ℕ) → object (process y q .wait) ≡ object (process y p .wait)) → waiters o q ≡ waiters o p
+pub same-queue : (o : ℕ) (p q : Partition) → q .waiting ≡ p .waiting → ((y : ℕ) → object (process y q .wait) ≡ object (process y p .wait)) → waiters o q ≡ waiters o p
 unfolding waiters
 same-queue o p q e f = ap (λ (a : Ids). kept (waitsOn o q) (members a)) e ∙ kept-same (waitsOn o q) (waitsOn o p) (members (p .waiting)) (λ y _. ap (λ n. eqb n o) (f y))
 
@@ -248,19 +248,19 @@ module _ (p : Partition) (v : ListedIn p) (o : ℕ) (some : o ≡ 0 → ⊥) whe
   unfolding arrivedLast
   arrived-queue id = same-queue o p _ refl (λ _. refl)
 
-  semaphore-queue : (k : ℕ) (s : SemaphoreT) → waiters o (storedSemaphore k s p) ≡ waiters o p
+  pub semaphore-queue : (k : ℕ) (s : SemaphoreT) → waiters o (storedSemaphore k s p) ≡ waiters o p
   unfolding storedSemaphore
   semaphore-queue k s = by-test (λ (q : Partition). waiters o q ≡ waiters o p) (within semaphoreLimit k) (λ _. same-queue o p _ refl (λ _. refl)) (λ _. refl)
 
-  event-queue : (k : ℕ) (e : EventState) → waiters o (storedEvent k e p) ≡ waiters o p
+  pub event-queue : (k : ℕ) (e : EventState) → waiters o (storedEvent k e p) ≡ waiters o p
   unfolding storedEvent
   event-queue k e = by-test (λ (q : Partition). waiters o q ≡ waiters o p) (within eventLimit k) (λ _. same-queue o p _ refl (λ _. refl)) (λ _. refl)
 
-  buffer-queue : (k : ℕ) (b : Buffer) → waiters o (storedBuffer k b p) ≡ waiters o p
+  pub buffer-queue : (k : ℕ) (b : Buffer) → waiters o (storedBuffer k b p) ≡ waiters o p
   unfolding storedBuffer
   buffer-queue k b = by-test (λ (q : Partition). waiters o q ≡ waiters o p) (within bufferLimit k) (λ _. same-queue o p _ refl (λ _. refl)) (λ _. refl)
 
-  blackboard-queue : (k : ℕ) (b : BlackboardT) → waiters o (storedBlackboard k b p) ≡ waiters o p
+  pub blackboard-queue : (k : ℕ) (b : BlackboardT) → waiters o (storedBlackboard k b p) ≡ waiters o p
   unfolding storedBlackboard
   blackboard-queue k b = by-test (λ (q : Partition). waiters o q ≡ waiters o p) (within blackboardLimit k) (λ _. same-queue o p _ refl (λ _. refl)) (λ _. refl)
 
@@ -431,10 +431,10 @@ module _ (o : ℕ) (some : o ≡ 0 → ⊥) where
   unfolding tickPartition
   unticked t p e = rw e
 
-  tick-part : (t : ℕ) (p : Partition) → ListedIn p → Part (waiters o p) (waiters o (tickPartition t p))
+  pub tick-part : (t : ℕ) (p : Partition) → ListedIn p → Part (waiters o p) (waiters o (tickPartition t p))
   tick-part t p v = either (normalMode p) (λ e. record { by = _; is = ticked-queue p v o some t e }) (λ e. part-of _ _ (unticked t p e))
 
-  change-part : (c : Context) (p : Partition) → Valid (c .frame) (c .time) p → (a : Change) → SoundChange c p a → OrderlyChange p a → Part (waiters o p) (waiters o (applied a p))
+  pub change-part : (c : Context) (p : Partition) → Valid (c .frame) (c .time) p → (a : Change) → SoundChange c p a → OrderlyChange p a → Part (waiters o p) (waiters o (applied a p))
   change-part c p v Nothing h k = part-whole (waiters o p)
   change-part c p v (Stored id x) h k = stored-part o some p (v .lists) id (h .0) x k
   change-part c p v (Created id x) h k = part-of _ _ (rw (h .next) (created-queue p (v .lists) o some x (rw (h .dormant))))
@@ -472,7 +472,7 @@ module _ (m : Module) (s : SoundModule m) (o : ℕ) (some : o ≡ 0 → ⊥) whe
   abbrev Follows : ℕ → ℕ → ℕ → Partition → Type 0
   Follows code k i q = waiters o q ≡ kept (waitsOn o q) (waiters o (part m i)) ++ joining code k i o (part m i) q
 
-  listed : (i : ℕ) → i < m .table .size → ListedIn (part m i)
+  pub listed : (i : ℕ) → i < m .table .size → ListedIn (part m i)
   listed i l = s .eachPartition i l .lists
 
   none-joins : (code k i : ℕ) (q : Partition) → (eqb code 7 ≡ false) ⊎ (eqb k (i + 1) ≡ false) → ListedIn q → Part (waiters o (part m i)) (waiters o q) → Follows code k i q
@@ -778,17 +778,3 @@ module _ (m : Module) (k : ℕ) (u : SoundModule m) (h : Calling m k) where
           },
           rw g set-up,
         )
-
--- Law. A waiter joins its object's queue last, ended waits leave it and the others keep their order, and the first is served first.
-pub queues : Queues
-queues = record {
-  events = queue-after;
-  changes = λ m h i l. changes-queue (part m i) (valid-sound m (reached-valid m h) i l .eachPartition i l .lists);
-  calls = λ m k h j. let u = calling-sound m k h in record {
-    waitSemaphore = wait-semaphore m k u h j;
-    waitEvent = wait-event m k u h j;
-    signalFirst = λ id rest b below. signal-first m k u h j b below id rest;
-    signalNone = signal-none m k u h j;
-    setEvent = set-event m k u h j;
-  };
-}

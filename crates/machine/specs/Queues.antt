@@ -3,10 +3,10 @@
 -- machine rests on it.
 use Prim.Native.Nat.{ℕ, _+_, _<_}
 use mathlib.Core.Path.{_≡_}
-use mathlib.Core.Bool.{true, false, cond, not, _&&_, _||_}
+use mathlib.Core.Bool.{Bool, true, false, cond, not, _&&_, _||_}
 use mathlib.Core.List.{List, [], _∷_, _++_}
 use mathlib.Core.Logic.{_⊎_}
-use lib.Dec.{eqb}
+use lib.Dec.{eqb, ltb}
 use lib.IntN.{ℤ, pos}
 use Rattle.machine.specs.declared.Process.{Process}
 use Rattle.machine.specs.declared.Partition.{Partition}
@@ -23,8 +23,9 @@ use Rattle.machine.specs.declared.Module.{Module}
 use Rattle.machine.specs.Limits.{durationLimit}
 use Rattle.machine.specs.Fields.{requestOf, numberOf}
 use Rattle.machine.specs.Ids.{members, kept}
-use Rattle.machine.specs.Process.{object, due, ready}
-use Rattle.machine.specs.Partition.{normalMode, process, semaphore, event, stored, storedSemaphore, storedEvent, created, storedBuffer, storedBlackboard, arrivedLast, applied, tickPartition, enteredNormal, running, waitsOn, waiters}
+use Rattle.machine.specs.Process.{Class, objectIn, object, due, ready}
+use Rattle.machine.specs.Buffers.{hasRoom, holds}
+use Rattle.machine.specs.Partition.{normalMode, process, semaphore, event, buffer, blackboard, stored, storedSemaphore, storedEvent, created, storedBuffer, storedBlackboard, arrivedLast, applied, tickPartition, enteredNormal, running, waitsOn, waiters}
 use Rattle.machine.specs.Module.{part}
 use Rattle.machine.specs.Step.{step}
 use Rattle.machine.specs.Valid.{Between, contains, Distinct, Reached}
@@ -67,6 +68,33 @@ pub record QueueChanges (o : ℕ) (p : Partition) : Type 0 where
   pub entered : (c : Context) → waiters o (enteredNormal c p) ≡ waiters o p
   -- a tick of a NORMAL partition: those whose wake time has come leave
   pub ticked : (t : ℕ) → normalMode p ≡ true → waiters o (tickPartition t p) ≡ kept (λ id. not (due t (process id p .times .wake))) (waiters o p)
+
+-- ---------------------------------------------------------------- who waits
+-- no object changes
+pub record SameObjects (p q : Partition) : Type 0 where
+  pub semaphores : q .semaphores ≡ p .semaphores
+  pub events : q .events ≡ p .events
+  pub buffers : q .buffers ≡ p .buffers
+  pub blackboards : q .blackboards ≡ p .blackboards
+
+-- what a call that waits on queue k of a kind looks at, by the kinds of classOf: a semaphore's value is above 0, an event is UP, a buffer has
+-- room, a buffer holds a message, a blackboard shows one
+abbrev pub available : ℕ → ℕ → Partition → Bool
+available kind k p =
+    cond (eqb kind 1) (ltb 0 (semaphore k p .value))
+    (cond (eqb kind 2) (event k p .up)
+    (cond (eqb kind 3) (hasRoom (buffer k p))
+    (cond (eqb kind 4) (holds (buffer k p))
+    (cond (eqb kind 5) (blackboard k p .shown) false))))
+
+-- the number of queue k of a kind
+abbrev pub queueNumber : ℕ → ℕ → ℕ
+queueNumber kind k = objectIn (Class.onto kind k 0)
+
+-- nobody waits for what is there: no process waits on a semaphore above 0, on an event UP, with a message for a buffer that has room, for a
+-- message of a buffer that holds one, and no reader waits while a blackboard shows one
+abbrev pub NoneWaits : Partition → Type 0
+NoneWaits p = (kind k : ℕ) → available kind k p ≡ true → waiters (queueNumber kind k) p ≡ []
 
 -- ---------------------------------------------------------------- an event
 -- who joins queue o of partition number i + 1, whose record was p and is q, at an event of partition k that answers code: the process that ran,
@@ -141,5 +169,7 @@ pub record Queues : Type 0 where
   pub events : (m : Module) → Reached m → (e : EventT) (i : ℕ) → i < m .table .size → (o : ℕ) → (o ≡ 0 → ⊥) → QueueAfter m e i o
   -- each change of a partition of a reached record
   pub changes : (m : Module) → Reached m → (i : ℕ) → i < m .table .size → (o : ℕ) → (o ≡ 0 → ⊥) → QueueChanges o (part m i)
+  -- who waits, in each partition of a reached record
+  pub none : (m : Module) → Reached m → (i : ℕ) → i < m .table .size → NoneWaits (part m i)
   -- the calls
   pub calls : (m : Module) (k : ℕ) → Calling m k → (j : ℕ) → QueueCalls m k j

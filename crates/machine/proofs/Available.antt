@@ -439,7 +439,7 @@ module _ (c : Context) (p : Partition) (v : Valid (c .frame) (c .time) p) (s : S
       (λ a. fair-checks _ _ (λ _. by-test (IsFair p) (isNumber 3 a) (λ _. fair (one-process (Entered c) tt)) (λ _. fair tt)))
       (λ _. fair-checks _ _ (λ _. fair (one-process (Created _ _) tt)))
       (λ id delay. fair-checks _ _ (λ _. fair (one-process (Stored id _) tt)))
-      (λ id. fair-checks _ _ (λ _. fair (one-process (Stored id _) tt)))
+      (λ _ id. fair-checks _ _ (λ _. fair (one-process (Stored id _) tt)))
       (fair-checks _ _ (λ _. fair (one-process (Stored (c .caller) _) tt)))
       (λ id. fair-checks _ _ (λ _. fair (one-process (Stored id _) tt)))
       self-fair
@@ -461,8 +461,8 @@ module _ (c : Context) (p : Partition) (v : Valid (c .frame) (c .time) p) (s : S
       (λ _ _. fair-checks _ _ (λ _. fair-checks _ _ (λ _. fair tt)))
       (fair-checks _ _ (λ _. fair-checks _ _ (λ _. fair tt)))
       create-buffer-fair
-      send-fair
-      receive-fair
+      (λ _. send-fair _ _ _)
+      (λ _. receive-fair _ _)
       create-blackboard-fair
       show-fair
       read-blackboard-fair

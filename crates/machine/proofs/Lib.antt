@@ -34,3 +34,4 @@ pub mod Applied
 pub mod Starts
 pub mod Queues
 pub mod Available
+pub mod Senders

@@ -191,12 +191,12 @@ module _ (o : ℕ) (some : o ≡ 0 → ⊥) where
       (all-part f k l (stored id x p) (stored-listed p id x v b) (λ y c. rw (rest-count p _ (stored-rest p id x)) (all y (rw c (or-true (eqb id y))))))
 
 -- ---------------------------------------------------------------- what the rules make of a wait
-expired-wait : (t : ℕ) (x : Process) → expired t x .wait ≡ x .wait
+pub expired-wait : (t : ℕ) (x : Process) → expired t x .wait ≡ x .wait
 unfolding expired
 expired-wait t x = by-test (λ (y : Process). y .wait ≡ x .wait) (due t (x .times .deadline)) (λ _. refl) (λ _. refl)
 
 -- a tick ends the wait whose time has come
-ticked-object : (t : ℕ) (x : Process) → object (ticked t x .wait) ≡ cond (due t (x .times .wake)) 0 (object (x .wait))
+pub ticked-object : (t : ℕ) (x : Process) → object (ticked t x .wait) ≡ cond (due t (x .times .wake)) 0 (object (x .wait))
 unfolding woken
 ticked-object t x = ap object (expired-wait t (woken t x)) ∙ either (due t (x .times .wake))
     (λ e. rw e (by-test (λ (y : Process). object (y .wait) ≡ 0) (onlyMarked x) (λ _. refl) (λ _. refl)))
@@ -205,7 +205,7 @@ ticked-object t x = ap object (expired-wait t (woken t x)) ∙ either (due t (x 
 ticked-ends : (t : ℕ) (x : Process) → KeepsOrEnds x (ticked t x)
 ticked-ends t x = either (due t (x .times .wake)) (λ e. inl (ticked-object t x ∙ rw e)) (λ e. inr (ticked-object t x ∙ rw e))
 
-start-object : (c : Context) (delay : ℕ) (x : Process) → object (startRule c delay x .wait) ≡ 0
+pub start-object : (c : Context) (delay : ℕ) (x : Process) → object (startRule c delay x .wait) ≡ 0
 unfolding startRule
 start-object c delay x = by-test (λ (y : Process). object (y .wait) ≡ 0) (periodic x) (λ _. refl) (λ _. by-test (λ (y : Process). object (y .wait) ≡ 0) (eqb delay 0) (λ _. refl) (λ _. refl))
 
@@ -214,7 +214,7 @@ unfolding entered
 entered-ends c x = by-test (KeepsOrEnds x) (waitsForNormal (x .wait)) (λ _. inl (start-object c (x .times .delay) x)) (λ _. inr refl)
 
 -- one that waits on an object is left
-normal-off : (v : Class) → forNormal v ≡ true → objectIn v ≡ 0
+pub normal-off : (v : Class) → forNormal v ≡ true → objectIn v ≡ 0
 normal-off Class.nothing e = refl
 normal-off Class.normal e = refl
 normal-off Class.timer e = refl
@@ -392,7 +392,7 @@ module _ (c : Context) (p : Partition) where
       (λ a. in-order _ _ (λ _. by-test (InOrder c p) (isNumber 3 a) (λ _. fine (tt, tt)) (λ _. fine tt)))
       (λ _. in-order _ _ (λ _. fine (tt, tt)))
       (λ id delay. in-order _ _ (λ _. fine (starts id (numberOf delay), tt)))
-      (λ _. in-order _ _ (λ _. fine (inl refl, tt)))
+      (λ _ _. in-order _ _ (λ _. fine (inl refl, tt)))
       (in-order _ _ (λ _. fine (inl refl, tt)))
       (λ _. in-order _ _ (λ _. fine (inr refl, tt)))
       (λ a. in-order _ _ (λ h. by-test (InOrder c p) (isNumber 0 a) (λ _. fine tt) (λ _. fine (refl, normal (or-left (startMode p) _ (h .0))))))
@@ -411,8 +411,8 @@ module _ (c : Context) (p : Partition) where
       (λ _ _. in-order _ _ (λ _. in-order _ _ (λ _. fine tt)))
       (in-order _ _ (λ _. in-order _ _ (λ _. fine tt)))
       (λ _ _. in-order _ _ (λ _. fine (tt, tt)))
-      (λ _ _ _. await-order _ _ _ _ _ _ _ (fine (sent-order _ _ _, tt)))
-      (λ _ _. await-order _ _ _ _ _ _ _ (received-order _ _))
+      (λ _. await-order _ _ _ _ _ _ _ (fine (sent-order _ _ _, tt)))
+      (λ _. await-order _ _ _ _ _ _ _ (received-order _ _))
       (λ _. in-order _ _ (λ _. fine (tt, tt)))
       (λ _ _. in-order _ _ (λ _. fine (tt, tt)))
       (λ _ _. await-order _ _ _ _ _ _ _ (fine tt))

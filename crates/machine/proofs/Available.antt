@@ -436,7 +436,7 @@ module _ (c : Context) (p : Partition) (v : Valid (c .frame) (c .time) p) (s : S
   unfolding setMode createProcess start stop stopSelf suspend timedWait periodicWait resume setPriority getStatus blocked write read channelChecks Passed
   call-fair x n r =
       by-call c x n r p (IsFair p)
-      (λ a. fair-checks _ _ (λ _. by-test (IsFair p) (isNumber 3 a) (λ _. fair (one-process (Entered c) tt)) (λ _. fair tt)))
+      (λ _. fair-checks _ _ (λ _. by-test (IsFair p) (isNumber 3 (r .a)) (λ _. fair (one-process (Entered c) tt)) (λ _. fair tt)))
       (λ _. fair-checks _ _ (λ _. fair (one-process (Created _ _) tt)))
       (λ id delay. fair-checks _ _ (λ _. fair (one-process (Stored id _) tt)))
       (λ _ id. fair-checks _ _ (λ _. fair (one-process (Stored id _) tt)))
@@ -470,7 +470,7 @@ module _ (c : Context) (p : Partition) (v : Valid (c .frame) (c .time) p) (s : S
       (λ _. fair tt)
 
 -- ---------------------------------------------------------------- a partition after a decision
-part-none : (l k : List ℕ) → l ≡ [] → Part l k → k ≡ []
+pub part-none : (l k : List ℕ) → l ≡ [] → Part l k → k ≡ []
 unfolding kept
 part-none l k e a = a .is ∙ ap (kept (a .by)) e
 

@@ -82,7 +82,7 @@ module _ (x : Port) (n : ℕ) where
   unfolding setMode createProcess start stop stopSelf suspend suspendSelf timedWait periodicWait resume setPriority getStatus createSemaphore createEvent blocked waitSemaphore waitEvent signal setEvent resetEvent write read channelChecks createBuffer sendBuffer receiveBuffer createBlackboard show readBlackboard clear Passed
   call-body c r p lo hi =
       by-call c x n r p (Body x n)
-      (λ a. in-body _ _ refl (λ _. by-test (Body x n) (isNumber 3 a) (λ _. fine tt) (λ _. fine tt)))
+      (λ _. in-body _ _ refl (λ _. by-test (Body x n) (isNumber 3 (r .a)) (λ _. fine tt) (λ _. fine tt)))
       (λ _. in-body _ _ refl (λ _. fine tt))
       (λ _ _. in-body _ _ refl (λ _. fine tt))
       (λ _ _. in-body _ _ refl (λ _. fine tt))

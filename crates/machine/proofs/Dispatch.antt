@@ -44,9 +44,9 @@ by-place P (x ∷ l) d k f zero n e g = let h : n ≡ k = omega arith in rw h (f
 by-place P (x ∷ l) d k f (suc i) n e g = by-place P l d (suc k) (f .1) i n (omega arith) (λ h. g (omega arith))
 
 -- ---------------------------------------------------------------- calls
--- what is shown of each call, whatever fields it is given but for 24 and 25; 3 and 4 are one
+-- what is shown of each call, whatever fields it is given but for 1, 24 and 25; 3 and 4 are one
 module _ (c : Context) (x : Port) (n : ℕ) (r : Request) (p : Partition) (P : Decision → Type 0)
-    (f1 : (a : Field) → P (setMode c a p))
+    (f1 : n ≡ 1 → P (setMode c (r .a) p))
     (f2 : (r : Request) → P (createProcess c r p))
     (f3 : (id : ℕ) (delay : Field) → P (start c id delay p))
     (f5 : n ≡ 5 → (id : ℕ) → P (stop c id p))
@@ -77,7 +77,7 @@ module _ (c : Context) (x : Port) (n : ℕ) (r : Request) (p : Partition) (P : D
     (other : (1 ≤ n → n ≤ callLimit → ⊥) → P (Refused 13)) where
   each : Each (λ j (s : Service). n ≡ j → P (s .decides c x r p)) 1 services
   unfolding Each services
-  each = (λ _. f1 _, (λ _. f2 _, (λ _. f3 _ _, (λ _. f3 _ _, (λ e. f5 e _, (λ _. f6, (λ _. f7 _, (λ _. f8 _, (λ _. f9 _, (λ _. f10, (λ _. f11 _, (λ _. f12 _ _, (λ _. f13 _, (λ _. f14 _, (λ _. f15 _ _, (λ _. f16 _, (λ _. f17 _, (λ _. f18 _, (λ _. f19 _, (λ _. f20 _ _, (λ e. f21 e _, (λ _. f22, (λ _. f23 _ _, (λ e. f24 e, (λ e. f25 e, (λ _. f26 _, (λ _. f27 _ _, (λ _. f28 _ _, (λ _. f29 _, tt)))))))))))))))))))))))))))))
+  each = (λ e. f1 e, (λ _. f2 _, (λ _. f3 _ _, (λ _. f3 _ _, (λ e. f5 e _, (λ _. f6, (λ _. f7 _, (λ _. f8 _, (λ _. f9 _, (λ _. f10, (λ _. f11 _, (λ _. f12 _ _, (λ _. f13 _, (λ _. f14 _, (λ _. f15 _ _, (λ _. f16 _, (λ _. f17 _, (λ _. f18 _, (λ _. f19 _, (λ _. f20 _ _, (λ e. f21 e _, (λ _. f22, (λ _. f23 _ _, (λ e. f24 e, (λ e. f25 e, (λ _. f26 _, (λ _. f27 _ _, (λ _. f28 _ _, (λ _. f29 _, tt)))))))))))))))))))))))))))))
 
   all : length services ≡ callLimit
   unfolding services

@@ -614,7 +614,7 @@ module _ (c : Context) (p : Partition) (v : Valid (c .frame) (c .time) p) (k : S
 pub call-sound : (c : Context) (x : Port) (n : ℕ) (r : Request) (p : Partition) → Valid (c .frame) (c .time) p → SoundContext c p → SoundMessage (c .time) (x .message) → Sound c p (callDecision c x n r p)
 call-sound c x n r p v k s =
     by-call c x n r p (Sound c p)
-    (set-mode-sound c p v k)
+    (λ _. set-mode-sound c p v k _)
     (create-process-sound c p v k)
     (start-sound-in c p v k)
     (λ _. stop-sound c p v k)

@@ -35,3 +35,4 @@ pub mod Starts
 pub mod Queues
 pub mod Available
 pub mod Senders
+pub mod Account

@@ -153,7 +153,7 @@ pub record Part (l k : List ℕ) : Type 0 where
   pub by : ℕ → Bool
   pub is : k ≡ kept by l
 
-part-whole : (l : List ℕ) → Part l l
+pub part-whole : (l : List ℕ) → Part l l
 part-whole l = record { by = λ _. true; is = sym (kept-all (λ _. true) l (λ _ _. refl)) }
 
 pub part-trans : {l k j : List ℕ} → Part l k → Part k j → Part l j
@@ -389,7 +389,7 @@ module _ (c : Context) (p : Partition) where
   unfolding setMode createProcess start stop stopSelf suspend suspendSelf timedWait periodicWait resume setPriority getStatus createSemaphore createEvent blocked waitSemaphore waitEvent signal setEvent resetEvent write read channelChecks createBuffer sendBuffer receiveBuffer createBlackboard show readBlackboard clear Passed
   call-order x n r =
       by-call c x n r p (InOrder c p)
-      (λ a. in-order _ _ (λ _. by-test (InOrder c p) (isNumber 3 a) (λ _. fine (tt, tt)) (λ _. fine tt)))
+      (λ _. in-order _ _ (λ _. by-test (InOrder c p) (isNumber 3 (r .a)) (λ _. fine (tt, tt)) (λ _. fine tt)))
       (λ _. in-order _ _ (λ _. fine (tt, tt)))
       (λ id delay. in-order _ _ (λ _. fine (starts id (numberOf delay), tt)))
       (λ _ _. in-order _ _ (λ _. fine (inl refl, tt)))

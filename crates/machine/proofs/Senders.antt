@@ -27,9 +27,10 @@ use Rattle.machine.specs.declared.Wait.{Wait}
 use Rattle.machine.specs.declared.Wait.the-variants.{None, Normal, Timed, Semaphore, Event, Sending, Receiving, Blackboard}
 use Rattle.machine.specs.declared.Time.the-variants.{At}
 use Rattle.machine.specs.declared.Field.{Field}
+use Rattle.machine.specs.declared.Field.the-variants.{Number, MinusOne, Other}
 use Rattle.machine.specs.declared.Request.{Request}
-use Rattle.machine.specs.Limits.{processLimit, semaphoreLimit, eventLimit, bufferLimit, blackboardLimit}
-use Rattle.machine.specs.Fields.{isNumber, numberOf, timeOf}
+use Rattle.machine.specs.Limits.{processLimit, semaphoreLimit, eventLimit, bufferLimit, blackboardLimit, modeLimit}
+use Rattle.machine.specs.Fields.{isNumber, between, numberOf, timeOf}
 use Rattle.machine.specs.Process.{Class, classOf, objectIn, blankProcess, later, object, onObject, due, ready, waitsForNothing, waitsForNormal, forNothing, onlyMarked, served, handed, waitingFor, suspendedUntil, withCurrent, withSuspended, waitEnded, nextRelease, woken, expired, ticked, entered, startRule, startedEarly, resumed}
 use Rattle.machine.specs.Partition.{within, byId, noBuffer, process, buffer, blackboard, event, semaphore, normalMode, emptyBuffer, movedIn, withMode, stored, storedSemaphore, storedEvent, storedBuffer, storedBlackboard, created, arrivedLast, waitsOn, waiters, changedAll, each, enteredNormal, tickPartition, applied, partitionAfter, noted}
 use Rattle.machine.specs.Decisions.{checked, changed, blocked, unknown, startMode, dormant, queued, awaiting}
@@ -50,6 +51,12 @@ use Rattle.machine.proofs.Sound.{ready-off, for-nothing}
 use Rattle.machine.proofs.Dispatch.{by-call}
 use Rattle.machine.proofs.Kept.{Caller, waiters-created, waiters-exact, waiters-on, normal-caller, in-normal, change-valid}
 use Rattle.machine.proofs.Queues.{ended-process, normal-off, start-object, ticked-object, expired-wait}
+
+-- 0..3 and not 3
+below-three : (f : Field) → between 0 modeLimit f ≡ true → isNumber 3 f ≡ false → between 0 2 f ≡ true
+below-three (Number n) h e = let r = leb-true n modeLimit (and-right (leb 0 n) (leb n modeLimit) h) in let ne = eqb-false n 3 e in rw (le-leb 0 n (omega arith), le-leb n 2 (omega arith))
+below-three MinusOne h e = not-both _ h refl
+below-three Other h e = not-both _ h refl
 
 -- one of a queue waits on its object
 pub on-queue : (p : Partition) (o id : ℕ) → contains id (waiters o p) ≡ true → object (process id p .wait) ≡ o
@@ -194,17 +201,18 @@ module _ (j : ℕ) (low : j ≤ 8) where
   change-stays n c p v (Entered d) h g = stays-along n p (withMode 3 p) _ (record { same = refl; count = omega arith; waits = λ id. keeps-same n (process id p .wait) }) (each-stays n (entered d) (withMode 3 p) (v .lists) (entered-keeps n d))
 
   -- ---------------------------------------------------------------- decisions
-  abbrev pub Calm : ℕ → Partition → Decision → Type 0
-  Calm n p (Refused code) = Unit {0}
-  Calm n p (Unchanged value extra) = Unit {0}
-  Calm n p Ticked = Unit {0}
-  Calm n p (Blocked id x) = object (x .wait) ≡ senders → ⊥
-  Calm n p (Changed a b value) = CalmChange n p a × CalmChange n (applied a p) b
-  Calm n p (Restarted mode) = Unit {0}
-  Calm n p (Written i x) = Unit {0}
+  -- a decides for call 1
+  abbrev pub Calm : ℕ → Field → Partition → Decision → Type 0
+  Calm n f p (Refused code) = Unit {0}
+  Calm n f p (Unchanged value extra) = Unit {0}
+  Calm n f p Ticked = Unit {0}
+  Calm n f p (Blocked id x) = object (x .wait) ≡ senders → ⊥
+  Calm n f p (Changed a b value) = CalmChange n p a × CalmChange n (applied a p) b
+  Calm n f p (Restarted mode) = (n ≡ 1) × (between 0 2 f ≡ true)
+  Calm n f p (Written i x) = Unit {0}
 
-  pub record IsCalm (n : ℕ) (p : Partition) (d : Decision) : Type 0 where
-    pub is : Calm n p d
+  pub record IsCalm (n : ℕ) (f : Field) (p : Partition) (d : Decision) : Type 0 where
+    pub is : Calm n f p d
 
   -- two changes
   pub changed-stays : (n : ℕ) (c : Context) {o : Partition} → SoundContext c o → (p : Partition) → Valid (c .frame) (c .time) p → (a b : Change) → SoundChange c p a → SoundChange c (applied a p) b → CalmChange n p a → CalmChange n (applied a p) b → Stays n p (applied b (applied a p))
@@ -215,12 +223,12 @@ module _ (j : ℕ) (low : j ≤ 8) where
   blocked-stays n p v id b x h ne = stored-stays n p v id b x (keeps-off n (process id p .wait) (x .wait) (no-sender _ (ready-off (process id p) h)) ne)
 
   -- ---------------------------------------------------------------- every other call
-  module _ (n : ℕ) (c : Context) (p : Partition) (v : Valid (c .frame) (c .time) p) (s : SoundContext c p) (there : j ≤ p .bufferCount) where
-    calm : {d : Decision} → Calm n p d → IsCalm n p d
+  module _ (n : ℕ) (f : Field) (c : Context) (p : Partition) (v : Valid (c .frame) (c .time) p) (s : SoundContext c p) (there : j ≤ p .bufferCount) where
+    calm : {d : Decision} → Calm n f p d → IsCalm n f p d
     calm h = record { is = h }
 
-    calm-checks : (l : List (Bool × ℕ)) (d : Decision) → (Passed l → IsCalm n p d) → IsCalm n p (checked Refused l d)
-    calm-checks l d f = by-checks (IsCalm n p) Refused l d (λ m. record { is = tt }) f
+    calm-checks : (l : List (Bool × ℕ)) (d : Decision) → (Passed l → IsCalm n f p d) → IsCalm n f p (checked Refused l d)
+    calm-checks l d g = by-checks (IsCalm n f p) Refused l d (λ m. record { is = tt }) g
 
     -- a process on another object, whose wait ends; one on no object
     elsewhere : (id : ℕ) (w : Wait) (o : ℕ) → object (process id p .wait) ≡ o → (o ≡ senders → ⊥) → object w ≡ 0 → KeepsSending n (process id p .wait) w
@@ -233,11 +241,11 @@ module _ (j : ℕ) (low : j ≤ 8) where
     caller-off h = ready-off (process (c .caller) p) (normal-caller c p v s h .isReady)
 
     await-calm : (count k : ℕ) (beside : Bool) (a : Field) (b : Bool) (success : Decision) (w : Wait)
-        → (Between 1 count k → object w ≡ senders → ⊥) → (Between 1 count k → IsCalm n p success) → IsCalm n p (awaiting c ((unknown k count, 3) ∷ []) beside [] a b success w p)
+        → (Between 1 count k → object w ≡ senders → ⊥) → (Between 1 count k → IsCalm n f p success) → IsCalm n f p (awaiting c ((unknown k count, 3) ∷ []) beside [] a b success w p)
     unfolding awaiting queued blocked Passed
-    await-calm count k beside a b success w ne f = calm-checks _ _ (λ h.
+    await-calm count k beside a b success w ne g = calm-checks _ _ (λ h.
         let r = known-id k count (h .0) in
-        by-test (IsCalm n p) b (λ _. f r) (λ _. calm-checks _ _ (λ _. calm (ne r))))
+        by-test (IsCalm n f p) b (λ _. g r) (λ _. calm-checks _ _ (λ _. calm (ne r))))
 
     -- the first of a queue
     first-of-queue : (o : ℕ) (l : List ℕ) (id : ℕ) → waiters o p ≡ id ∷ l → object (process id p .wait) ≡ o
@@ -254,19 +262,19 @@ module _ (j : ℕ) (low : j ≤ 8) where
     sent-calm [] k m ne few e = ne
     sent-calm (id ∷ l) k m ne few e = elsewhere id None (queueNumber 4 k) (first-of-queue (queueNumber 4 k) l id e) (λ z. omega arith) refl
 
-    received-calm : (l : List ℕ) (k : ℕ) → (k ≡ j → ⊥) → k ≤ 8 → waiters (queueNumber 3 k) p ≡ l → IsCalm n p (received l k p)
+    received-calm : (l : List ℕ) (k : ℕ) → (k ≡ j → ⊥) → k ≤ 8 → waiters (queueNumber 3 k) p ≡ l → IsCalm n f p (received l k p)
     unfolding received storedBuffer
     received-calm [] k ne few e = calm (ne, tt)
     received-calm (id ∷ l) k ne few e =
         let out = elsewhere id None (queueNumber 3 k) (first-of-queue (queueNumber 3 k) l id e) (λ z. ne (omega arith)) refl in
         calm (ne, by-test (λ (q : Partition). KeepsSending n (process id q .wait) None) (within bufferLimit k) (λ _. out) (λ _. out))
 
-    self-calm : (a : Field) → IsCalm n p (suspendSelf c a p)
+    self-calm : (a : Field) → IsCalm n f p (suspendSelf c a p)
     unfolding suspendSelf blocked Passed
-    self-calm a = calm-checks _ _ (λ h. by-test (IsCalm n p) (isNumber 0 a) (λ _. calm tt) (λ _.
+    self-calm a = calm-checks _ _ (λ h. by-test (IsCalm n f p) (isNumber 0 a) (λ _. calm tt) (λ _.
         calm (λ e. senders-some (sym e ∙ caller-off (in-normal c p v s (or-false-parts (startMode p) _ (h .0) .0))))))
 
-    start-calm : (id : ℕ) (delay : Field) → IsCalm n p (start c id delay p)
+    start-calm : (id : ℕ) (delay : Field) → IsCalm n f p (start c id delay p)
     unfolding start Passed
     start-calm id delay = calm-checks _ _ (λ h.
         let b = known-id id (p .processCount) (h .0) in
@@ -278,7 +286,7 @@ module _ (j : ℕ) (low : j ≤ 8) where
           tt,
         ))
 
-    resume-calm : (id : ℕ) → IsCalm n p (resume c id p)
+    resume-calm : (id : ℕ) → IsCalm n f p (resume c id p)
     unfolding resume
     resume-calm id = calm-checks _ _ (λ _. calm (
       by-test (λ (x : Process). KeepsSending n (process id p .wait) (x .wait)) (waitsForNothing (process id p .wait))
@@ -287,18 +295,22 @@ module _ (j : ℕ) (low : j ≤ 8) where
       tt,
     ))
 
-    pub call-calm : (x : Port) (r : Request) → (n ≡ 24 → numberOf (r .a) ≡ j → ⊥) → (n ≡ 25 → numberOf (r .a) ≡ j → ⊥) → IsCalm n p (callDecision c x n r p)
-    unfolding setMode createProcess stop stopSelf suspend timedWait periodicWait setPriority getStatus createSemaphore createEvent blocked waitSemaphore waitEvent signal setEvent resetEvent write read channelChecks createBuffer sendBuffer receiveBuffer createBlackboard show readBlackboard clear Passed
-    call-calm x r no-send no-receive =
-        by-call c x n r p (IsCalm n p)
-        (λ a. calm-checks _ _ (λ _. by-test (IsCalm n p) (isNumber 3 a) (λ _. calm (tt, tt)) (λ _. calm tt)))
+    mode-calm : n ≡ 1 → IsCalm n f p (setMode c f p)
+    unfolding setMode Passed
+    mode-calm one = calm-checks _ _ (λ h. by-test (IsCalm n f p) (isNumber 3 f) (λ _. calm (tt, tt)) (λ e. calm (one, below-three f (not-false _ (h .0)) e)))
+
+    pub call-calm : (x : Port) (r : Request) → r .a ≡ f → (n ≡ 24 → numberOf (r .a) ≡ j → ⊥) → (n ≡ 25 → numberOf (r .a) ≡ j → ⊥) → IsCalm n f p (callDecision c x n r p)
+    unfolding createProcess stop stopSelf suspend timedWait periodicWait setPriority getStatus createSemaphore createEvent blocked waitSemaphore waitEvent signal setEvent resetEvent write read channelChecks createBuffer sendBuffer receiveBuffer createBlackboard show readBlackboard clear Passed
+    call-calm x r is no-send no-receive =
+        by-call c x n r p (IsCalm n f p)
+        (λ one. rw is (mode-calm one))
         (λ _. calm-checks _ _ (λ _. calm (tt, tt)))
         start-calm
         (λ five id. calm-checks _ _ (λ _. calm ((λ e. absurd (senders-some (sym e)), λ _. inr five), tt)))
         (calm-checks _ _ (λ h. calm (idle (c .caller) None (caller-off (in-normal c p v s (h .0))) refl, tt)))
         (λ id. calm-checks _ _ (λ _. calm (keeps-same n (process id p .wait), tt)))
         self-calm
-        (λ a. calm-checks _ _ (λ h. by-test (IsCalm n p) (isNumber 0 a) (λ _. calm (tt, tt)) (λ _. calm (λ e. senders-some (sym e)))))
+        (λ a. calm-checks _ _ (λ h. by-test (IsCalm n f p) (isNumber 0 a) (λ _. calm (tt, tt)) (λ _. calm (λ e. senders-some (sym e)))))
         (calm-checks _ _ (λ _. calm (λ e. senders-some (sym e))))
         resume-calm
         (λ id _. calm-checks _ _ (λ _. calm (keeps-same n (process id p .wait), by-test (CalmChange n _) (ready (process id p)) (λ _. tt) (λ _. tt))))

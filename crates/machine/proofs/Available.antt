@@ -61,21 +61,9 @@ use Rattle.machine.proofs.Kept.{Caller, waiters-created, waiters-exact,
 use Rattle.machine.proofs.Reached.{at-set, plain-part, tick-module-plain, place, context-sound, made, made-sound, made-body, valid-sound, reached-valid}
 use Rattle.machine.proofs.Answers.{decided-table}
 use Rattle.machine.proofs.Tables.{table-read}
-use Rattle.machine.proofs.Queues.{Part, part-trans, same-queue, tick-part, change-part, joins-last, Orderly, call-order, semaphore-queue, event-queue, buffer-queue, blackboard-queue, ended-queue}
+use Rattle.machine.proofs.Queues.{rest-objects, same-objects, Part, part-trans, same-queue, tick-part, change-part, joins-last, Orderly, call-order, semaphore-queue, event-queue, buffer-queue, blackboard-queue, ended-queue}
 
 -- ---------------------------------------------------------------- objects that stay
--- a change of processes alone leaves the objects
-pub rest-objects : (p q : Partition) → Rest p q → SameObjects p q
-rest-objects p q e = record {
-  semaphores = ap (λ (r : Partition). r .semaphores) e;
-  events = ap (λ (r : Partition). r .events) e;
-  buffers = ap (λ (r : Partition). r .buffers) e;
-  blackboards = ap (λ (r : Partition). r .blackboards) e;
-}
-
-pub same-objects : (p : Partition) → SameObjects p p
-same-objects p = record { semaphores = refl; events = refl; buffers = refl; blackboards = refl }
-
 along-objects : (p q r : Partition) → SameObjects p q → SameObjects q r → SameObjects p r
 along-objects p q r a b = record {
   semaphores = b .semaphores ∙ a .semaphores;

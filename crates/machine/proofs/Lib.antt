@@ -36,3 +36,4 @@ pub mod Queues
 pub mod Available
 pub mod Senders
 pub mod Account
+pub mod Families

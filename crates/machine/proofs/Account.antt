@@ -1,20 +1,20 @@
 -- The account of a buffer, for every list of events from a fresh module. Assumes nothing.
-use Prim.Native.Nat.{ℕ, zero, suc, _+_, _-_, _*_, _≤_, _<_, max}
+use Prim.Native.Nat.{ℕ, zero, _+_, _-_, _≤_, _<_}
 use mathlib.Core.Path.{_≡_, refl, ap, sym, _∙_}
 use mathlib.Core.Bool.{Bool, true, false, cond, not, _&&_, _||_, and-true, and-false, or-true}
 use mathlib.Core.List.{List, [], _∷_, _++_, map, append-nil, append-assoc}
 use mathlib.Core.Logic.{_⊎_, inl, inr, ⊎-elim}
 use native.Mathlib.Omega.{arith}
 use lib.ListN.{length, getD, set, drop}
-use lib.Dec.{eqb, leb, ltb}
+use lib.Dec.{eqb, leb}
 use lib.Seq.{getD-set-same, getD-set-other}
 use lib.IntN.{ℤ, pos, negsuc}
-use borrow.Author.Tests.{eq-eqb, ne-eqb, eqb-true, eqb-false, leb-true, le-leb, lt-ltb, ltb-true, ltb-false, leb-false, not-true, not-false}
+use borrow.Author.Tests.{eq-eqb, ne-eqb, eqb-true, leb-true, ltb-true, ltb-false, leb-false, not-false}
 use Rattle.machine.specs.declared.Process.{Process}
 use Rattle.machine.specs.declared.Buffer.{Buffer}
 use Rattle.machine.specs.declared.QueueChange.{QueueChange}
 use Rattle.machine.specs.declared.QueueChange.the-variants.{Put, Taken, Exchanged}
-use Rattle.machine.specs.declared.Change.the-variants.{Nothing, Stored, Moved}
+use Rattle.machine.specs.declared.Change.the-variants.{Moved}
 use Rattle.machine.specs.declared.Partition.{Partition}
 use Rattle.machine.specs.declared.Event.{Event as EventT}
 use Rattle.machine.specs.declared.Module.{Module}
@@ -39,7 +39,7 @@ use Rattle.machine.specs.Ids.{kept, keptIf}
 use Rattle.machine.specs.Fields.{field, requestOf, isNumber, between, isMessage, numberOf, timeOf}
 use Rattle.machine.specs.Messages.{held, first}
 use Rattle.machine.specs.Process.{classOf, carriedIn, carried, object, served, handed, waitingFor, later}
-use Rattle.machine.specs.Partition.{within, noBuffer, process, buffer, movedIn, emptyBuffer, storedBuffer, withBuffers, normalMode, running, waitsOn, waiters, stored, applied, nothingCreated, tickPartition, noted}
+use Rattle.machine.specs.Partition.{noBuffer, process, buffer, emptyBuffer, storedBuffer, normalMode, running, waitsOn, waiters, stored, applied, nothingCreated, tickPartition, noted}
 use Rattle.machine.specs.LeftRight.{next, after, isTick, isZero}
 use Rattle.machine.specs.Decisions.{replyOf, changed, blocked, queued, awaiting}
 use Rattle.machine.specs.Buffers.{createBuffer, hasRoom, holds, sent, sendBuffer, received, receiveBuffer}
@@ -48,19 +48,20 @@ use Rattle.machine.specs.Ticks.{tickModule}
 use Rattle.machine.specs.Places.{malformed, oneZero, ticks}
 use Rattle.machine.specs.Step.{contextOf, decision, moduleAfter, step}
 use Rattle.machine.specs.Starred.{own, callBy}
-use Rattle.machine.specs.Valid.{Between, contains, Distinct, SoundBuffer, SoundMove, ListedIn, Valid, SoundContext, SoundDecision, SoundModule, Reached, plainTick}
+use Rattle.machine.specs.Valid.{Between, contains, Distinct, SoundMove, ListedIn, Valid, SoundContext, SoundDecision, SoundModule, Reached, plainTick}
 use Rattle.machine.specs.Plain.{plainNumber, plainMoved}
 use Rattle.machine.specs.Queues.{queueNumber, NoneWaits}
-use Rattle.machine.specs.Account.{isCall, codeAt, erases, erased, sends, receives, isSend, isReceive, givesUp, givenUp, messageIn, sentAt, allSent, handedAt, receivedAt, allReceived, heldIn, keptWithSenders, Balances, Account}
+use Rattle.machine.specs.Account.{isCall, codeAt, erases, erased, sends, receives, isSend, isReceive, givesUp, givenUp, messageIn, sentAt, allSent, receivedAt, allReceived, heldIn, keptWithSenders, Account}
 use Rattle.machine.proofs.Tests.{by-test, by-codes, Passed, not-both, and-left, and-right, or-left, or-right}
 use Rattle.machine.proofs.Fields.{in-limits}
-use Rattle.machine.proofs.Lists.{kept-snoc}
+use Rattle.machine.proofs.Lists.{kept-snoc, cons-not}
 use Rattle.machine.proofs.Sound.{ready-off, carried-sound}
 use Rattle.machine.proofs.Bounds.{either, not-so, same-or-not, within-in, named-same, buffer-in}
-use Rattle.machine.proofs.Messages.{queue-length, queue-first, moved-held}
+use Rattle.machine.proofs.Messages.{queue-first}
+use Rattle.machine.proofs.Moves as Mo
 use Rattle.machine.proofs.Available.{part-none, unknown-unwaited, none-waits}
 use Rattle.machine.proofs.Tracking.{contains-kept, kept-same, kept-kept, kept-all, kept-no}
-use Rattle.machine.proofs.Queues.{Part, part-whole, part-waits, part-trans, queue-of, same-queue, tick-part, change-part, stored-part, buffer-queue, joins-last, others-stay, first-served, Orderly, call-order}
+use Rattle.machine.proofs.Queues.{Part, part-whole, part-waits, part-trans, queue-of, same-queue, tick-part, change-part, stored-part, buffer-queue, joins-last, first-served, Orderly, call-order}
 use Rattle.machine.proofs.Dispatch.{placeCode, Calls, by-event}
 use Rattle.machine.proofs.Bodies.{Bodily, bodyRefusal}
 use Rattle.machine.proofs.Kept.{Caller, tick-valid, change-valid, normal-caller, in-normal, waiters-created, waiters-distinct, waiters-exact}
@@ -81,9 +82,6 @@ map-same f g (x ∷ l) h = rw (h x (rw (eq-eqb x x refl)), map-same f g l (λ y 
 map-snoc : (f : ℕ → ℕ) (l k : List ℕ) → map f (l ++ k) ≡ map f l ++ map f k
 map-snoc f [] k = refl
 map-snoc f (x ∷ l) k = ap (λ (r : List ℕ). f x ∷ r) (map-snoc f l k)
-
-cons-not : (x : ℕ) (l : List ℕ) → x ∷ l ≡ [] → ⊥
-cons-not x l e = let z : suc (length l) ≡ 0 = ap length e in omega arith
 
 empty-of : (l : List ℕ) → length l ≡ 0 → l ≡ []
 empty-of [] h = refl
@@ -405,30 +403,21 @@ module _ (j : ℕ) (m : Module) (s : SoundModule m) (e : EventT) (es : List Even
     abbrev messages : List ℕ
     messages = held (now .queue)
 
-    sound-buffer : SoundBuffer now
-    sound-buffer = own-valid .objects .buffers .each j known
-
-    inside : within bufferLimit j ≡ true
-    inside = within-in bufferLimit j (known .0) (omega (arith, known .1, own-valid .objects .buffers .numbered .few))
+    abbrev size : length messages ≡ now .queue .len
+    size = Mo.size (m .table .frame) (m .t) p own-valid j known
 
     -- the record after the buffer's messages moved
     abbrev moving : QueueChange → Partition
     moving a = applied (Moved j a) p
 
-    moving-is : (a : QueueChange) → moving a ≡ withBuffers (set (p .buffers) (j - 1) (movedIn a now)) (max (p .bufferCount) j) p
-    moving-is a = buffer-in j (movedIn a now) p inside
-
-    moving-buffer : (a : QueueChange) → buffer j (moving a) ≡ movedIn a now
-    moving-buffer a = rw (moving-is a) (named-same bufferLimit noBuffer j (movedIn a now) (p .buffers) (known .0) few (omega (arith, few, own-valid .objects .buffers .numbered .size)))
-
     moving-held : (a : QueueChange) → SoundMove now a → held (buffer j (moving a) .queue) ≡ plainMoved a messages
-    moving-held a h = ap (λ (b : Buffer). held (b .queue)) (moving-buffer a) ∙ moved-held now sound-buffer a h
+    moving-held a = Mo.moving-held (m .table .frame) (m .t) p own-valid j known a
 
     moving-queue : (a : QueueChange) → waiters senders (moving a) ≡ waiters senders p
-    moving-queue a = buffer-queue p (own-valid .lists) senders is-some j (movedIn a now)
+    moving-queue a = Mo.moving-queue (m .table .frame) (m .t) p own-valid j known a senders is-some
 
-    size : length messages ≡ now .queue .len
-    size = queue-length (now .limit) (now .queue) (sound-buffer .queue)
+    moving-count : (a : QueueChange) → p .bufferCount ≤ moving a .bufferCount
+    moving-count a = Mo.moving-count (m .table .frame) (m .t) p own-valid j known a
 
     -- nobody waits to send: nothing survives
     none-survive : (q : Partition) → waiters senders p ≡ [] → surviving k j m e es (withPart (k - 1) q m) ≡ []
@@ -445,9 +434,6 @@ module _ (j : ℕ) (m : Module) (s : SoundModule m) (e : EventT) (es : List Even
 
     stored-count : (q : Partition) (id : ℕ) (x : Process) → p .bufferCount ≤ q .bufferCount → p .bufferCount ≤ stored id x q .bufferCount
     stored-count q id x h = let f : stored id x q .bufferCount ≡ q .bufferCount = ap (λ (r : Partition). r .bufferCount) (stored-rest q id x) in omega arith
-
-    moving-count : (a : QueueChange) → p .bufferCount ≤ moving a .bufferCount
-    moving-count a = rw (moving-is a) (omega arith)
 
     -- refused
     refused-even : (a : ℕ) → bodyRefusal a ≡ true → EvenAfter (Refused a)
@@ -602,7 +588,7 @@ module _ (j : ℕ) (m : Module) (s : SoundModule m) (e : EventT) (es : List Even
       value = first (now .queue)
 
       value-first : holds now ≡ true → messages ≡ value ∷ drop 1 messages
-      value-first some = first-rest messages (omega (arith, size, ltb-true 0 (now .queue .len) some)) ∙ ap (λ a. a ∷ drop 1 messages) (sym (queue-first (now .limit) (now .queue) (sound-buffer .queue)))
+      value-first some = first-rest messages (omega (arith, size, ltb-true 0 (now .queue .len) some)) ∙ ap (λ a. a ∷ drop 1 messages) (sym (queue-first (now .limit) (now .queue) (Mo.sound (m .table .frame) (m .t) p own-valid j known .queue)))
 
       received-zero : (q : Module) → receivedBy k j m e es q 0 value ≡ value ∷ []
       received-zero q = rw from
@@ -622,10 +608,10 @@ module _ (j : ℕ) (m : Module) (s : SoundModule m) (e : EventT) (es : List Even
         served-module = withPart (k - 1) let-in m
 
         moving-listed : ListedIn (moving a)
-        moving-listed = rw (moving-is a) (own-valid .lists)
+        moving-listed = Mo.moving-listed (m .table .frame) (m .t) p own-valid j known a
 
         moving-process : (y : ℕ) → process y (moving a) ≡ process y p
-        moving-process y = rw (moving-is a)
+        moving-process y = Mo.moving-process (m .table .frame) (m .t) p own-valid j known a y
 
         first-is : contains id (waiters senders p) ≡ true
         unfolding contains
@@ -635,7 +621,7 @@ module _ (j : ℕ) (m : Module) (s : SoundModule m) (e : EventT) (es : List Even
         sender-created = waiters-created p (own-valid .lists) senders id first-is
 
         moving-created : Between 1 (moving a .processCount) id
-        moving-created = rw (moving-is a) sender-created
+        moving-created = Mo.moving-created (m .table .frame) (m .t) p own-valid j known a id sender-created
 
         queue-is : waiters senders let-in ≡ l
         queue-is = ap (λ (y : Process). waiters senders (stored id (served y) (moving a))) (sym (moving-process id)) ∙ first-served senders is-some (moving a) moving-listed id l (moving-queue a ∙ h)
@@ -677,7 +663,7 @@ module _ (j : ℕ) (m : Module) (s : SoundModule m) (e : EventT) (es : List Even
             survive-others
             (no-sent k j m e es served-module 0 to)
             (received-zero served-module)
-            (held-after let-in _ (ap (λ (z : Partition). held (buffer j z .queue)) (stored-rest (moving a) id (served sender)) ∙ moving-held a (ltb-true 0 _ some, small)))
+            (held-after let-in _ (Mo.moving-stored (m .table .frame) (m .t) p own-valid j known a id (served sender) (ltb-true 0 _ some, small)))
             left-others
             (ap (λ b. value ∷ b) (ap (λ b. rest ++ b) (append-nil (carried sender ∷ others)) ∙ sym (append-assoc rest (carried sender ∷ []) others)))
 

@@ -1,13 +1,13 @@
 -- Nobody waits for what is there: on every reached record, for every kind of object at once. Assumes nothing.
-use Prim.Native.Nat.{ℕ, _+_, _-_, _*_, _≤_, _<_, max}
+use Prim.Native.Nat.{ℕ, _+_, _-_, _≤_, _<_}
 use mathlib.Core.Path.{_≡_, refl, ap, sym, _∙_}
-use mathlib.Core.Bool.{Bool, true, false, cond, not, _&&_, _||_, and-false}
-use mathlib.Core.List.{List, [], _∷_, _++_}
+use mathlib.Core.Bool.{Bool, true, false, cond, not}
+use mathlib.Core.List.{List, [], _∷_}
 use mathlib.Core.Logic.{_⊎_, inl, inr, ⊎-elim}
 use native.Mathlib.Omega.{arith}
 use lib.ListN.{length, getD, set, getD-replicate}
-use lib.Dec.{eqb, leb, ltb}
-use borrow.Author.Tests.{eq-eqb, ne-eqb, eqb-true, eqb-false, lt-ltb, ltb-true, leb-false, not-false}
+use lib.Dec.{eqb, ltb}
+use borrow.Author.Tests.{eq-eqb, ne-eqb, eqb-true, eqb-false, ltb-true, leb-false, not-false}
 use Rattle.machine.specs.declared.Process.{Process}
 use Rattle.machine.specs.declared.Partition.{Partition}
 use Rattle.machine.specs.declared.Context.{Context}
@@ -23,22 +23,21 @@ use Rattle.machine.specs.declared.Change.the-variants.{Nothing, Stored, 
 use Rattle.machine.specs.declared.Decision.{Decision}
 use Rattle.machine.specs.declared.Decision.the-variants.{Refused, Unchanged, Ticked, Blocked, Changed, Restarted, Written}
 use Rattle.machine.specs.declared.Wait.{Wait}
-use Rattle.machine.specs.declared.Wait.the-variants.{Timed, Period, Semaphore, Event, Sending, Receiving, Blackboard}
+use Rattle.machine.specs.declared.Wait.the-variants.{Timed, Semaphore, Event, Sending, Receiving, Blackboard}
 use Rattle.machine.specs.declared.Time.the-variants.{At}
 use Rattle.machine.specs.declared.Field.{Field}
 use Rattle.machine.specs.declared.Request.{Request}
-use Rattle.machine.specs.declared.Event.{Event as EventT}
 use Rattle.machine.specs.declared.Module.{Module}
 use Rattle.machine.specs.Limits.{processLimit, semaphoreLimit, eventLimit, bufferLimit, blackboardLimit, durationLimit, partitionLimit}
-use Rattle.machine.specs.Messages.{held, moved}
-use Rattle.machine.specs.Process.{Class, classOf, objectIn, object, onObject, later, carried, ready, served, handed, withCurrent, suspendedUntil, nextRelease, waitingFor, entered, ticked}
-use Rattle.machine.specs.Partition.{within, byId, noSemaphore, noEvent, noBuffer, noBlackboard, process, semaphore, event, buffer, blackboard, normalMode, emptyBuffer, movedIn, withMode, stored, storedSemaphore, storedEvent, storedBuffer, storedBlackboard, created, arrivedLast, waitsOn, waiters, changedAll, each, enteredNormal, tickPartition, running, applied, partitionAfter, nothingCreated, noted, freshPartition}
-use Rattle.machine.specs.Fields.{isNumber, isMessage, isTimeout, numberOf, timeOf, requestOf}
+use Rattle.machine.specs.Messages.{held}
+use Rattle.machine.specs.Process.{Class, classOf, objectIn, object, later, carried, ready, served, handed, withCurrent, suspendedUntil, nextRelease, waitingFor, entered, ticked}
+use Rattle.machine.specs.Partition.{within, byId, noSemaphore, noEvent, noBuffer, noBlackboard, process, event, buffer, blackboard, normalMode, movedIn, withMode, stored, storedSemaphore, storedEvent, storedBuffer, storedBlackboard, created, arrivedLast, waiters, changedAll, each, enteredNormal, tickPartition, applied, nothingCreated, noted, freshPartition}
+use Rattle.machine.specs.Fields.{isNumber, isMessage, numberOf, timeOf, requestOf}
 use Rattle.machine.specs.Decisions.{checked, changed, blocked, unknown, startMode, queued, awaiting}
 use Rattle.machine.specs.Calls.{setMode, createProcess, start, stop, stopSelf, suspend, suspendSelf, timedWait, periodicWait, resume, setPriority, getStatus}
-use Rattle.machine.specs.Objects.{oneMore, withValue, withUp, createSemaphore, waitSemaphore, signalled, signal, createEvent, setEvent, resetEvent, waitEvent}
+use Rattle.machine.specs.Objects.{withUp, createSemaphore, waitSemaphore, signalled, signal, createEvent, setEvent, resetEvent, waitEvent}
 use Rattle.machine.specs.Buffers.{createBuffer, hasRoom, holds, sent, sendBuffer, received, receiveBuffer}
-use Rattle.machine.specs.Blackboards.{createBlackboard, show, showing, cleared, readBlackboard, clear}
+use Rattle.machine.specs.Blackboards.{createBlackboard, show, showing, readBlackboard, clear}
 use Rattle.machine.specs.Channels.{portOf, channelChecks, write, read}
 use Rattle.machine.specs.Services.{callDecision}
 use Rattle.machine.specs.Ids.{kept}
@@ -46,14 +45,13 @@ use Rattle.machine.specs.declared.Table.{Table}
 use Rattle.machine.specs.Table.{readTable}
 use Rattle.machine.specs.Module.{noPartition, emptyTable, emptyModule, freshModule, part, withTime}
 use Rattle.machine.specs.Step.{contextOf, decision, moduleAfter, step}
-use Rattle.machine.specs.Valid.{Between, contains, KnownOrNext, KnownWait, Setting, SoundProcess, SoundBuffer, SoundMove, Numbered, ListedIn, settingOf, Valid, SoundContext, SoundChange, SoundDecision, SoundModule, Reached, plainTick}
+use Rattle.machine.specs.Valid.{Between, contains, KnownWait, SoundBuffer, ListedIn, settingOf, Valid, SoundContext, SoundDecision, SoundModule, Reached, plainTick}
 use Rattle.machine.specs.Queues.{available, queueNumber, NoneWaits, SameObjects}
-use Rattle.machine.proofs.Tests.{by-test, by-tests, by-checks, Passed, passed-parts, not-both, and-left}
-use Rattle.machine.proofs.Bounds.{either, not-so, same-or-not, or-false-parts, known-id, within-in, within-out, named-out, named-same, named-other, named-replicate, semaphore-in, semaphore-out, event-in, event-out, buffer-in, buffer-out, blackboard-in, blackboard-out}
-use Rattle.machine.proofs.Lists.{held-queueOf}
+use Rattle.machine.proofs.Tests.{by-test, by-checks, Passed, not-both, and-left}
+use Rattle.machine.proofs.Bounds.{either, same-or-not, or-false-parts, known-id, within-in, within-out, named-out, named-same, named-other, semaphore-in, semaphore-out, event-in, event-out, buffer-in, buffer-out, blackboard-in, blackboard-out}
 use Rattle.machine.proofs.Messages.{exchanged-length}
 use Rattle.machine.proofs.Fields.{in-limits}
-use Rattle.machine.proofs.Keeping.{Rest, AllCreated, stored-listed, stored-rest, changed-rest, each-rest}
+use Rattle.machine.proofs.Keeping.{AllCreated, stored-listed, stored-rest, changed-rest, each-rest}
 use Rattle.machine.proofs.Sound.{ready-off, carried-sound}
 use Rattle.machine.proofs.Dispatch.{by-call, Calls, by-event}
 use Rattle.machine.proofs.Bodies.{Bodily}
@@ -61,7 +59,7 @@ use Rattle.machine.proofs.Kept.{Caller, waiters-created, waiters-exact,
 use Rattle.machine.proofs.Reached.{at-set, plain-part, tick-module-plain, place, context-sound, made, made-sound, made-body, valid-sound, reached-valid}
 use Rattle.machine.proofs.Answers.{decided-table}
 use Rattle.machine.proofs.Tables.{table-read}
-use Rattle.machine.proofs.Queues.{rest-objects, same-objects, Part, part-trans, same-queue, tick-part, change-part, joins-last, Orderly, call-order, semaphore-queue, event-queue, buffer-queue, blackboard-queue, ended-queue}
+use Rattle.machine.proofs.Queues.{rest-objects, same-objects, Part, part-trans, same-queue, tick-part, change-part, joins-last, Orderly, call-order, semaphore-queue, buffer-queue, ended-queue}
 
 -- ---------------------------------------------------------------- objects that stay
 along-objects : (p q r : Partition) → SameObjects p q → SameObjects q r → SameObjects p r

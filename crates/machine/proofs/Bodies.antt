@@ -19,9 +19,6 @@ use Rattle.machine.specs.Decisions.{checked, replyOf, blocked, startMode
 use Rattle.machine.specs.Calls.{setMode, createProcess, start, stop, stopSelf, suspend, suspendSelf, timedWait, periodicWait, resume, setPriority, getStatus}
 use Rattle.machine.specs.Objects.{createSemaphore, waitSemaphore, signal, createEvent, setEvent, resetEvent, waitEvent}
 use Rattle.machine.specs.Channels.{channelChecks, write, read}
-use Rattle.machine.specs.declared.Wait.the-variants.{Sending}
-use Rattle.machine.specs.Process.{object}
-use Rattle.machine.specs.Partition.{waiters}
 use Rattle.machine.specs.Buffers.{createBuffer, sendBuffer, received, receiveBuffer}
 use Rattle.machine.specs.Blackboards.{createBlackboard, show, readBlackboard, clear}
 use Rattle.machine.specs.Services.{callDecision}

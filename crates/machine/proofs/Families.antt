@@ -1,17 +1,15 @@
 -- Queue order, who waits, and what the calls of all four families do to their queues: the whole. Assumes nothing.
 use Prim.Native.Nat.{ℕ, zero, suc, _+_, _-_, _≤_, _<_, max}
 use mathlib.Core.Path.{_≡_, refl, ap, sym, _∙_}
-use mathlib.Core.Bool.{Bool, true, false, cond, not, _&&_, _||_}
+use mathlib.Core.Bool.{Bool, true, false}
 use mathlib.Core.List.{List, [], _∷_, _++_}
-use mathlib.Core.Logic.{_⊎_, inl, inr, ⊎-elim}
 use native.Mathlib.Omega.{arith}
 use lib.ListN.{length, getD, set, drop}
-use lib.Dec.{eqb, leb, ltb}
+use lib.Dec.{leb}
 use lib.IntN.{ℤ, pos, negsuc}
 use borrow.Author.Tests.{eq-eqb, ne-eqb, lt-ltb, le-ltb, ltb-false, le-leb, leb-true}
 use Rattle.machine.specs.declared.Process.{Process}
 use Rattle.machine.specs.declared.Partition.{Partition}
-use Rattle.machine.specs.declared.Buffer.{Buffer}
 use Rattle.machine.specs.declared.Blackboard.{Blackboard as BlackboardT}
 use Rattle.machine.specs.declared.QueueChange.{QueueChange}
 use Rattle.machine.specs.declared.QueueChange.the-variants.{Put, Taken, Exchanged}
@@ -20,35 +18,35 @@ use Rattle.machine.specs.declared.Decision.{Decision}
 use Rattle.machine.specs.declared.Decision.the-variants.{Unchanged, Changed}
 use Rattle.machine.specs.declared.Wait.the-variants.{Sending, Receiving, Blackboard}
 use Rattle.machine.specs.declared.Time.the-variants.{At}
-use Rattle.machine.specs.declared.Field.{Field}
 use Rattle.machine.specs.declared.Field.the-variants.{Number}
 use Rattle.machine.specs.declared.Event.{Event as EventT}
 use Rattle.machine.specs.declared.Module.{Module}
-use Rattle.machine.specs.Limits.{bufferLimit, blackboardLimit, durationLimit}
-use Rattle.machine.specs.Fields.{field, isMessage, isTimeout, numberOf}
+use Rattle.machine.specs.Limits.{blackboardLimit, durationLimit}
+use Rattle.machine.specs.Fields.{field, isMessage, isTimeout}
 use Rattle.machine.specs.Messages.{held, first}
 use Rattle.machine.specs.Process.{object, carried, served, handed}
-use Rattle.machine.specs.Partition.{within, noBuffer, noBlackboard, process, buffer, blackboard, movedIn, withBuffers, withBlackboards, stored, storedBlackboard, waiters, changedAll, applied, noted}
+use Rattle.machine.specs.Partition.{noBlackboard, process, buffer, blackboard, withBlackboards, stored, storedBlackboard, waiters, changedAll, applied}
 use Rattle.machine.specs.Decisions.{checked, changed, awaiting}
 use Rattle.machine.specs.Buffers.{hasRoom, holds, sent, sendBuffer, received, receiveBuffer}
-use Rattle.machine.specs.Blackboards.{show, showing, cleared, readBlackboard, clear}
-use Rattle.machine.specs.Services.{services, serviceOf, callDecision}
+use Rattle.machine.specs.Blackboards.{show, readBlackboard, clear}
+use Rattle.machine.specs.Services.{services, callDecision}
 use Rattle.machine.specs.Places.{strayField}
 use Rattle.machine.specs.Module.{part, withPart}
-use Rattle.machine.specs.Step.{contextOf, step}
-use Rattle.machine.specs.Valid.{Between, SoundBuffer, SoundMove, ListedIn, Valid, SoundModule}
-use Rattle.machine.specs.Plain.{plainMoved}
+use Rattle.machine.specs.Step.{step}
+use Rattle.machine.specs.Valid.{Between, SoundBuffer, Valid, SoundModule}
 use Rattle.machine.specs.Starred.{own, callBy, Calling, Gives, WaitEnded}
-use Rattle.machine.specs.Queues.{SameObjects, WaitsFor, TimeOut, Queued, FirstServed, NoneServed, AllServed, has, MessageCalls, Queues}
-use Rattle.machine.proofs.Tests.{not-both, and-left, and-right}
-use Rattle.machine.proofs.Bounds.{either, within-in, named-same, buffer-in, blackboard-in}
-use Rattle.machine.proofs.Messages.{queue-length, queue-first, moved-held}
+use Rattle.machine.specs.Queues.{SameObjects, WaitsFor, TimeOut, Queued, FirstServed, NoneServed, AllServed, has, Queues}
+use Rattle.machine.proofs.Tests.{not-both, and-right}
+use Rattle.machine.proofs.Bounds.{either, within-in, named-same, blackboard-in}
+use Rattle.machine.proofs.Messages.{queue-first}
+use Rattle.machine.proofs.Lists.{cons-not}
+use Rattle.machine.proofs.Moves as Mo
 use Rattle.machine.proofs.Keeping.{stored-rest, changed-rest}
 use Rattle.machine.proofs.Sound.{carried-sound}
-use Rattle.machine.proofs.Calling.{field-number, from-zero, calling-sound, calling-valid, calling-place, asked, decides, gives, own-after}
+use Rattle.machine.proofs.Calling.{field-number, from-zero, calling-sound, calling-valid, calling-place, decides, gives, own-after}
 use Rattle.machine.proofs.Corners.{known}
 use Rattle.machine.proofs.Reached.{valid-sound, reached-valid}
-use Rattle.machine.proofs.Queues.{rest-objects, noted-objects, changes-queue, queue-after, same-queue, buffer-queue, blackboard-queue, first-created, queued-last, first-served-by, none-served, all-served-by, wait-semaphore, wait-event, signal-first, signal-none, set-event}
+use Rattle.machine.proofs.Queues.{rest-objects, noted-objects, changes-queue, queue-after, blackboard-queue, first-created, ended-is, queued-last, first-served-by, none-served, all-served-by, wait-semaphore, wait-event, signal-first, signal-none, set-event}
 use Rattle.machine.proofs.Available.{none-waits}
 
 time-out : (a : ℤ) → TimeOut a → isTimeout (field a) ≡ true
@@ -58,15 +56,9 @@ time-out (pos n) h =
 time-out (negsuc zero) h = refl
 time-out (negsuc (suc n)) h = not-both _ h (rw (ne-eqb (suc n) 0 (λ z. omega arith)))
 
-cons-not : (x : ℕ) (l : List ℕ) → x ∷ l ≡ [] → ⊥
-cons-not x l e = let z : suc (length l) ≡ 0 = ap length e in omega arith
-
 -- a message
 a-message : (b : ℕ) → b ≤ durationLimit → isMessage (Number b) ≡ true
 a-message b h = rw (from-zero b, le-leb b durationLimit h)
-
-ends-served : (x : Process) → WaitEnded 0 x (served x)
-ends-served x = record { wake = refl; wait = refl; codeIs = refl; mark = refl; started = refl }
 
 ends-handed : (b : ℕ) (x : Process) → WaitEnded 0 x (handed b x)
 ends-handed b x = record { wake = refl; wait = refl; codeIs = refl; mark = refl; started = refl }
@@ -80,32 +72,20 @@ module _ (m : Module) (k : ℕ) (u : SoundModule m) (h : Calling m k) where
 
   -- ---------------------------------------------------------------- buffers
   module _ (j : ℕ) (normal : p .mode ≡ 3) (b : Between 1 (p .bufferCount) j) where
-    few : j ≤ bufferLimit
-    few = omega (arith, b .1, valid .objects .buffers .numbered .few)
-
-    sound : SoundBuffer (buffer j p)
-    sound = valid .objects .buffers .each j b
-
     is-field : field (pos j) ≡ Number j
-    is-field = field-number j (omega (arith, few))
+    is-field = field-number j (omega (arith, b .1, valid .objects .buffers .numbered .few))
+
+    abbrev sound : SoundBuffer (buffer j p)
+    sound = Mo.sound (m .table .frame) (m .t) p valid j b
 
     abbrev messages : List ℕ
     messages = held (buffer j p .queue)
 
-    size : length messages ≡ buffer j p .queue .len
-    size = queue-length (buffer j p .limit) (buffer j p .queue) (sound .queue)
+    abbrev size : length messages ≡ buffer j p .queue .len
+    size = Mo.size (m .table .frame) (m .t) p valid j b
 
-    -- the messages moved
     abbrev moving : QueueChange → Partition
     moving a = applied (Moved j a) p
-
-    moving-is : (a : QueueChange) → moving a ≡ withBuffers (set (p .buffers) (j - 1) (movedIn a (buffer j p))) (max (p .bufferCount) j) p
-    moving-is a = buffer-in j (movedIn a (buffer j p)) p (within-in bufferLimit j (b .0) few)
-
-    moving-held : (a : QueueChange) → SoundMove (buffer j p) a → held (buffer j (moving a) .queue) ≡ plainMoved a messages
-    moving-held a s =
-        rw (moving-is a) (ap (λ (x : Buffer). held (x .queue)) (named-same bufferLimit noBuffer j (movedIn a (buffer j p)) (p .buffers) (b .0) few (omega (arith, few, valid .objects .buffers .numbered .size))))
-        ∙ moved-held (buffer j p) sound a s
 
     send-waits : (x : ℕ) (a : ℤ) → buffer j p .queue .len ≡ buffer j p .limit → x ≤ durationLimit → WaitsFor a → Queued m k (callBy k 24 (pos j) (pos x) a (pos 0)) (Sending j x)
     unfolding callDecision services strayField sendBuffer
@@ -137,7 +117,7 @@ module _ (m : Module) (k : ℕ) (u : SoundModule m) (h : Calling m k) where
           let none : buffer j p .queue .len ≡ 0 = either (holds (buffer j p)) (λ s. absurd (cons-not id rest (sym e ∙ none-waits m (h .reached) (k - 1) (calling-place m k u h) 4 j s))) (λ s. omega (arith, ltb-false 0 (buffer j p .queue .len) s)) in
           let g = send-gives (id ∷ rest) e (lt-ltb (buffer j p .queue .len) (buffer j p .limit) (omega (arith, none, sound .limit .0))) in
           let q = stored id (handed x (process id p)) p in (
-            first-served-by m k u h (object (Receiving j)) (λ z. omega arith) p (valid .lists) (λ _. refl) (handed x) (ends-handed x) id rest e 0 0 sends g,
+            first-served-by m k u h (object (Receiving j)) (λ z. omega arith) p (valid .lists) (λ _. refl) (handed x) (ends-handed x) id rest e 0 sends g,
             rw (own-after m k u h q g) (noted-objects p q (rest-objects p q (stored-rest p id (handed x (process id p))))),
           )
 
@@ -146,8 +126,8 @@ module _ (m : Module) (k : ℕ) (u : SoundModule m) (h : Calling m k) where
       send-none e room =
           let q = moving (Put x) in
           let g = send-gives [] e (lt-ltb (buffer j p .queue .len) (buffer j p .limit) room) in (
-            none-served m k u h (object (Receiving j)) 0 sends q g (buffer-queue p (valid .lists) (object (Receiving j)) (λ z. omega arith) j (movedIn (Put x) (buffer j p)) ∙ e) (ap (λ (r : Partition). r .processes) (moving-is (Put x))),
-            rw (own-after m k u h q g) (moving-held (Put x) (room, ok)),
+            none-served m k u h (object (Receiving j)) 0 sends q g (Mo.moving-queue (m .table .frame) (m .t) p valid j b (Put x) (object (Receiving j)) (λ z. omega arith) ∙ e) (Mo.moving-processes (m .table .frame) (m .t) p valid j b (Put x)),
+            rw (own-after m k u h q g) (Mo.moving-held (m .table .frame) (m .t) p valid j b (Put x) (room, ok)),
           )
 
     -- RECEIVE
@@ -175,13 +155,12 @@ module _ (m : Module) (k : ℕ) (u : SoundModule m) (h : Calling m k) where
           let r = moving c in
           let y = served (process id p) in
           let q = stored id y r in
-          let v : ListedIn r = rw (moving-is c) (valid .lists) in
-          let queue : waiters o r ≡ id ∷ rest = buffer-queue p (valid .lists) o (λ z. omega arith) j (movedIn c (buffer j p)) ∙ e in
+          let queue : waiters o r ≡ id ∷ rest = Mo.moving-queue (m .table .frame) (m .t) p valid j b c o (λ z. omega arith) ∙ e in
           let small = carried-sound _ (process id p) (valid .eachProcess id (first-created o (λ z. omega arith) p (valid .lists) id rest e)) in
           let g = gives m k u h 25 (pos j) a (pos 0) (pos 0) (omega arith) (omega arith) refl (Changed (Moved j c) (Stored id y) (first (buffer j p .queue))) (takes-as (id ∷ rest) _ e refl) in (
-            first-served-by m k u h o (λ z. omega arith) r v (λ z. rw (moving-is c)) served ends-served id rest queue 0 (first (buffer j p .queue)) takes g,
+            first-served-by m k u h o (λ z. omega arith) r (Mo.moving-listed (m .table .frame) (m .t) p valid j b c) (Mo.moving-process (m .table .frame) (m .t) p valid j b c) served ended-is id rest queue (first (buffer j p .queue)) takes g,
             g .valueIs ∙ value-is,
-            rw (own-after m k u h q g) (ap (λ (z : Partition). held (buffer j z .queue)) (stored-rest r id y) ∙ moving-held c (some, small) ∙ ap (λ (s : List ℕ). drop 1 s ++ (carried (process id p) ∷ [])) first-is),
+            rw (own-after m k u h q g) (Mo.moving-stored (m .table .frame) (m .t) p valid j b c id y (some, small) ∙ ap (λ (s : List ℕ). drop 1 s ++ (carried (process id p) ∷ [])) first-is),
           )
 
       receive-none : waiters (object (Sending j 0)) p ≡ [] → NoneServed m k takes (object (Sending j 0)) × (step m takes .answer .value ≡ x) × (held (buffer j (own (step m takes .state) k) .queue) ≡ l)
@@ -190,9 +169,9 @@ module _ (m : Module) (k : ℕ) (u : SoundModule m) (h : Calling m k) where
           let o = object (Sending j 0) in
           let q = moving Taken in
           let g = gives m k u h 25 (pos j) a (pos 0) (pos 0) (omega arith) (omega arith) refl (Changed (Moved j Taken) Nothing (first (buffer j p .queue))) (takes-as [] _ e refl) in (
-            none-served m k u h o (first (buffer j p .queue)) takes q g (buffer-queue p (valid .lists) o (λ z. omega arith) j (movedIn Taken (buffer j p)) ∙ e) (ap (λ (r : Partition). r .processes) (moving-is Taken)),
+            none-served m k u h o (first (buffer j p .queue)) takes q g (Mo.moving-queue (m .table .frame) (m .t) p valid j b Taken o (λ z. omega arith) ∙ e) (Mo.moving-processes (m .table .frame) (m .t) p valid j b Taken),
             g .valueIs ∙ value-is,
-            rw (own-after m k u h q g) (moving-held Taken some ∙ ap (drop 1) first-is),
+            rw (own-after m k u h q g) (Mo.moving-held (m .table .frame) (m .t) p valid j b Taken some ∙ ap (drop 1) first-is),
           )
 
   -- ---------------------------------------------------------------- blackboards

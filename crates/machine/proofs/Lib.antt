@@ -34,6 +34,7 @@ pub mod Applied
 pub mod Starts
 pub mod Queues
 pub mod Available
+pub mod Moves
 pub mod Senders
 pub mod Account
 pub mod Families

@@ -1,5 +1,5 @@
 -- Queues of messages: what each move makes of a sound one. Assumes nothing.
-use Prim.Native.Nat.{ℕ, zero, suc, _+_, _-_, _≤_, _<_}
+use Prim.Native.Nat.{ℕ, zero, suc, _+_, _-_, _≤_}
 use mathlib.Core.Path.{_≡_, refl, ap, sym, _∙_}
 use mathlib.Core.List.{List, [], _∷_, _++_}
 use native.Mathlib.Omega.{arith}
@@ -10,8 +10,8 @@ use Rattle.machine.specs.declared.QueueChange.the-variants.{Put, Taken, 
 use Rattle.machine.specs.declared.Buffer.{Buffer}
 use Rattle.machine.specs.Limits.{messageLimit, durationLimit}
 use Rattle.machine.specs.Messages.{held, queueOf, put, taken, first, moved}
-use Rattle.machine.specs.Partition.{movedIn, emptyBuffer}
-use Rattle.machine.specs.Valid.{AllMessages, SoundQueue, SoundBuffer, SoundMove, Between}
+use Rattle.machine.specs.Partition.{movedIn}
+use Rattle.machine.specs.Valid.{AllMessages, SoundQueue, SoundBuffer, SoundMove}
 use Rattle.machine.specs.Plain.{plainMoved, plainMovedIn}
 use Rattle.machine.proofs.Lists.{put-queueOf, held-queueOf}
 

@@ -34,7 +34,7 @@ use Rattle.machine.specs.declared.Module.{Module}
 use Rattle.machine.specs.Limits.{callLimit, processLimit, semaphoreLimit, eventLimit, bufferLimit, blackboardLimit, durationLimit, greatestValue}
 use Rattle.machine.specs.Ids.{members, keptIf, kept, other}
 use Rattle.machine.specs.Process.{Class, classOf, objectIn, forNormal, blankProcess, later, object, onObject, periodic, ready, due, waitsForNothing, waitsForNormal, onlyMarked, served, handed, waitingFor, woken, expired, ticked, entered, startRule, startedEarly}
-use Rattle.machine.specs.Partition.{within, byId, nothingCreated, idleMode, normalMode, noSemaphore, noEvent, process, semaphore, event, stored, created, storedSemaphore, storedEvent, storedBuffer, storedBlackboard, emptyBuffer, movedIn, buffer, arrivedLast, changedAll, waitsOn, waiters, running, applied, tickPartition, enteredNormal, withMode, withEvents, each, noted}
+use Rattle.machine.specs.Partition.{within, nothingCreated, idleMode, normalMode, noSemaphore, noEvent, process, semaphore, event, stored, created, storedSemaphore, storedEvent, storedBuffer, storedBlackboard, emptyBuffer, movedIn, buffer, arrivedLast, changedAll, waitsOn, waiters, running, applied, tickPartition, enteredNormal, withMode, withEvents, each, noted}
 use Rattle.machine.specs.Fields.{field, requestOf, isNumber, isTimeout, numberOf, timeOf}
 use Rattle.machine.specs.Decisions.{checked, replyOf, changed, unchanged, unknown, blocked, startMode, queued, awaiting}
 use Rattle.machine.specs.Calls.{setMode, createProcess, start, stop, stopSelf, suspend, suspendSelf, timedWait, periodicWait, resume, setPriority, getStatus}
@@ -60,7 +60,7 @@ use Rattle.machine.proofs.Sound.{ready-off}
 use Rattle.machine.proofs.Dispatch.{by-call, Calls, by-event}
 use Rattle.machine.proofs.Bodies.{Bodily, bodyRefusal}
 use Rattle.machine.proofs.Kept.{tick-valid, change-valid, nothing-valid, Caller, running-caller, waiters-distinct, waiters-exact, waiters-on, waiters-created}
-use Rattle.machine.proofs.Calling.{field-number, from-zero, calling-sound, calling-valid, asked, decides, gives, own-after}
+use Rattle.machine.proofs.Calling.{field-number, from-zero, calling-valid, asked, decides, gives, own-after}
 use Rattle.machine.proofs.Corners.{known}
 use Rattle.machine.proofs.Reached.{at-set, plain-part, tick-module-plain, place, context-sound, made, made-sound, made-body, decided-sound, valid-sound, reached-valid}
 use Rattle.machine.proofs.Answers.{decided-table}
@@ -650,7 +650,7 @@ waits-for (pos n) h =
 waits-for (negsuc zero) h = (refl, refl)
 waits-for (negsuc (suc n)) h = not-both _ h (rw (ne-eqb (suc n) 0 (λ z. omega arith)))
 
-ended-is : (x : Process) → WaitEnded 0 x (served x)
+pub ended-is : (x : Process) → WaitEnded 0 x (served x)
 ended-is x = record { wake = refl; wait = refl; codeIs = refl; mark = refl; started = refl }
 
 module _ (m : Module) (k : ℕ) (u : SoundModule m) (h : Calling m k) where
@@ -691,7 +691,7 @@ module _ (m : Module) (k : ℕ) (u : SoundModule m) (h : Calling m k) where
 
   -- a call that stores q: the first of queue o served, in a record r that differs from the caller's in no process
   module _ (o : ℕ) (some : o ≡ 0 → ⊥) (r : Partition) (v : ListedIn r) (same : (y : ℕ) → process y r ≡ process y p) (f : Process → Process) (ends : (x : Process) → WaitEnded 0 x (f x)) where
-    module _ (id : ℕ) (rest : List ℕ) (e : waiters o r ≡ id ∷ rest) (code value : ℕ) (event : EventT) (g : Gives m event 0 value (At 0) (withPart (k - 1) (stored id (f (process id p)) r) m)) where
+    module _ (id : ℕ) (rest : List ℕ) (e : waiters o r ≡ id ∷ rest) (value : ℕ) (event : EventT) (g : Gives m event 0 value (At 0) (withPart (k - 1) (stored id (f (process id p)) r) m)) where
       abbrev x : Process
       x = f (process id p)
 
@@ -739,7 +739,7 @@ module _ (m : Module) (k : ℕ) (u : SoundModule m) (h : Calling m k) where
     signal-first id rest e =
         let g = signal-gives (id ∷ rest) e in
         let q = stored id (served (process id p)) p in
-        (first-served-by o some p (valid .lists) (λ _. refl) served ended-is id rest e 0 0 signals g, rw (own-after m k u h q g) (noted-objects p q (rest-objects p q (stored-rest p id (served (process id p))))))
+        (first-served-by o some p (valid .lists) (λ _. refl) served ended-is id rest e 0 signals g, rw (own-after m k u h q g) (noted-objects p q (rest-objects p q (stored-rest p id (served (process id p))))))
 
     pub signal-none : waiters o p ≡ [] → NoneServed m k signals o × (semaphore j (own (step m signals .state) k) .value ≡ semaphore j p .value + 1)
     unfolding signalled

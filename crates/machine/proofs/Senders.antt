@@ -1,38 +1,31 @@
 -- What the events that are no SEND to a buffer and no RECEIVE from it leave of the buffer and of its waiting senders: the messages stay, and a sender
 -- keeps its wait, but for one that STOP stops or a tick wakes. Assumes nothing.
-use Prim.Native.Nat.{ℕ, _+_, _-_, _*_, _≤_, _<_, max}
+use Prim.Native.Nat.{ℕ, _-_, _≤_}
 use mathlib.Core.Path.{_≡_, refl, ap, sym, _∙_}
-use mathlib.Core.Bool.{Bool, true, false, cond, not, _&&_, _||_}
-use mathlib.Core.List.{List, [], _∷_, _++_}
+use mathlib.Core.Bool.{Bool, true, false, not, _&&_}
+use mathlib.Core.List.{List, [], _∷_}
 use mathlib.Core.Logic.{_⊎_, inl, inr, ⊎-elim}
 use native.Mathlib.Omega.{arith}
-use lib.ListN.{length, getD, set}
-use lib.Dec.{eqb, leb, ltb}
-use borrow.Author.Tests.{eq-eqb, ne-eqb, eqb-true, eqb-false, le-leb, leb-true, leb-false, not-true, not-false}
+use lib.Dec.{eqb, leb}
+use borrow.Author.Tests.{eq-eqb, ne-eqb, eqb-true, eqb-false, le-leb, leb-true, not-true, not-false}
 use Rattle.machine.specs.declared.Process.{Process}
 use Rattle.machine.specs.declared.Partition.{Partition}
 use Rattle.machine.specs.declared.Context.{Context}
 use Rattle.machine.specs.declared.Port.{Port}
-use Rattle.machine.specs.declared.Semaphore.{Semaphore as SemaphoreT}
-use Rattle.machine.specs.declared.EventState.{EventState}
 use Rattle.machine.specs.declared.Buffer.{Buffer}
-use Rattle.machine.specs.declared.Blackboard.{Blackboard as BlackboardT}
-use Rattle.machine.specs.declared.QueueChange.{QueueChange}
-use Rattle.machine.specs.declared.QueueChange.the-variants.{Put, Taken, Exchanged}
 use Rattle.machine.specs.declared.Change.{Change}
 use Rattle.machine.specs.declared.Change.the-variants.{Nothing, Stored, Created, Last, StoredSemaphore, StoredEvent, CreatedBuffer, Moved, StoredBlackboard, Ended, Handed, Entered}
 use Rattle.machine.specs.declared.Decision.{Decision}
 use Rattle.machine.specs.declared.Decision.the-variants.{Refused, Unchanged, Ticked, Blocked, Changed, Restarted, Written}
 use Rattle.machine.specs.declared.Wait.{Wait}
-use Rattle.machine.specs.declared.Wait.the-variants.{None, Normal, Timed, Semaphore, Event, Sending, Receiving, Blackboard}
-use Rattle.machine.specs.declared.Time.the-variants.{At}
+use Rattle.machine.specs.declared.Wait.the-variants.{None, Normal}
 use Rattle.machine.specs.declared.Field.{Field}
 use Rattle.machine.specs.declared.Field.the-variants.{Number, MinusOne, Other}
 use Rattle.machine.specs.declared.Request.{Request}
 use Rattle.machine.specs.Limits.{processLimit, semaphoreLimit, eventLimit, bufferLimit, blackboardLimit, modeLimit}
-use Rattle.machine.specs.Fields.{isNumber, between, numberOf, timeOf}
-use Rattle.machine.specs.Process.{Class, classOf, objectIn, blankProcess, later, object, onObject, due, ready, waitsForNothing, waitsForNormal, forNothing, onlyMarked, served, handed, waitingFor, suspendedUntil, withCurrent, withSuspended, waitEnded, nextRelease, woken, expired, ticked, entered, startRule, startedEarly, resumed}
-use Rattle.machine.specs.Partition.{within, byId, noBuffer, process, buffer, blackboard, event, semaphore, normalMode, emptyBuffer, movedIn, withMode, stored, storedSemaphore, storedEvent, storedBuffer, storedBlackboard, created, arrivedLast, waitsOn, waiters, changedAll, each, enteredNormal, tickPartition, applied, partitionAfter, noted}
+use Rattle.machine.specs.Fields.{isNumber, between, numberOf}
+use Rattle.machine.specs.Process.{classOf, objectIn, blankProcess, object, onObject, due, ready, waitsForNothing, waitsForNormal, served, handed, woken, ticked, entered, startRule}
+use Rattle.machine.specs.Partition.{within, noBuffer, process, buffer, normalMode, emptyBuffer, movedIn, withMode, stored, storedSemaphore, storedEvent, storedBuffer, storedBlackboard, arrivedLast, waitsOn, waiters, changedAll, each, enteredNormal, tickPartition, applied}
 use Rattle.machine.specs.Decisions.{checked, changed, blocked, unknown, startMode, dormant, queued, awaiting}
 use Rattle.machine.specs.Calls.{setMode, createProcess, start, stop, stopSelf, suspend, suspendSelf, timedWait, periodicWait, resume, setPriority, getStatus}
 use Rattle.machine.specs.Objects.{createSemaphore, waitSemaphore, signalled, signal, createEvent, setEvent, resetEvent, waitEvent}
@@ -40,16 +33,16 @@ use Rattle.machine.specs.Buffers.{createBuffer, sent, sendBuffer, receiv
 use Rattle.machine.specs.Blackboards.{createBlackboard, show, readBlackboard, clear}
 use Rattle.machine.specs.Channels.{channelChecks, write, read}
 use Rattle.machine.specs.Services.{callDecision}
-use Rattle.machine.specs.Valid.{Between, contains, ListedIn, settingOf, Valid, SoundContext, SoundChange, SoundDecision}
+use Rattle.machine.specs.Valid.{Between, contains, ListedIn, Valid, SoundContext, SoundChange}
 use Rattle.machine.specs.Queues.{queueNumber}
-use Rattle.machine.proofs.Tests.{by-test, by-checks, Passed, passed-parts, not-both, or-left, and-left, and-right}
-use Rattle.machine.proofs.Bounds.{either, not-so, same-or-not, or-false-parts, known-id, within-out, named-same, named-other, created-in, created-out, buffer-in, buffer-out}
+use Rattle.machine.proofs.Tests.{by-test, by-checks, Passed, not-both, and-left, and-right}
+use Rattle.machine.proofs.Bounds.{either, same-or-not, or-false-parts, known-id, within-out, named-same, named-other, created-in, created-out, buffer-in, buffer-out}
 use Rattle.machine.specs.Ids.{members}
 use Rattle.machine.proofs.Tracking.{contains-kept}
 use Rattle.machine.proofs.Keeping.{Rest, stored-rest, changed-rest, each-rest, process-stored, process-other, process-created, each-process, each-listed, rest-count}
 use Rattle.machine.proofs.Sound.{ready-off, for-nothing}
 use Rattle.machine.proofs.Dispatch.{by-call}
-use Rattle.machine.proofs.Kept.{Caller, waiters-created, waiters-exact, waiters-on, normal-caller, in-normal, change-valid}
+use Rattle.machine.proofs.Kept.{normal-caller, in-normal, change-valid}
 use Rattle.machine.proofs.Queues.{ended-process, normal-off, start-object, ticked-object, expired-wait}
 
 -- 0..3 and not 3

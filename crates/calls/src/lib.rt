@@ -1,10 +1,9 @@
 // Calls 1 to 13: what each decides. Beside each call: how many of the fields a, b, c, e it uses.
 ghost use mathlib.Core.Path.{_≡_};
-ghost use Prim.Native.Nat.{_≤_};
 ghost use mathlib.Core.Bool.{cond, not, _&&_, _||_};
 ghost use lib.Dec.{eqb};
-ghost use lib.ListN.{length, take};
-ghost use Rattle.machine.specs.Limits.{processLimit, durationLimit};
+ghost use lib.ListN.{take};
+ghost use Rattle.machine.specs.Limits.{durationLimit};
 ghost use Rattle.machine.specs.Fields.{isNumber, isMinusOne, between, isDuration, numberOf};
 ghost use Rattle.machine.specs.Process.{periodic};
 ghost use Rattle.machine.specs.declared.Change.the-variants.{Nothing, Last};
@@ -58,28 +57,15 @@ pub fn set_mode(p: Partition, c: Context, a: Field) -> Decision
     Decision::Restarted(mode)
 }
 
-// How many processes have been created, the array's length at most.
-fn created(p: Partition) -> usize
-    ensures { λ r. ⌜ (r ≡ length (take (p .processCount) (p .processes))) × (r ≤ processLimit) ⌝ }
-{
-    let n = p.processCount as usize;
-    if n < Module::PROCESSES {
-        n
-    } else {
-        Module::PROCESSES
-    }
-}
-
 // Whether a process of the partition has this name.
 pub fn is_process_named(p: Partition, name: Field) -> bool
     ensures { λ r. ⌜ r ≡ processNamed name (take (p .processCount) (p .processes)) ⌝ }
 {
-    let n = created(p);
     let mut i: usize = 0;
-    while i < n {
+    while i < Module::PROCESSES {
         let x = p.processes[i];
         let given = x.given;
-        if fields::is_number(name, given.name as u32) {
+        if decisions::is_named_at(name, given.name, i, p.processCount) {
             return true;
         }
         i = i + 1;

@@ -2,11 +2,13 @@
 ghost use mathlib.Core.Path.{_≡_};
 ghost use mathlib.Core.Bool.{_&&_, _||_};
 ghost use mathlib.Core.List.{[], _∷_};
-ghost use lib.Dec.{eqb};
+ghost use lib.Dec.{eqb, ltb};
+ghost use Rattle.machine.specs.Fields.{isNumber};
 ghost use Rattle.machine.specs.Decisions.{coded, codeOf, replyOf, changes, restarts, writtenAt, messageOf, noMessage, changed, blocked, creationChecks, waitChecks, unknown};
 use machine::Change;
 use machine::Context;
 use machine::Decision;
+use machine::Field;
 use machine::Message;
 use machine::Module;
 use machine::Process;
@@ -165,6 +167,17 @@ pub fn is_unknown(id: u32, count: u8) -> bool
     ensures { λ r. ⌜ r ≡ unknown id count ⌝ }
 {
     if id == 0 { true } else { (count as u32) < id }
+}
+
+// Whether this is the name x of one of a kind, at place i, of which n have been created.
+pub fn is_named_at(name: Field, x: u16, i: usize, n: u8) -> bool
+    ensures { λ r. ⌜ r ≡ ltb i n && isNumber x name ⌝ }
+{
+    if i < n as usize {
+        fields::is_number(name, x as u32)
+    } else {
+        false
+    }
 }
 
 pub fn caller_of(c: Context) -> u32

@@ -1,6 +1,6 @@
 // The numbers of an event or a table line, as the rules look at them.
 ghost use mathlib.Core.Path.{_≡_};
-ghost use Rattle.machine.specs.Fields.{field, rowOf, requestOf, isNumber, between, isDuration, isMinusOne, isTimeout, isName, numberOf, timeOf};
+ghost use Rattle.machine.specs.Fields.{field, rowOf, requestOf, isNumber, between, isDuration, isMessage, isMinusOne, isTimeout, isName, numberOf, timeOf};
 use machine::Event;
 use machine::Field;
 use machine::Module;
@@ -98,6 +98,13 @@ pub fn is_duration(f: Field) -> bool
     ensures { λ r. ⌜ r ≡ isDuration f ⌝ }
 {
     is_between(f, 0, Module::DURATION)
+}
+
+// A message of a buffer or a blackboard.
+pub fn is_message(f: Field) -> bool
+    ensures { λ r. ⌜ r ≡ isMessage f ⌝ }
+{
+    is_duration(f)
 }
 
 pub fn is_timeout(f: Field) -> bool

@@ -1,15 +1,14 @@
 // Semaphores and events of a partition: calls 14 to 20. Beside each call: how many of the fields a, b, c, e it uses.
 ghost use mathlib.Core.Path.{_≡_};
-ghost use Prim.Native.Nat.{_-_, _≤_};
+ghost use Prim.Native.Nat.{_-_};
 ghost use mathlib.Core.Bool.{cond, _&&_};
 ghost use lib.Dec.{eqb, leb};
-ghost use lib.ListN.{length, take};
-ghost use Rattle.machine.specs.Limits.{semaphoreLimit, eventLimit, valueLimit};
+ghost use lib.ListN.{take};
+ghost use Rattle.machine.specs.Limits.{valueLimit};
 ghost use Rattle.machine.specs.Fields.{isName, between, numberOf};
-ghost use Rattle.machine.specs.Ids.{members};
 ghost use Rattle.machine.specs.declared.Decision.the-variants.{Refused};
 ghost use Rattle.machine.specs.declared.Change.the-variants.{StoredSemaphore, StoredEvent};
-ghost use Rattle.machine.specs.Partition.{semaphore, event, noSemaphore, noEvent};
+ghost use Rattle.machine.specs.Partition.{semaphore, event, noSemaphore, noEvent, waiters};
 ghost use Rattle.machine.specs.Objects.{semaphoreNamed, eventNamed, createSemaphore, createEvent, waitSemaphore, waitEvent, oneMore, signalled, signal, setEvent, resetEvent};
 ghost use Rattle.machine.specs.Decisions.{queued};
 use machine::Change;
@@ -17,7 +16,6 @@ use machine::Context;
 use machine::Decision;
 use machine::EventState;
 use machine::Field;
-use machine::Ids;
 use machine::Module;
 use machine::Partition;
 use machine::Request;
@@ -74,43 +72,13 @@ fn with_up(k: u32, e: EventState, up: bool) -> Change
     Change::StoredEvent(k, EventState { up, ..e })
 }
 
-// How many semaphores and events have been created, the arrays' lengths at most.
-fn semaphores_made(p: Partition) -> usize
-    ensures { λ r. ⌜ (r ≡ length (take (p .semaphoreCount) (p .semaphores))) × (r ≤ semaphoreLimit) ⌝ }
-{
-    let n = p.semaphoreCount as usize;
-    if n < Module::SEMAPHORES {
-        n
-    } else {
-        Module::SEMAPHORES
-    }
-}
-
-fn events_made(p: Partition) -> usize
-    ensures { λ r. ⌜ (r ≡ length (take (p .eventCount) (p .events))) × (r ≤ eventLimit) ⌝ }
-{
-    let n = p.eventCount as usize;
-    if n < Module::EVENTS {
-        n
-    } else {
-        Module::EVENTS
-    }
-}
-
-fn wide(n: u16) -> u32
-    ensures { λ r. ⌜ r ≡ n ⌝ }
-{
-    n as u32
-}
-
 pub fn is_semaphore_named(p: Partition, name: Field) -> bool
     ensures { λ r. ⌜ r ≡ semaphoreNamed name (take (p .semaphoreCount) (p .semaphores)) ⌝ }
 {
-    let n = semaphores_made(p);
     let mut i: usize = 0;
-    while i < n {
+    while i < Module::SEMAPHORES {
         let x = p.semaphores[i];
-        if fields::is_number(name, wide(x.name)) {
+        if decisions::is_named_at(name, x.name, i, p.semaphoreCount) {
             return true;
         }
         i = i + 1;
@@ -121,11 +89,10 @@ pub fn is_semaphore_named(p: Partition, name: Field) -> bool
 pub fn is_event_named(p: Partition, name: Field) -> bool
     ensures { λ r. ⌜ r ≡ eventNamed name (take (p .eventCount) (p .events)) ⌝ }
 {
-    let n = events_made(p);
     let mut i: usize = 0;
-    while i < n {
+    while i < Module::EVENTS {
         let x = p.events[i];
-        if fields::is_number(name, wide(x.name)) {
+        if decisions::is_named_at(name, x.name, i, p.eventCount) {
             return true;
         }
         i = i + 1;
@@ -287,10 +254,11 @@ fn one_more(n: u16) -> u16
     if n < Module::GREATEST { n + 1 } else { n }
 }
 
-// The first of these waiters' wait ends; none: the value rises by one.
-fn signal_change(p: Partition, k: u32, q: Ids) -> Change
-    ensures { λ r. ⌜ r ≡ signalled (members q) k p ⌝ }
+// The first waiter's wait on this object ends; none: the value rises by one.
+fn signal_change(p: Partition, k: u32, o: u16) -> Change
+    ensures { λ r. ⌜ r ≡ signalled (waiters o p) k p ⌝ }
 {
+    let q = partition::queue_of(p, o);
     if q.len == 0 {
         let s = semaphore_at(p, k);
         return with_value(k, s, one_more(s.value));
@@ -313,8 +281,8 @@ pub fn signal_semaphore(p: Partition, k: u32) -> Decision
     if s.value == s.max {
         return Decision::Refused(1);
     }
-    let q = partition::queue_of(p, process::object_of(Wait::Semaphore(k as u8)));
-    decisions::changed(signal_change(p, k, q))
+    let o = process::object_of(Wait::Semaphore(k as u8));
+    decisions::changed(signal_change(p, k, o))
 }
 
 pub const SET_EVENT_FIELDS: u8 = 1;

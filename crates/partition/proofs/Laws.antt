@@ -1,24 +1,27 @@
 -- Loops over the processes, from the first up, and for the soonest time from the last down; records at their places; two changes in order.
 -- Assumes nothing.
 use Prim.Native.Nat.{ℕ, zero, suc, _+_, _-_, _≤_, _<_, max}
-use mathlib.Core.Path.{_≡_, sym, ap, ap₂, _∙_}
+use mathlib.Core.Path.{_≡_, refl, sym, ap, ap₂, _∙_}
 use mathlib.Core.Bool.{true, false, _||_}
-use mathlib.Core.List.{List}
+use mathlib.Core.List.{List, [], _∷_}
 use native.Mathlib.Omega.{arith}
-use lib.ListN.{getD, set}
+use lib.ListN.{length, getD, set}
 use lib.Dec.{eqb}
 use borrow.Author.Tests.{eq-eqb, ne-eqb, eqb-true, eqb-false}
 use Rattle.machine.specs.declared.Ids.{Ids}
 use Rattle.machine.specs.declared.Process.{Process}
 use Rattle.machine.specs.declared.Semaphore.{Semaphore}
 use Rattle.machine.specs.declared.EventState.{EventState}
+use Rattle.machine.specs.declared.Buffer.{Buffer}
+use Rattle.machine.specs.declared.Blackboard.{Blackboard}
+use Rattle.machine.specs.declared.QueueChange.{QueueChange}
 use Rattle.machine.specs.declared.Partition.{Partition}
 use Rattle.machine.specs.declared.Change.{Change}
-use Rattle.machine.specs.Limits.{processLimit, semaphoreLimit, eventLimit}
+use Rattle.machine.specs.Limits.{processLimit, semaphoreLimit, eventLimit, bufferLimit, blackboardLimit}
 use Rattle.machine.specs.Ids.{follow}
 use Rattle.machine.specs.Process.{blankProcess, due, ticked, ready, onObject}
-use Rattle.machine.specs.Partition.{within, byId, process, withProcesses, withSemaphores, withEvents, stored, created, storedSemaphore, storedEvent, applied, eachFrom, sooner, soonestFrom}
-use Rattle.machine.proofs.Bounds.{either, inside, outside-zero, outside-high, named-in, named-out, stored-in, created-in, semaphore-in, event-in}
+use Rattle.machine.specs.Partition.{within, byId, process, buffer, noBuffer, movedIn, withProcesses, withSemaphores, withEvents, withBuffers, withBlackboards, stored, created, storedSemaphore, storedEvent, storedBuffer, storedBlackboard, applied, eachFrom, sooner, soonestFrom}
+use Rattle.machine.proofs.Bounds.{either, inside, outside-zero, outside-high, named-in, named-out, stored-in, created-in, semaphore-in, event-in, buffer-in, blackboard-in}
 use Rattle.machine.proofs.Folds.{soonest-more}
 use Rattle.machine.proofs.Quiet.{stored-same, ticked-same}
 use Rattle.machine.proofs.Tests.{or-left, or-right}
@@ -45,6 +48,18 @@ each-start f n id p z =
     ap₂ (λ (x y : ℕ). eachFrom f x y p) a b
 
 -- ---------------------------------------------------------------- the place of an id
+-- inside a list the default does not matter
+any-default : {A : Type 0} (l : List A) (k : ℕ) (d e : A) → k < length l → getD l k d ≡ getD l k e
+any-default [] k d e h = absurd (omega arith)
+any-default (x ∷ l) zero d e h = refl
+any-default (x ∷ l) (suc k) d e h = any-default l k d e (omega arith)
+
+-- nothing is stored past its end
+set-default : {A : Type 0} (f : A → A) (l : List A) (k : ℕ) (d e : A) → set l k (f (getD l k d)) ≡ set l k (f (getD l k e))
+set-default f [] k d e = refl
+set-default f (x ∷ l) zero d e = refl
+set-default f (x ∷ l) (suc k) d e = ap (λ (r : List _). x ∷ r) (set-default f l k d e)
+
 module _ (limit id k : ℕ) (e : k ≡ slotOf limit id) where
   known : k < limit → id ≡ 0 → ⊥
   known h z = let a : k ≡ limit = rw (eq-eqb id 0 z) at e in omega arith
@@ -71,6 +86,10 @@ module _ (limit id k : ℕ) (e : k ≡ slotOf limit id) where
     pub named-at : k < limit → getD l k d ≡ byId limit d id l
     named-at h = sym (named-in limit id d l (slot-in h) ∙ ap (λ (j : ℕ). getD l j d) (slot-place h))
 
+    -- from an array of that length with whatever default
+    pub named-long : (o : A) → length l ≡ limit → k < limit → getD l k o ≡ byId limit d id l
+    named-long o long h = any-default l k o d (omega arith) ∙ named-at h
+
     pub named-past : limit ≤ k → d ≡ byId limit d id l
     named-past h = sym (named-out limit id d l (slot-out h))
 
@@ -92,23 +111,31 @@ module _ (id k : ℕ) (p : Partition) (x : Process) (e : k ≡ slotOf processLim
       ∙ ap₂ (λ (j n : ℕ). let old = getD (p .processes) j blankProcess in withProcesses (set (p .processes) j x) (p .processCount) (follow (ready old) (ready x) n (p .arrival)) (follow (onObject old) (onObject x) n (p .waiting)) p)
       (slot-place processLimit id k e h) (slot-id processLimit id k e h)))
 
-  pub created-at : (n : ℕ) → k < processLimit → n ≡ max (p .processCount) (k + 1) → withProcesses (set (p .processes) k x) n (p .arrival) (p .waiting) p ≡ created id x p
-  created-at n h en =
-      rw en
-      (sym (created-in id x p (slot-in processLimit id k e h)
-      ∙ ap₂ (λ (j m : ℕ). withProcesses (set (p .processes) j x) (max (p .processCount) m) (p .arrival) (p .waiting) p) (slot-place processLimit id k e h) (slot-id processLimit id k e h)))
+-- one of a kind stored at its place, with how many there are
+kind-at : {A : Type 0} (limit id k : ℕ) (e : k ≡ slotOf limit id) (h : k < limit) (l : List A) (a : A) (count n : ℕ) → n ≡ max count (k + 1) → (f : List A → ℕ → Partition) → f (set l k a) n ≡ f (set l (id - 1) a) (max count id)
+kind-at limit id k e h l a count n en f = rw en (sym (ap₂ (λ (j m : ℕ). f (set l j a) (max count m)) (slot-place limit id k e h) (slot-id limit id k e h)))
 
-pub semaphore-at : (id k : ℕ) (p : Partition) (s : Semaphore) (n : ℕ) → k ≡ slotOf semaphoreLimit id → k < semaphoreLimit → n ≡ max (p .semaphoreCount) (k + 1) → withSemaphores (set (p .semaphores) k s) n p ≡ storedSemaphore id s p
-semaphore-at id k p s n e h en =
-    rw en
-    (sym (semaphore-in id s p (slot-in semaphoreLimit id k e h)
-    ∙ ap₂ (λ (j m : ℕ). withSemaphores (set (p .semaphores) j s) (max (p .semaphoreCount) m) p) (slot-place semaphoreLimit id k e h) (slot-id semaphoreLimit id k e h)))
+module _ (id k : ℕ) (p : Partition) where
+  pub created-at : (x : Process) (n : ℕ) → k ≡ slotOf processLimit id → k < processLimit → n ≡ max (p .processCount) (k + 1) → withProcesses (set (p .processes) k x) n (p .arrival) (p .waiting) p ≡ created id x p
+  created-at x n e h en = kind-at processLimit id k e h (p .processes) x (p .processCount) n en (λ l m. withProcesses l m (p .arrival) (p .waiting) p) ∙ sym (created-in id x p (slot-in processLimit id k e h))
 
-pub event-at : (id k : ℕ) (p : Partition) (x : EventState) (n : ℕ) → k ≡ slotOf eventLimit id → k < eventLimit → n ≡ max (p .eventCount) (k + 1) → withEvents (set (p .events) k x) n p ≡ storedEvent id x p
-event-at id k p x n e h en =
-    rw en
-    (sym (event-in id x p (slot-in eventLimit id k e h)
-    ∙ ap₂ (λ (j m : ℕ). withEvents (set (p .events) j x) (max (p .eventCount) m) p) (slot-place eventLimit id k e h) (slot-id eventLimit id k e h)))
+  pub semaphore-at : (s : Semaphore) (n : ℕ) → k ≡ slotOf semaphoreLimit id → k < semaphoreLimit → n ≡ max (p .semaphoreCount) (k + 1) → withSemaphores (set (p .semaphores) k s) n p ≡ storedSemaphore id s p
+  semaphore-at s n e h en = kind-at semaphoreLimit id k e h (p .semaphores) s (p .semaphoreCount) n en (λ l m. withSemaphores l m p) ∙ sym (semaphore-in id s p (slot-in semaphoreLimit id k e h))
+
+  pub event-at : (x : EventState) (n : ℕ) → k ≡ slotOf eventLimit id → k < eventLimit → n ≡ max (p .eventCount) (k + 1) → withEvents (set (p .events) k x) n p ≡ storedEvent id x p
+  event-at x n e h en = kind-at eventLimit id k e h (p .events) x (p .eventCount) n en (λ l m. withEvents l m p) ∙ sym (event-in id x p (slot-in eventLimit id k e h))
+
+  pub buffer-at : (b : Buffer) (n : ℕ) → k ≡ slotOf bufferLimit id → k < bufferLimit → n ≡ max (p .bufferCount) (k + 1) → withBuffers (set (p .buffers) k b) n p ≡ storedBuffer id b p
+  buffer-at b n e h en = kind-at bufferLimit id k e h (p .buffers) b (p .bufferCount) n en (λ l m. withBuffers l m p) ∙ sym (buffer-in id b p (slot-in bufferLimit id k e h))
+
+  pub blackboard-at : (b : Blackboard) (n : ℕ) → k ≡ slotOf blackboardLimit id → k < blackboardLimit → n ≡ max (p .blackboardCount) (k + 1) → withBlackboards (set (p .blackboards) k b) n p ≡ storedBlackboard id b p
+  blackboard-at b n e h en = kind-at blackboardLimit id k e h (p .blackboards) b (p .blackboardCount) n en (λ l m. withBlackboards l m p) ∙ sym (blackboard-in id b p (slot-in blackboardLimit id k e h))
+
+  -- the messages of a buffer moved where they lie
+  pub moved-at : (a : QueueChange) (o : Buffer) (n : ℕ) → k ≡ slotOf bufferLimit id → k < bufferLimit → n ≡ max (p .bufferCount) (k + 1) → withBuffers (set (p .buffers) k (movedIn a (getD (p .buffers) k o))) n p ≡ storedBuffer id (movedIn a (buffer id p)) p
+  moved-at a o n e h en =
+      rw (set-default (movedIn a) (p .buffers) k o noBuffer)
+      (buffer-at (movedIn a (getD (p .buffers) k noBuffer)) n e h en ∙ ap (λ (b : Buffer). storedBuffer id (movedIn a b) p) (named-at bufferLimit id k e noBuffer (p .buffers) h))
 
 -- ---------------------------------------------------------------- two changes
 -- what is left of two changes after n of them, where c is the next and b the second

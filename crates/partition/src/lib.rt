@@ -5,11 +5,13 @@ ghost use mathlib.Core.Bool.{cond, _||_};
 ghost use lib.ListN.{length};
 ghost use lib.Dec.{eqb};
 ghost use Rattle.partition.specs.Places.{slotOf};
+ghost use Rattle.partition.specs.Waits.{servedWith};
 ghost use Rattle.machine.specs.Limits.{processLimit};
 ghost use Rattle.machine.specs.Ids.{members, idsOf, appended, removed, follow};
 ghost use Rattle.machine.specs.Process as Pr;
 ghost use Rattle.machine.specs.Process.{due, ready, onObject, ticked, entered};
-ghost use Rattle.machine.specs.Partition.{process, stored, arrivedLast, preferred, running, waiters, ended, endedAll, tickPartition, enteredNormal, soonestOf, noted, sooner, nothingCreated, storedEvent, created, applied, partitionAfter};
+ghost use Rattle.machine.specs.Partition.{process, stored, arrivedLast, preferred, running, waiters, changedAll, tickPartition, enteredNormal, soonestOf, noted, sooner, nothingCreated, storedEvent, storedBuffer, emptyBuffer, created, applied, partitionAfter};
+use machine::Buffer;
 use machine::Change;
 use machine::Choice;
 use machine::Context;
@@ -278,6 +280,21 @@ fn store_event(p: Partition, k: u32, e: EventState) -> Partition
     q
 }
 
+// Buffer k is created, with nothing in it.
+fn create_buffer(p: Partition, k: u32, name: u16, limit: u8) -> Partition
+    ensures { λ r. ⌜ r ≡ storedBuffer k (emptyBuffer name limit) p ⌝ }
+{
+    let i = slot(k, Module::BUFFERS);
+    if Module::BUFFERS <= i {
+        return p;
+    }
+    let b = Buffer::blank();
+    let mut q = p;
+    q.buffers[i] = Buffer { name, limit, ..b };
+    q.bufferCount = counted(p.bufferCount, i);
+    q
+}
+
 // Process id goes to the end of the arrival list.
 fn arrive_last(p: Partition, id: u8) -> Partition
     ensures { λ r. ⌜ r ≡ arrivedLast id p ⌝ }
@@ -290,24 +307,36 @@ fn arrive_last(p: Partition, id: u8) -> Partition
 }
 
 // ---------------------------------------------------------------- many records stored
-// The wait of process id ends with wake code 0.
-fn end_wait(p: Partition, id: u8) -> Partition
-    ensures { λ r. ⌜ r ≡ ended id p ⌝ }
+// The wait of a process ends with wake code 0; where one is handed over, the message stays in its record.
+fn serve(x: Process, hands: bool, m: u32) -> Process
+    ensures { λ r. ⌜ r ≡ servedWith hands m x ⌝ }
+{
+    if hands {
+        process::hand(x, m)
+    } else {
+        process::wait_ended(x, 0)
+    }
+}
+
+// The wait of process id ends.
+fn end_wait(p: Partition, id: u8, hands: bool, m: u32) -> Partition
+    ensures { λ r. ⌜ r ≡ stored id (servedWith hands m (process id p)) p ⌝ }
 {
     let n = wide(id);
     let x = process_at(p, n);
-    store(p, n, process::wait_ended(x, 0))
+    store(p, n, serve(x, hands, m))
 }
 
-fn end_waits(p: Partition, ids: Ids) -> Partition
-    ensures { λ r. ⌜ r ≡ endedAll (members ids) p ⌝ }
+// The waits of these processes end, one after the other.
+fn end_waits(p: Partition, ids: Ids, hands: bool, m: u32) -> Partition
+    ensures { λ r. ⌜ r ≡ changedAll (servedWith hands m) (members ids) p ⌝ }
 {
     let n = count(ids);
     let mut q = p;
     let mut i: usize = 0;
     while i < n {
         let id = ids.items[i];
-        q = end_wait(q, id);
+        q = end_wait(q, id, hands, m);
         i = i + 1;
     }
     q
@@ -422,7 +451,25 @@ fn change(p: Partition, a: Change, b: Change) -> Partition
                 }
             }
             Change::StoredEvent(k, e) => q = store_event(q, k, e),
-            Change::Ended(o) => q = end_waits(q, queue_of(q, o)),
+            Change::CreatedBuffer(k, name, limit) => q = create_buffer(q, k, name, limit),
+            Change::Moved(k, m) => {
+                let i = slot(k, Module::BUFFERS);
+                if i < Module::BUFFERS {
+                    let mut v = q.buffers[i];
+                    v.queue = messages::change(v.queue, m);
+                    q.buffers[i] = v;
+                    q.bufferCount = counted(q.bufferCount, i);
+                }
+            }
+            Change::StoredBlackboard(k, b) => {
+                let i = slot(k, Module::BLACKBOARDS);
+                if i < Module::BLACKBOARDS {
+                    q.blackboards[i] = b;
+                    q.blackboardCount = counted(q.blackboardCount, i);
+                }
+            }
+            Change::Ended(o) => q = end_waits(q, queue_of(q, o), false, 0),
+            Change::Handed(o, m) => q = end_waits(q, queue_of(q, o), true, m),
             Change::Entered(x) => q = enter_normal(q, x),
         }
         c = b;

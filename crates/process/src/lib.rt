@@ -1,7 +1,7 @@
 // A process by itself: times, waits, and what each rule makes of its record.
 ghost use mathlib.Core.Path.{_≡_};
 ghost use mathlib.Core.Bool.{cond};
-ghost use Rattle.machine.specs.Process.{createdProcess, capped, later, due, isNever, periodic, object, onObject, waitsForNothing, waitsForNormal, ready, withWake, withDeadline, withDelay, releasedAt, waitEnded, withSuspended, withCurrent, waitingFor, suspendedUntil, onlyMarked, woken, deadlineMissed, expired, ticked, begun, startedAperiodic, startedPeriodic, startRule, startedEarly, entered, stopped, resumed, waitingForRelease};
+ghost use Rattle.machine.specs.Process.{createdProcess, capped, later, due, isNever, periodic, object, carried, onObject, waitsForNothing, waitsForNormal, ready, withWake, withDeadline, withDelay, releasedAt, waitEnded, withSuspended, withCurrent, handed, waitingFor, suspendedUntil, onlyMarked, woken, deadlineMissed, expired, ticked, begun, startedAperiodic, startedPeriodic, startRule, startedEarly, entered, stopped, resumed, waitingForRelease};
 ghost use Rattle.machine.specs.Partition.{sooner};
 ghost use Rattle.machine.specs.Calls.{reaches};
 use machine::Context;
@@ -83,6 +83,9 @@ pub fn waits_for_nothing(w: Wait) -> bool
         Wait::Period => false,
         Wait::Semaphore(_) => false,
         Wait::Event(_) => false,
+        Wait::Sending(_, _) => false,
+        Wait::Receiving(_) => false,
+        Wait::Blackboard(_) => false,
     }
 }
 
@@ -97,6 +100,9 @@ pub fn is_for_normal(w: Wait) -> bool
         Wait::Period => false,
         Wait::Semaphore(_) => false,
         Wait::Event(_) => false,
+        Wait::Sending(_, _) => false,
+        Wait::Receiving(_) => false,
+        Wait::Blackboard(_) => false,
     }
 }
 
@@ -112,6 +118,28 @@ pub fn object_of(w: Wait) -> u16
         Wait::Period => 0,
         Wait::Semaphore(k) => 256 + k as u16,
         Wait::Event(k) => 512 + k as u16,
+        Wait::Sending(k, _) => 768 + k as u16,
+        Wait::Receiving(k) => 1024 + k as u16,
+        Wait::Blackboard(k) => 1280 + k as u16,
+    }
+}
+
+// A waiting sender's message, which is kept with its wait; 0 for none.
+pub fn carried_by(x: Process) -> u32
+    ensures { λ r. ⌜ r ≡ carried x ⌝ }
+{
+    let w = x.wait;
+    match w {
+        Wait::None => 0,
+        Wait::Normal => 0,
+        Wait::Delay => 0,
+        Wait::Timed => 0,
+        Wait::Period => 0,
+        Wait::Semaphore(_) => 0,
+        Wait::Event(_) => 0,
+        Wait::Sending(_, m) => m,
+        Wait::Receiving(_) => 0,
+        Wait::Blackboard(_) => 0,
     }
 }
 
@@ -166,6 +194,14 @@ pub fn wait_ended(x: Process, code: u8) -> Process
         wait: Wait::None,
         ..x
     }
+}
+
+// The wait ends with wake code 0, and this message is handed over.
+pub fn hand(x: Process, m: u32) -> Process
+    ensures { λ r. ⌜ r ≡ handed m x ⌝ }
+{
+    let y = wait_ended(x, 0);
+    Process { message: m, ..y }
 }
 
 pub fn with_suspended(x: Process, suspended: bool) -> Process
@@ -272,6 +308,7 @@ pub fn begin(x: Process, times: Times, wait: Wait) -> Process
         suspended: false,
         missed: false,
         code: 0,
+        message: x.message,
         started: true,
         wait,
     }

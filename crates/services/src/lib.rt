@@ -1,4 +1,4 @@
-// Calls 1 to 22 by number: the fields that each uses, and what it decides.
+// Calls 1 to 29 by number: the fields that each uses, and what it decides.
 ghost use mathlib.Core.Path.{_≡_};
 ghost use Rattle.machine.specs.Services.{serviceOf, called};
 use machine::Context;
@@ -35,6 +35,13 @@ pub fn fields_of(n: u32) -> u8
         20 => objects::WAIT_EVENT_FIELDS,
         21 => channels::WRITE_FIELDS,
         22 => channels::READ_FIELDS,
+        23 => buffers::CREATE_BUFFER_FIELDS,
+        24 => buffers::SEND_BUFFER_FIELDS,
+        25 => buffers::RECEIVE_BUFFER_FIELDS,
+        26 => blackboards::CREATE_BLACKBOARD_FIELDS,
+        27 => blackboards::SHOW_FIELDS,
+        28 => blackboards::READ_BLACKBOARD_FIELDS,
+        29 => blackboards::CLEAR_FIELDS,
         _ => 0,
     }
 }
@@ -48,6 +55,7 @@ pub fn call(p: Partition, c: Context, x: Port, n: u32, r: Request) -> Decision
     }
     let a = r.a;
     let b = r.b;
+    let third = r.c;
     let id = fields::number_of(a);
     match n {
         1 => calls::set_mode(p, c, a),
@@ -72,6 +80,13 @@ pub fn call(p: Partition, c: Context, x: Port, n: u32, r: Request) -> Decision
         20 => objects::wait_event(p, c, id, b),
         21 => channels::write_channel(c, x, b),
         22 => channels::read_channel(c, x),
+        23 => buffers::create_buffer(p, a, b),
+        24 => buffers::send_buffer(p, c, id, b, third),
+        25 => buffers::receive_buffer(p, c, id, b),
+        26 => blackboards::create_blackboard(p, a),
+        27 => blackboards::show_blackboard(p, id, b),
+        28 => blackboards::read_blackboard(p, c, id, b),
+        29 => blackboards::clear_blackboard(p, id),
         _ => Decision::Refused(13),
     }
 }

@@ -1,41 +1,33 @@
-use borrow.Author.Needs.{needs}
-use Prim.Native.Nat.{_-_, _≤_}
-use mathlib.Core.Path.{_≡_, refl, sym, _∙_}
+use Prim.Native.Nat.{_-_}
+use mathlib.Core.Path.{_≡_, refl}
 use native.Mathlib.Omega.{arith}
-use lib.ListN.{take, drop}
-use Rattle.machine.specs.Calls.{processNamed}
+use lib.ListN.{length}
+use borrow.Author.Needs.{needs}
 use Rattle.machine.specs.declared.Process.{Process}
+use Rattle.machine.specs.Limits.{processLimit}
 use Rattle.machine.specs.Process.{blankProcess}
-use Rattle.machine.proofs.Taken.{name-found, name-more, name-done}
+use Rattle.machine.proofs.Taken.{length-mapped}
+use Rattle.decisions.proofs.Names.{NotBefore, name-here, name-later, name-nowhere}
 use Rattle.calls.proofs.is_process_named.Statement.{statement}
 use Rattle.calls.proofs.is_process_named.Tie as tie
 
 abbrev Inv-loop : tie.InvT-loop
-Inv-loop name p n i₀ i = (i ≤ n) × (processNamed name (drop i (take (p .processCount) (p .processes))) ≡ processNamed name (take (p .processCount) (p .processes)))
+Inv-loop name p i₀ i = NotBefore (λ (x : Process). x .given .name) name (p .processes) (p .processCount) i
 
 abbrev μ-loop : tie.MeasureT-loop
-μ-loop name p n i₀ i = n - i
+μ-loop name p i₀ i = processLimit - i
 
-loop-holds : tie.Need-loop-holds Inv-loop μ-loop
-loop-holds c = (omega arith, refl)
-
-mul-x : tie.Need-mul-x Inv-loop μ-loop
-mul-x c = omega (arith, c .before .before .created .ensures .1)
-
-element-copy-out-x : tie.Need-element-copy-out-x Inv-loop μ-loop
-element-copy-out-x c = omega (arith, c .before .before .created .ensures .1)
+long : (c : tie.Start Inv-loop μ-loop) → length (c .args .t1 .processes) ≡ processLimit
+long c = search (needs, length-mapped)
 
 returns : tie.Need-returns Inv-loop μ-loop
-returns c = let a = c .before .before .before .before .before .before .before .before .args in sym (name-found (a .t1 .processes) (a .t1 .processCount) (c .before .before .before .before .before .before .loop .i) blankProcess (λ (x : Process). x .given .name) (a .name) (omega (arith, c .before .before .before .before .before .before .before .created .ensures .0)) (sym (c .before .is-number .ensures) ∙ c .if1 .taken)) ∙ c .before .before .before .before .before .before .loop .inv .1
-
-add-i : tie.Need-add-i Inv-loop μ-loop
-add-i c = omega (arith, c .before .before .before .before .before .before .before .created .ensures .1)
+returns c = name-here _ (c .before .before .before .before .before .loop .inv) _ (c .before .is-named-at .ensures) (omega (arith, long (c .before .before .before .before .before .before))) (c .if1 .taken)
 
 loop-again : tie.Need-loop-again Inv-loop μ-loop
-loop-again c = let a = c .before .before .before .before .before .before .before .before .args in (omega arith, sym (name-more (a .t1 .processes) (a .t1 .processCount) (c .before .before .before .before .before .before .loop .i) blankProcess (λ (x : Process). x .given .name) (a .name) (omega (arith, c .before .before .before .before .before .before .before .created .ensures .0)) (sym (c .before .is-number .ensures) ∙ c .if1 .left)) ∙ c .before .before .before .before .before .before .loop .inv .1)
+loop-again c = name-later _ (c .before .before .before .before .before .loop .inv) _ (c .before .is-named-at .ensures) (c .if1 .left)
 
 returns-2 : tie.Need-returns-2 Inv-loop μ-loop
-returns-2 c = let a = c .before .before .before .args in sym (name-done (a .t1 .processes) (a .t1 .processCount) (c .before .loop .i) blankProcess (λ (x : Process). x .given .name) (a .name) (omega (arith, c .before .before .created .ensures .0))) ∙ c .before .loop .inv .1
+returns-2 c = name-nowhere blankProcess (c .before .loop .inv) (omega (arith, long (c .before .before)))
 
 pub is-process-named-spec : {M : Type 1} → statement M
 is-process-named-spec =
@@ -43,14 +35,12 @@ is-process-named-spec =
     (tie.spec
     Inv-loop
     μ-loop
-    (λ _ _. tt)
-    loop-holds
-    mul-x
-    element-copy-out-x
+    (λ c. record { rest = refl })
+    (λ c. search needs)
     (λ c. search needs)
     (λ _ _. tt)
     returns
-    add-i
+    (λ c. omega arith)
     (λ c. omega arith)
     loop-again
     returns-2)

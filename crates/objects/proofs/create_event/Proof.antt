@@ -1,10 +1,7 @@
-use mathlib.Core.Path.{refl}
+use mathlib.Core.Path.{refl, sym, _∙_}
 use native.Mathlib.Omega.{arith}
-use borrow.Author.Tests.{not-false}
-use Rattle.machine.specs.declared.Decision.the-variants.{Refused}
 use Rattle.machine.specs.Objects.{createEvent}
-use Rattle.machine.proofs.Tests.{Passed}
-use Rattle.decisions.proofs.Laws.{refused-code, passed-code}
+use Rattle.decisions.proofs.Laws.{refused-code, passed-code, admitted-code}
 use Rattle.objects.proofs.Laws.{named-low}
 use borrow.Author.Needs.{needs}
 use Rattle.objects.proofs.create_event.Statement.{statement}
@@ -15,8 +12,7 @@ unfolding createEvent
 returns c = refused-code _ _ (rw (c .before .before .before .before .is-event-named .ensures, c .before .before .before .is-name .ensures) at (c .before .creation-code .ensures)) _ (c .if1 .taken)
 
 cast-t12 : tie.Need-cast-t12
-unfolding Passed
-cast-t12 c = omega (arith, c .number-of .ensures, named-low (c .before .before .before .before .before .before .before .args .name) (not-false _ (passed-code _ _ (rw (c .before .before .before .before .before .is-event-named .ensures, c .before .before .before .before .is-name .ensures) at (c .before .before .creation-code .ensures)) (Refused 0) refl (c .before .if1 .left) .1 .1 .1 .0)))
+cast-t12 c = omega (arith, c .number-of .ensures, named-low (c .before .before .before .before .before .before .before .args .name) (sym (c .before .before .before .before .is-name .ensures) ∙ admitted-code _ _ _ _ _ (c .before .before .creation-code .ensures) (c .before .if1 .left)))
 
 returns-2 : tie.Need-returns-2
 unfolding createEvent

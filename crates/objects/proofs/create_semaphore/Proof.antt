@@ -1,10 +1,7 @@
-use mathlib.Core.Path.{refl}
+use mathlib.Core.Path.{refl, sym, _∙_}
 use native.Mathlib.Omega.{arith}
-use borrow.Author.Tests.{not-false}
-use Rattle.machine.specs.declared.Decision.the-variants.{Refused}
 use Rattle.machine.specs.Objects.{createSemaphore}
-use Rattle.machine.proofs.Tests.{Passed}
-use Rattle.decisions.proofs.Laws.{refused-code, passed-code}
+use Rattle.decisions.proofs.Laws.{refused-code, passed-code, admitted-code}
 use Rattle.objects.proofs.Laws.{admitted}
 use borrow.Author.Needs.{needs}
 use Rattle.objects.proofs.create_semaphore.Statement.{statement}
@@ -15,16 +12,13 @@ unfolding createSemaphore
 returns c = refused-code _ _ (rw (c .before .before .before .before .is-semaphore-named .ensures, c .before .before .before .is-semaphore-admitted .ensures) at (c .before .creation-code .ensures)) _ (c .if1 .taken)
 
 cast-t15 : tie.Need-cast-t15
-unfolding Passed
-cast-t15 c = omega (arith, c .number-of .ensures, admitted (c .before .before .before .before .before .before .before .args .r) (not-false _ (passed-code _ _ (rw (c .before .before .before .before .before .is-semaphore-named .ensures, c .before .before .before .before .is-semaphore-admitted .ensures) at (c .before .before .creation-code .ensures)) (Refused 0) refl (c .before .if1 .left) .1 .1 .1 .0)) .name)
+cast-t15 c = omega (arith, c .number-of .ensures, admitted (c .before .before .before .before .before .before .before .args .r) (sym (c .before .before .before .before .is-semaphore-admitted .ensures) ∙ admitted-code _ _ _ _ _ (c .before .before .creation-code .ensures) (c .before .if1 .left)) .name)
 
 cast-t17 : tie.Need-cast-t17
-unfolding Passed
-cast-t17 c = omega (arith, c .number-of2 .ensures, admitted (c .before .before .before .before .before .before .before .before .args .r) (not-false _ (passed-code _ _ (rw (c .before .before .before .before .before .before .is-semaphore-named .ensures, c .before .before .before .before .before .is-semaphore-admitted .ensures) at (c .before .before .before .creation-code .ensures)) (Refused 0) refl (c .before .before .if1 .left) .1 .1 .1 .0)) .start)
+cast-t17 c = omega (arith, c .number-of2 .ensures, admitted (c .before .before .before .before .before .before .before .before .args .r) (sym (c .before .before .before .before .before .is-semaphore-admitted .ensures) ∙ admitted-code _ _ _ _ _ (c .before .before .before .creation-code .ensures) (c .before .before .if1 .left)) .start)
 
 cast-t19 : tie.Need-cast-t19
-unfolding Passed
-cast-t19 c = omega (arith, c .number-of3 .ensures, admitted (c .before .before .before .before .before .before .before .before .before .args .r) (not-false _ (passed-code _ _ (rw (c .before .before .before .before .before .before .before .is-semaphore-named .ensures, c .before .before .before .before .before .before .is-semaphore-admitted .ensures) at (c .before .before .before .before .creation-code .ensures)) (Refused 0) refl (c .before .before .before .if1 .left) .1 .1 .1 .0)) .max)
+cast-t19 c = omega (arith, c .number-of3 .ensures, admitted (c .before .before .before .before .before .before .before .before .before .args .r) (sym (c .before .before .before .before .before .before .is-semaphore-admitted .ensures) ∙ admitted-code _ _ _ _ _ (c .before .before .before .before .creation-code .ensures) (c .before .before .before .if1 .left)) .max)
 
 returns-2 : tie.Need-returns-2
 unfolding createSemaphore

@@ -1,9 +1,7 @@
 use mathlib.Core.Path.{sym, _∙_}
 use native.Mathlib.Omega.{arith}
 use borrow.Author.Tests.{eq-eqb, ne-eqb}
-use Rattle.machine.specs.Partition.{waiters}
 use Rattle.machine.proofs.Bounds.{known-id}
-use Rattle.machine.proofs.Lists.{members-of}
 use Rattle.machine.specs.Decisions.{checked}
 use Rattle.machine.specs.Objects.{signal}
 use Rattle.objects.proofs.signal_semaphore.Statement.{statement}
@@ -17,12 +15,12 @@ returns-2 : tie.Need-returns-2
 unfolding checked signal
 returns-2 c = rw (← c .before .before .before .before .is-unknown .ensures, c .before .before .before .if1 .left, ← c .before .before .semaphore-at .ensures, eq-eqb _ _ (c .if2 .taken))
 
-cast-t8 : tie.Need-cast-t8
-cast-t8 c = let h = known-id (c .before .before .before .before .before .args .k) (c .before .before .before .before .before .args .p .semaphoreCount) (sym (c .before .before .before .before .is-unknown .ensures) ∙ c .before .before .before .if1 .left) in omega (arith, h .1, c .before .before .before .before .before .good)
+cast-t7 : tie.Need-cast-t7
+cast-t7 c = let h = known-id (c .before .before .before .before .before .args .k) (c .before .before .before .before .before .args .p .semaphoreCount) (sym (c .before .before .before .before .is-unknown .ensures) ∙ c .before .before .before .if1 .left) in omega (arith, h .1, c .before .before .before .before .before .good)
 
 returns-3 : tie.Need-returns-3
 unfolding checked signal
-returns-3 c = rw (c .changed .ensures, c .before .signal-change .ensures, members-of (c .before .before .queue-of .result) (waiters (c .before .before .before .object-of .result) (c .before .before .before .before .before .before .before .before .before .args .p)) (c .before .before .queue-of .ensures), c .before .before .before .object-of .ensures, ← c .before .before .before .before .before .before .before .before .is-unknown .ensures, c .before .before .before .before .before .before .before .if1 .left, ← c .before .before .before .before .before .before .semaphore-at .ensures, ne-eqb _ _ (c .before .before .before .before .if2 .left))
+returns-3 c = rw (c .changed .ensures, c .before .signal-change .ensures, c .before .before .object-of .ensures, ← c .before .before .before .before .before .before .before .is-unknown .ensures, c .before .before .before .before .before .before .if1 .left, ← c .before .before .before .before .before .semaphore-at .ensures, ne-eqb _ _ (c .before .before .before .if2 .left))
 
 pub signal-semaphore-spec : {M : Type 1} → statement M
 signal-semaphore-spec =
@@ -32,8 +30,7 @@ signal-semaphore-spec =
     returns
     (λ _ _. tt)
     returns-2
-    cast-t8
-    (λ _ _. tt)
+    cast-t7
     (λ _ _. tt)
     (λ _ _. tt)
     (λ _ _. tt)

@@ -2,7 +2,8 @@ use mathlib.Core.Path.{refl, _∙_}
 use native.Mathlib.Omega.{arith}
 use Rattle.machine.specs.Decisions.{awaiting}
 use Rattle.machine.proofs.Tests.{Passed}
-use Rattle.objects.proofs.Laws.{by-code, short-known}
+use Rattle.decisions.proofs.Laws.{by-code}
+use Rattle.objects.proofs.Laws.{short-known}
 use Rattle.machine.specs.Objects.{waitEvent}
 use Rattle.objects.proofs.wait_event.Statement.{statement}
 use Rattle.objects.proofs.wait_event.Tie as tie

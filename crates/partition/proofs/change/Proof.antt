@@ -1,13 +1,13 @@
 use mathlib.Core.Logic.{⊎-elim}
-use Rattle.machine.specs.Limits.{processLimit, semaphoreLimit}
-use Rattle.machine.proofs.Bounds.{stored-out, semaphore-out}
+use Rattle.machine.specs.Limits.{processLimit, semaphoreLimit, bufferLimit, blackboardLimit}
+use Rattle.machine.proofs.Bounds.{stored-out, semaphore-out, buffer-out, blackboard-out}
 use Rattle.machine.proofs.Lists.{members-of}
 use Prim.Native.Nat.{_-_, _≤_}
 use mathlib.Core.Path.{_≡_, refl, sym, ap}
 use native.Mathlib.Omega.{arith}
 use borrow.Author.Needs.{needs}
 use Rattle.machine.specs.Partition.{applied, noted, waiters}
-use Rattle.partition.proofs.Laws.{left, left-more, left-done, stored-at, semaphore-at, slot-out}
+use Rattle.partition.proofs.Laws.{left, left-more, left-done, stored-at, semaphore-at, moved-at, blackboard-at, slot-out}
 use Rattle.partition.proofs.change.Statement.{statement}
 use Rattle.partition.proofs.change.Tie as tie
 
@@ -33,8 +33,14 @@ loop-again c =
     (⊎-elim (λ w. rw (w .6, w .1 .given .1) (semaphore-at _ _ q _ _ (w .3 .ensures) (w .4 .taken) (w .5 .ensures)))
     (⊎-elim (λ w. rw (w .5, w .1 .given .1) (sym (semaphore-out _ _ q (slot-out semaphoreLimit (w .1 .given .0 .0) _ (w .3 .ensures) (w .4 .left)))))
     (⊎-elim (λ w. rw (w .4, w .1 .given .1) (w .3 .ensures))
+    (⊎-elim (λ w. rw (w .4, w .1 .given .1) (w .3 .ensures))
+    (⊎-elim (λ w. rw (w .8, w .1 .given .1, w .6 .ensures) (moved-at _ _ q (w .1 .given .0 .1 .0) _ _ (w .3 .ensures) (w .4 .taken) (w .7 .ensures)))
+    (⊎-elim (λ w. rw (w .5, w .1 .given .1) (sym (buffer-out _ _ q (slot-out bufferLimit (w .1 .given .0 .0) _ (w .3 .ensures) (w .4 .left)))))
+    (⊎-elim (λ w. rw (w .6, w .1 .given .1) (blackboard-at _ _ q _ _ (w .3 .ensures) (w .4 .taken) (w .5 .ensures)))
+    (⊎-elim (λ w. rw (w .5, w .1 .given .1) (sym (blackboard-out _ _ q (slot-out blackboardLimit (w .1 .given .0 .0) _ (w .3 .ensures) (w .4 .left)))))
     (⊎-elim (λ w. rw (w .5, w .1 .given .1, w .4 .ensures, members-of (w .3 .result) (waiters (w .1 .given .0 .0) q) (w .3 .ensures)))
-    (λ w. rw (w .4, w .1 .given .1) (w .3 .ensures)))))))))) (c .match .came) in
+    (⊎-elim (λ w. rw (w .5, w .1 .given .1, w .4 .ensures, members-of (w .3 .result) (waiters (w .1 .given .0 .0) q) (w .3 .ensures)))
+    (λ w. rw (w .4, w .1 .given .1) (w .3 .ensures)))))))))))))))) (c .match .came) in
     (omega arith, left-more (l .n) (l .c) (c .before .before .before .args .b) q (c .match .q) _ (omega arith) same (l .inv .1))
 
 returns : tie.Need-returns Inv-loop μ-loop
@@ -49,7 +55,7 @@ change-spec =
     loop-holds
     (λ c. search needs)
     (λ c. search needs)
-    (λ c κs. tt)
+    (λ _ _. tt)
     (λ c. search needs)
     (λ c. search needs)
     (λ c. search needs)
@@ -57,23 +63,41 @@ change-spec =
     (λ c κs. search needs)
     (λ c κs. search needs)
     (λ c. search needs)
-    (λ c κs. tt)
+    (λ _ _. tt)
     (λ c. search needs)
-    (λ c κs. tt)
+    (λ _ _. tt)
     (λ c. search needs)
-    (λ c κs. tt)
+    (λ _ _. tt)
     (λ c. search needs)
     (λ c. search needs)
     (λ c κs. search needs)
     (λ c. search needs)
-    (λ c κs. tt)
+    (λ _ _. tt)
     (λ c. search needs)
-    (λ c κs. tt)
-    (λ c κs. tt)
+    (λ _ _. tt)
     (λ c. search needs)
-    (λ c κs. tt)
+    (λ _ _. tt)
+    (λ c. search needs)
+    (λ c. search needs)
+    (λ _ _. tt)
+    (λ c. search needs)
+    (λ c. search needs)
+    (λ c κs. search needs)
+    (λ c. search needs)
+    (λ _ _. tt)
+    (λ c. search needs)
+    (λ c. search needs)
+    (λ c κs. search needs)
+    (λ c. search needs)
+    (λ _ _. tt)
+    (λ _ _. tt)
+    (λ c. search needs)
+    (λ _ _. tt)
+    (λ _ _. tt)
+    (λ c. search needs)
+    (λ _ _. tt)
     (λ c. omega arith)
     (λ c. omega arith)
     loop-again
-    (λ c κs. tt)
+    (λ _ _. tt)
     returns)

@@ -10,7 +10,7 @@ returns : tie.Need-returns
 returns c = sym (created-out _ _ _ (slot-out processLimit (c .before .before .args .id) _ (c .before .slot .ensures) (c .if1 .taken)))
 
 returns-2 : tie.Need-returns-2
-returns-2 c = created-at _ _ (c .before .before .before .args .p) _ (c .before .before .slot .ensures) _ (c .before .if1 .left) (c .counted .ensures)
+returns-2 c = created-at _ _ (c .before .before .before .args .p) _ _ (c .before .before .slot .ensures) (c .before .if1 .left) (c .counted .ensures)
 
 pub create-spec : {M : Type 1} → statement M
 create-spec =

@@ -98,8 +98,36 @@ unfolding checked callDecision services
 returns-23 c = rw (← c .before .before .before .before .has-no-caller .ensures, c .before .before .before .if1 .left, c .before .match .keys22, c .read-channel .ensures)
 
 returns-24 : tie.Need-returns-24
+unfolding checked callDecision services
+returns-24 c = rw (← c .before .before .before .before .has-no-caller .ensures, c .before .before .before .if1 .left, c .before .match .keys23, c .create-buffer .ensures)
+
+returns-25 : tie.Need-returns-25
+unfolding checked callDecision services
+returns-25 c = rw (← c .before .before .before .before .has-no-caller .ensures, c .before .before .before .if1 .left, c .before .match .keys24, c .send-buffer .ensures, c .before .before .number-of .ensures)
+
+returns-26 : tie.Need-returns-26
+unfolding checked callDecision services
+returns-26 c = rw (← c .before .before .before .before .has-no-caller .ensures, c .before .before .before .if1 .left, c .before .match .keys25, c .receive-buffer .ensures, c .before .before .number-of .ensures)
+
+returns-27 : tie.Need-returns-27
+unfolding checked callDecision services
+returns-27 c = rw (← c .before .before .before .before .has-no-caller .ensures, c .before .before .before .if1 .left, c .before .match .keys26, c .create-blackboard .ensures)
+
+returns-28 : tie.Need-returns-28
+unfolding checked callDecision services
+returns-28 c = rw (← c .before .before .before .before .has-no-caller .ensures, c .before .before .before .if1 .left, c .before .match .keys27, c .show-blackboard .ensures, c .before .before .number-of .ensures)
+
+returns-29 : tie.Need-returns-29
+unfolding checked callDecision services
+returns-29 c = rw (← c .before .before .before .before .has-no-caller .ensures, c .before .before .before .if1 .left, c .before .match .keys28, c .read-blackboard .ensures, c .before .before .number-of .ensures)
+
+returns-30 : tie.Need-returns-30
+unfolding checked callDecision services
+returns-30 c = rw (← c .before .before .before .before .has-no-caller .ensures, c .before .before .before .if1 .left, c .before .match .keys29, c .clear-blackboard .ensures, c .before .before .number-of .ensures)
+
+returns-31 : tie.Need-returns-31
 unfolding checked callDecision NoneTo
-returns-24 c = rw (← c .before .before .before .has-no-caller .ensures, c .before .before .if1 .left, callDecision, none-left (c .before .before .before .before .args .n) (c .match .rest))
+returns-31 c = rw (← c .before .before .before .has-no-caller .ensures, c .before .before .if1 .left, callDecision, none-left (c .before .before .before .before .args .n) (c .match .rest))
 
 pub call-spec : {M : Type 1} → statement M
 call-spec =
@@ -107,6 +135,13 @@ call-spec =
     (tie.spec
     (λ c κs. search needs)
     returns
+    (λ c κs. search needs)
+    (λ c κs. search needs)
+    (λ c κs. search needs)
+    (λ c κs. search needs)
+    (λ c κs. search needs)
+    (λ c κs. search needs)
+    (λ c κs. search needs)
     (λ c κs. search needs)
     (λ c κs. search needs)
     (λ c κs. search needs)
@@ -152,4 +187,11 @@ call-spec =
     returns-21
     returns-22
     returns-23
-    returns-24)
+    returns-24
+    returns-25
+    returns-26
+    returns-27
+    returns-28
+    returns-29
+    returns-30
+    returns-31)

@@ -92,8 +92,36 @@ unfolding services
 returns-22 c = rw (c .match .keys22)
 
 returns-23 : tie.Need-returns-23
+unfolding services
+returns-23 c = rw (c .match .keys23)
+
+returns-24 : tie.Need-returns-24
+unfolding services
+returns-24 c = rw (c .match .keys24)
+
+returns-25 : tie.Need-returns-25
+unfolding services
+returns-25 c = rw (c .match .keys25)
+
+returns-26 : tie.Need-returns-26
+unfolding services
+returns-26 c = rw (c .match .keys26)
+
+returns-27 : tie.Need-returns-27
+unfolding services
+returns-27 c = rw (c .match .keys27)
+
+returns-28 : tie.Need-returns-28
+unfolding services
+returns-28 c = rw (c .match .keys28)
+
+returns-29 : tie.Need-returns-29
+unfolding services
+returns-29 c = rw (c .match .keys29)
+
+returns-30 : tie.Need-returns-30
 unfolding NoneTo
-returns-23 c = rw (none-left (c .before .args .n) (c .match .rest))
+returns-30 c = rw (none-left (c .before .args .n) (c .match .rest))
 
 pub fields-of-spec : {M : Type 1} → statement M
 fields-of-spec =
@@ -121,4 +149,11 @@ fields-of-spec =
     returns-20
     returns-21
     returns-22
-    returns-23)
+    returns-23
+    returns-24
+    returns-25
+    returns-26
+    returns-27
+    returns-28
+    returns-29
+    returns-30)

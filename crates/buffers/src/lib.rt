@@ -1,0 +1,161 @@
+// Buffers of a partition: calls 23 to 25. Beside each call: how many of the fields a, b, c, e it uses.
+ghost use mathlib.Core.Path.{_≡_};
+ghost use mathlib.Core.Bool.{_&&_};
+ghost use lib.ListN.{take};
+ghost use Rattle.machine.specs.Limits.{messageLimit};
+ghost use Rattle.machine.specs.Fields.{isName, isMessage, isTimeout, between};
+ghost use Rattle.machine.specs.Partition.{buffer, waiters};
+ghost use Rattle.machine.specs.Buffers.{bufferNamed, createBuffer, hasRoom, sent, sendBuffer, received, receiveBuffer};
+use machine::Buffer;
+use machine::Change;
+use machine::Context;
+use machine::Decision;
+use machine::Field;
+use machine::Module;
+use machine::Partition;
+use machine::QueueChange;
+use machine::Wait;
+
+pub fn buffer_at(p: Partition, k: u32) -> Buffer
+    ensures { λ r. ⌜ r ≡ buffer k p ⌝ }
+{
+    let i = partition::slot(k, Module::BUFFERS);
+    if Module::BUFFERS <= i {
+        return Buffer::blank();
+    }
+    p.buffers[i]
+}
+
+pub fn is_buffer_named(p: Partition, name: Field) -> bool
+    ensures { λ r. ⌜ r ≡ bufferNamed name (take (p .bufferCount) (p .buffers)) ⌝ }
+{
+    let mut i: usize = 0;
+    while i < Module::BUFFERS {
+        let x = p.buffers[i];
+        if decisions::is_named_at(name, x.name, i, p.bufferCount) {
+            return true;
+        }
+        i = i + 1;
+    }
+    false
+}
+
+// What CREATE_BUFFER admits.
+fn is_buffer_admitted(name: Field, limit: Field) -> bool
+    ensures { λ r. ⌜ r ≡ isName name && between 1 messageLimit limit ⌝ }
+{
+    if fields::is_name(name) {
+        fields::is_between(limit, 1, Module::MESSAGES as u32)
+    } else {
+        false
+    }
+}
+
+pub const CREATE_BUFFER_FIELDS: u8 = 2;
+
+// 23 CREATE_BUFFER
+pub fn create_buffer(p: Partition, name: Field, limit: Field) -> Decision
+    ensures { λ r. ⌜ r ≡ createBuffer name limit p ⌝ }
+{
+    let n = p.bufferCount as u32;
+    let code = decisions::creation_code(
+        Module::BUFFERS as u32 <= n,
+        is_buffer_named(p, name),
+        is_buffer_admitted(name, limit),
+        p.mode == 3,
+    );
+    if code != 0 {
+        return Decision::Refused(code);
+    }
+    let k = n + 1;
+    let change = Change::CreatedBuffer(
+        k,
+        fields::number_of(name) as u16,
+        fields::number_of(limit) as u8,
+    );
+    Decision::Changed(change, Change::Nothing, k)
+}
+
+// Whether there is room for one more message.
+fn has_room(b: Buffer) -> bool
+    ensures { λ r. ⌜ r ≡ hasRoom b ⌝ }
+{
+    let q = b.queue;
+    q.len < b.limit
+}
+
+// What SEND_BUFFER admits.
+fn is_sending_admitted(m: Field, a: Field) -> bool
+    ensures { λ r. ⌜ r ≡ isMessage m && isTimeout a ⌝ }
+{
+    if fields::is_message(m) {
+        fields::is_timeout(a)
+    } else {
+        false
+    }
+}
+
+// The message goes to the first receiver that waits for this object; none: it joins the buffer's messages.
+fn send_change(p: Partition, k: u32, o: u16, m: u32) -> Change
+    ensures { λ r. ⌜ r ≡ sent (waiters o p) k m p ⌝ }
+{
+    let q = partition::queue_of(p, o);
+    if q.len == 0 {
+        return Change::Moved(k, QueueChange::Put(m));
+    }
+    let id = q.items[0] as u32;
+    let x = partition::process_at(p, id);
+    Change::Stored(id, process::hand(x, m))
+}
+
+pub const SEND_BUFFER_FIELDS: u8 = 3;
+
+// 24 SEND_BUFFER
+pub fn send_buffer(p: Partition, c: Context, k: u32, m: Field, a: Field) -> Decision
+    ensures { λ r. ⌜ r ≡ sendBuffer c k m a p ⌝ }
+{
+    let unknown = decisions::is_unknown(k, p.bufferCount);
+    let code = decisions::wait_code(unknown, p.mode != 3, is_sending_admitted(m, a));
+    let id = objects::short_id(k);
+    let o = process::object_of(Wait::Receiving(id));
+    let n = fields::number_of(m);
+    let success = decisions::changed(send_change(p, k, o, n));
+    let passes = has_room(buffer_at(p, k));
+    objects::awaited(p, c, code, a, passes, success, Wait::Sending(id, n))
+}
+
+// The first message leaves; where a sender waits for this object, the first one's message is let in and its wait ends.
+fn receive_first(p: Partition, k: u32, o: u16) -> Decision
+    ensures { λ r. ⌜ r ≡ received (waiters o p) k p ⌝ }
+{
+    let b = buffer_at(p, k);
+    let first = messages::first_of(b.queue);
+    let q = partition::queue_of(p, o);
+    if q.len == 0 {
+        return Decision::Changed(Change::Moved(k, QueueChange::Taken), Change::Nothing, first);
+    }
+    let id = q.items[0] as u32;
+    let x = partition::process_at(p, id);
+    let m = process::carried_by(x);
+    Decision::Changed(
+        Change::Moved(k, QueueChange::Exchanged(m)),
+        Change::Stored(id, process::wait_ended(x, 0)),
+        first,
+    )
+}
+
+pub const RECEIVE_BUFFER_FIELDS: u8 = 2;
+
+// 25 RECEIVE_BUFFER
+pub fn receive_buffer(p: Partition, c: Context, k: u32, a: Field) -> Decision
+    ensures { λ r. ⌜ r ≡ receiveBuffer c k a p ⌝ }
+{
+    let unknown = decisions::is_unknown(k, p.bufferCount);
+    let code = decisions::wait_code(unknown, p.mode != 3, fields::is_timeout(a));
+    let id = objects::short_id(k);
+    let o = process::object_of(Wait::Sending(id, 0));
+    let success = receive_first(p, k, o);
+    let b = buffer_at(p, k);
+    let q = b.queue;
+    objects::awaited(p, c, code, a, 0 < q.len, success, Wait::Receiving(id))
+}

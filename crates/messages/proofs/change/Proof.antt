@@ -1,0 +1,27 @@
+use borrow.Author.Needs.{needs}
+use Rattle.messages.proofs.change.Statement.{statement}
+use Rattle.messages.proofs.change.Tie as tie
+
+returns : tie.Need-returns
+returns c = rw (c .put .ensures, c .before .before .a .given .1)
+
+returns-2 : tie.Need-returns-2
+returns-2 c = rw (c .take-first .ensures, c .before .enum-told .given .1)
+
+returns-3 : tie.Need-returns-3
+returns-3 c = rw (c .put2 .ensures, c .before .take-first2 .ensures, c .before .before .before .a2 .given .1)
+
+pub change-spec : {M : Type 1} → statement M
+change-spec =
+    tie.close
+    (tie.spec
+    (λ c. search needs)
+    (λ _ _. tt)
+    (λ c. search needs)
+    (λ _ _. tt)
+    (λ c. search needs)
+    (λ _ _. tt)
+    (λ _ _. tt)
+    returns
+    returns-2
+    returns-3)

@@ -1,0 +1,24 @@
+use borrow.Author.Tests.{lt-ltb, le-ltb}
+use Rattle.machine.specs.Messages.{put}
+use borrow.Author.Needs.{needs}
+use Rattle.messages.proofs.put.Statement.{statement}
+use Rattle.messages.proofs.put.Tie as tie
+
+returns : tie.Need-returns
+unfolding put
+returns c = rw (lt-ltb _ _ (c .if1 .taken))
+
+returns-2 : tie.Need-returns-2
+unfolding put
+returns-2 c = rw (le-ltb _ _ (c .if1 .left))
+
+pub put-spec : {M : Type 1} → statement M
+put-spec =
+    tie.close
+    (tie.spec
+    (λ c. search needs)
+    (λ c. search needs)
+    (λ c. search needs)
+    (λ c. search needs)
+    returns
+    returns-2)

@@ -103,9 +103,9 @@ fn send_change(p: Partition, k: u32, o: u16, m: u32) -> Change
     if q.len == 0 {
         return Change::Moved(k, QueueChange::Put(m));
     }
-    let id = q.items[0] as u32;
-    let x = partition::process_at(p, id);
-    Change::Stored(id, process::hand(x, m))
+    let receiver = q.items[0] as u32;
+    let x = partition::process_at(p, receiver);
+    Change::Stored(receiver, process::hand(x, m))
 }
 
 pub const SEND_BUFFER_FIELDS: u8 = 3;
@@ -134,12 +134,12 @@ fn receive_first(p: Partition, k: u32, o: u16) -> Decision
     if q.len == 0 {
         return Decision::Changed(Change::Moved(k, QueueChange::Taken), Change::Nothing, first);
     }
-    let id = q.items[0] as u32;
-    let x = partition::process_at(p, id);
+    let sender = q.items[0] as u32;
+    let x = partition::process_at(p, sender);
     let m = process::carried_by(x);
     Decision::Changed(
         Change::Moved(k, QueueChange::Exchanged(m)),
-        Change::Stored(id, process::wait_ended(x, 0)),
+        Change::Stored(sender, process::wait_ended(x, 0)),
         first,
     )
 }

@@ -1,12 +1,15 @@
 // Reads a table and event lines from standard input and prints the whole record at the end, one item a line
 // (tests/separate/README.md, "The dump format").
 use libc::STDOUT_FILENO;
+use machine::Blackboard;
+use machine::Buffer;
 use machine::EventState;
 use machine::Ids;
 use machine::Message;
 use machine::Module;
 use machine::Partition;
 use machine::Process;
+use machine::Queue;
 use machine::Semaphore;
 use machine::Time;
 use machine::Times;
@@ -17,8 +20,13 @@ enum Item {
     Process,
     Semaphore,
     Event,
+    Buffer,
+    Blackboard,
     SemaphoreQueue,
     EventQueue,
+    SendingQueue,
+    ReceivingQueue,
+    BlackboardQueue,
 }
 
 // ---------------------------------------------------------------- words
@@ -71,7 +79,16 @@ fn print_wait(w: Wait) {
         Wait::Period => print(b" wait period\n"),
         Wait::Semaphore(id) => print_object(b" wait semaphore ", id),
         Wait::Event(id) => print_object(b" wait event ", id),
+        Wait::Sending(id, m) => print_sending(id, m),
+        Wait::Receiving(id) => print_object(b" wait receiving ", id),
+        Wait::Blackboard(id) => print_object(b" wait blackboard ", id),
     }
+}
+
+fn print_sending(id: u8, m: u32) {
+    print_number(b" wait sending ", id as u32);
+    print_number(b" ", m);
+    print(b"\n");
 }
 
 fn print_object(label: &[u8], id: u8) {
@@ -95,6 +112,7 @@ fn print_process(id: u8, x: Process) {
     print_flag(b" suspended ", x.suspended);
     print_flag(b" missed ", x.missed);
     print_number(b" code ", x.code as u32);
+    print_number(b" message ", x.message);
     print_flag(b" started ", x.started);
     print_wait(wait);
 }
@@ -112,6 +130,45 @@ fn print_event(id: u8, v: EventState) {
     print_number(b"event ", id as u32);
     print_number(b" name ", v.name as u32);
     print_flag(b" up ", v.up);
+    print(b"\n");
+}
+
+fn print_held(q: Queue, i: u8) {
+    let at = i as usize;
+    if at < Module::MESSAGES {
+        print_number(b" ", q.items[at]);
+    }
+}
+
+fn print_messages(q: Queue) {
+    let n = q.len;
+    for i in 0..n {
+        print_held(q, i);
+    }
+    print(b"\n");
+}
+
+fn print_buffer(id: u8, b: Buffer) {
+    let q = b.queue;
+    print_number(b"buffer ", id as u32);
+    print_number(b" name ", b.name as u32);
+    print_number(b" limit ", b.limit as u32);
+    print(b" messages");
+    print_messages(q);
+}
+
+fn print_shown(b: Blackboard) {
+    if b.shown {
+        print_number(b" message ", b.message);
+    } else {
+        print_never(b" message ");
+    }
+}
+
+fn print_blackboard(id: u8, b: Blackboard) {
+    print_number(b"blackboard ", id as u32);
+    print_number(b" name ", b.name as u32);
+    print_shown(b);
     print(b"\n");
 }
 
@@ -141,8 +198,13 @@ fn print_item(p: Partition, item: Item, id: u8) {
         Item::Process => print_process(id, partition::process_at(p, id as u32)),
         Item::Semaphore => print_semaphore(id, objects::semaphore_at(p, id as u32)),
         Item::Event => print_event(id, objects::event_at(p, id as u32)),
+        Item::Buffer => print_buffer(id, buffers::buffer_at(p, id as u32)),
+        Item::Blackboard => print_blackboard(id, blackboards::blackboard_at(p, id as u32)),
         Item::SemaphoreQueue => print_queue(b"waiters semaphore ", id, p, Wait::Semaphore(id)),
         Item::EventQueue => print_queue(b"waiters event ", id, p, Wait::Event(id)),
+        Item::SendingQueue => print_queue(b"waiters sending ", id, p, Wait::Sending(id, 0)),
+        Item::ReceivingQueue => print_queue(b"waiters receiving ", id, p, Wait::Receiving(id)),
+        Item::BlackboardQueue => print_queue(b"waiters blackboard ", id, p, Wait::Blackboard(id)),
     }
 }
 
@@ -159,14 +221,21 @@ fn print_partition(k: u32, p: Partition) {
     print_number(b" processes ", p.processCount as u32);
     print_number(b" semaphores ", p.semaphoreCount as u32);
     print_number(b" events ", p.eventCount as u32);
+    print_number(b" buffers ", p.bufferCount as u32);
+    print_number(b" blackboards ", p.blackboardCount as u32);
     print(b"\n");
     print_items(p, Item::Process, p.processCount);
     print_items(p, Item::Semaphore, p.semaphoreCount);
     print_items(p, Item::Event, p.eventCount);
+    print_items(p, Item::Buffer, p.bufferCount);
+    print_items(p, Item::Blackboard, p.blackboardCount);
     print(b"arrival");
     print_ids(arrival);
     print_items(p, Item::SemaphoreQueue, p.semaphoreCount);
     print_items(p, Item::EventQueue, p.eventCount);
+    print_items(p, Item::SendingQueue, p.bufferCount);
+    print_items(p, Item::ReceivingQueue, p.bufferCount);
+    print_items(p, Item::BlackboardQueue, p.blackboardCount);
 }
 
 // ---------------------------------------------------------------- the module

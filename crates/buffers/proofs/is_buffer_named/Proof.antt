@@ -32,15 +32,4 @@ returns-2 c = name-nowhere noBuffer (c .before .loop .inv) (omega (arith, long (
 pub is-buffer-named-spec : {M : Type 1} → statement M
 is-buffer-named-spec =
     tie.close
-    (tie.spec
-    Inv-loop
-    μ-loop
-    (λ c. record { rest = refl })
-    (λ c. search needs)
-    (λ c. search needs)
-    (λ _ _. tt)
-    returns
-    (λ c. omega arith)
-    (λ c. omega arith)
-    loop-again
-    returns-2)
+    (tie.spec Inv-loop μ-loop (λ c. record { rest = refl }) (λ c. search needs) (λ c. search needs) (λ _ _. tt) returns (λ c. omega arith) (λ c. omega arith) loop-again returns-2)

@@ -19,9 +19,6 @@ use Rattle.machine.specs.Decisions.{checked, replyOf, blocked, startMode
 use Rattle.machine.specs.Calls.{setMode, createProcess, start, stop, stopSelf, suspend, suspendSelf, timedWait, periodicWait, resume, setPriority, getStatus}
 use Rattle.machine.specs.Objects.{createSemaphore, waitSemaphore, signal, createEvent, setEvent, resetEvent, waitEvent}
 use Rattle.machine.specs.Channels.{channelChecks, write, read}
-use Rattle.machine.specs.declared.Wait.the-variants.{Sending}
-use Rattle.machine.specs.Process.{object}
-use Rattle.machine.specs.Partition.{waiters}
 use Rattle.machine.specs.Buffers.{createBuffer, sendBuffer, received, receiveBuffer}
 use Rattle.machine.specs.Blackboards.{createBlackboard, show, readBlackboard, clear}
 use Rattle.machine.specs.Services.{callDecision}
@@ -82,10 +79,10 @@ module _ (x : Port) (n : ℕ) where
   unfolding setMode createProcess start stop stopSelf suspend suspendSelf timedWait periodicWait resume setPriority getStatus createSemaphore createEvent blocked waitSemaphore waitEvent signal setEvent resetEvent write read channelChecks createBuffer sendBuffer receiveBuffer createBlackboard show readBlackboard clear Passed
   call-body c r p lo hi =
       by-call c x n r p (Body x n)
-      (λ a. in-body _ _ refl (λ _. by-test (Body x n) (isNumber 3 a) (λ _. fine tt) (λ _. fine tt)))
+      (λ _. in-body _ _ refl (λ _. by-test (Body x n) (isNumber 3 (r .a)) (λ _. fine tt) (λ _. fine tt)))
       (λ _. in-body _ _ refl (λ _. fine tt))
       (λ _ _. in-body _ _ refl (λ _. fine tt))
-      (λ _. in-body _ _ refl (λ _. fine tt))
+      (λ _ _. in-body _ _ refl (λ _. fine tt))
       (in-body _ _ refl (λ _. fine tt))
       (λ _. in-body _ _ refl (λ _. fine tt))
       (λ a. in-body _ _ refl (λ _. by-test (Body x n) (isNumber 0 a) (λ _. fine tt) (λ _. fine tt)))
@@ -104,8 +101,8 @@ module _ (x : Port) (n : ℕ) where
       (λ e _. in-body _ _ refl (λ h. in-body _ _ refl (λ _. fine (record { call = e; place = refl; there = not-false _ (h .0); source = eqb-true _ _ (not-false _ (h .1 .1 .0)) }))))
       (in-body _ _ refl (λ _. in-body _ _ refl (λ _. fine tt)))
       (λ _ _. in-body _ _ refl (λ _. fine tt))
-      (λ _ _ _. in-wait c _ _ _ _ _ _ _ p refl (fine tt))
-      (λ k _. in-wait c _ _ _ _ _ _ _ p refl (takes (waiters (object (Sending k 0)) p) k p))
+      (λ _. in-wait c _ _ _ _ _ _ _ p refl (fine tt))
+      (λ _. in-wait c _ _ _ _ _ _ _ p refl (takes _ _ p))
       (λ _. in-body _ _ refl (λ _. fine tt))
       (λ _ _. in-body _ _ refl (λ _. fine tt))
       (λ _ _. in-wait c _ _ _ _ _ _ _ p refl (fine tt))

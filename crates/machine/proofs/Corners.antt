@@ -16,32 +16,36 @@ use Rattle.machine.specs.declared.Module.{Module}
 use Rattle.machine.specs.declared.Window.{Window}
 use Rattle.machine.specs.declared.Semaphore.{Semaphore as SemaphoreT}
 use Rattle.machine.specs.declared.EventState.{EventState}
+use Rattle.machine.specs.declared.Buffer.{Buffer}
+use Rattle.machine.specs.declared.Blackboard.{Blackboard as BlackboardT}
 use Rattle.machine.specs.declared.Event.{Event as EventT}
-use Rattle.machine.specs.declared.Change.the-variants.{Nothing, Stored, Created, Last, StoredSemaphore, StoredEvent}
+use Rattle.machine.specs.declared.Change.the-variants.{Nothing, Stored, Created, Last, StoredSemaphore, StoredEvent, CreatedBuffer, StoredBlackboard}
 use Rattle.machine.specs.declared.Decision.the-variants.{Refused, Unchanged, Blocked, Changed}
 use Rattle.machine.specs.declared.Field.{Field}
 use Rattle.machine.specs.declared.Field.the-variants.{Number, MinusOne}
 use Rattle.machine.specs.declared.Time.{Time}
 use Rattle.machine.specs.declared.Time.the-variants.{Never, At}
-use Rattle.machine.specs.Limits.{processLimit, semaphoreLimit, eventLimit, nameLimit, priorityLimit, valueLimit, durationLimit, greatestTime}
+use Rattle.machine.specs.Limits.{processLimit, semaphoreLimit, eventLimit, bufferLimit, messageLimit, blackboardLimit, nameLimit, priorityLimit, valueLimit, durationLimit, greatestTime}
 use Rattle.machine.specs.Fields.{field, between, isMinusOne, timeOf}
 use Rattle.machine.specs.Ids.{removed, follow}
 use Rattle.machine.specs.Process.{blankProcess, createdProcess, periodic, ready, onObject, withCurrent, startRule, startedEarly, nextRelease}
-use Rattle.machine.specs.Partition.{normalMode, process, semaphore, event, byId, noSemaphore, noEvent, running, withProcesses, stored, created, applied}
+use Rattle.machine.specs.Partition.{normalMode, process, semaphore, event, buffer, blackboard, byId, noSemaphore, noEvent, noBuffer, noBlackboard, emptyBuffer, running, withProcesses, stored, created, applied}
 use Rattle.machine.specs.Windows.{windows, noWindow, firstFlagged, releaseAfter, flaggedFor}
 use Rattle.machine.specs.Decisions as D
 use Rattle.machine.specs.Calls as C
 use Rattle.machine.specs.Objects as Ob
+use Rattle.machine.specs.Buffers as Bu
+use Rattle.machine.specs.Blackboards as Bb
 use Rattle.machine.specs.Services as Sv
 use Rattle.machine.specs.Module as M
 use Rattle.machine.specs.Channels as Ch
 use Rattle.machine.specs.Places as Pl
 use Rattle.machine.specs.Step as St
-use Rattle.machine.specs.Valid.{Between, NotAfter, SoundGiven, SoundPeriod, SoundCapacity, ListedIn, settingOf, plainLater, Valid, SoundModule}
+use Rattle.machine.specs.Valid.{Numbered, Between, NotAfter, SoundGiven, SoundPeriod, SoundCapacity, ListedIn, settingOf, plainLater, Valid, SoundModule}
 use Rattle.machine.specs.Replay.{timeNumber}
-use Rattle.machine.specs.Starred.{own, callBy, Gives, Refuses, Puts, Calling, withProcess, without, atEnd, withNew, withNewSemaphore, withNewEvent, withSemaphoreAt, Room, NewProcess, NewSemaphore, NewEvent, createBy, given, FirstFlagged, releaseAt, awaitsRelease, awaitsNext, awaitsNormal, Corners}
+use Rattle.machine.specs.Starred.{own, callBy, Gives, Refuses, Puts, Calling, withProcess, without, atEnd, withNew, withNewSemaphore, withNewEvent, withNewBuffer, withNewBlackboard, withSemaphoreAt, Room, NewProcess, NewSemaphore, NewEvent, NewBuffer, NewBlackboard, createBy, given, FirstFlagged, releaseAt, awaitsRelease, awaitsNext, awaitsNormal, Corners}
 use Rattle.machine.proofs.Tests.{and-left, and-right}
-use Rattle.machine.proofs.Bounds.{not-so, within-in, named-in, created-in, semaphore-in, event-in, stored-in}
+use Rattle.machine.proofs.Bounds.{not-so, within-in, named-in, created-in, semaphore-in, event-in, buffer-in, blackboard-in, stored-in}
 use Rattle.machine.proofs.Keeping.{stored-listed, process-stored}
 use Rattle.machine.proofs.Kept.{running-caller}
 use Rattle.machine.proofs.Quiet.{follow-same}
@@ -140,6 +144,15 @@ module _ (m : Module) (k : ℕ) (u : SoundModule m) (h : Calling m k) where
   pub small : (id count : ℕ) → Between 1 count id → count ≤ processLimit → id ≤ greatestTime
   small id count b few = omega (arith, b .1)
 
+  -- creating, for every kind: neither 4 nor 1 nor 5
+  creation-open : {A : Type 0} (nameOf : A → ℕ) (name : ℕ) (d : A) (limit : ℕ) (l : List A) (n : ℕ) → Numbered limit d l n → Room p n limit → ((id : ℕ) → Between 1 n id → nameOf (byId limit d id l) ≡ name → ⊥)
+      → (leb limit n ≡ false) × (D.nameTaken nameOf (Number name) (take n l) ≡ false) × (normalMode p ≡ false)
+  creation-open nameOf name d limit l n s room new = (lt-leb limit n (room .less), new-name nameOf name d limit n l (s .few) (s .size) new, normal-not (room .early))
+
+  -- the next of a list stored
+  next-stored : (n : ℕ) → (n + 1 - 1 ≡ n) × (max n (n + 1) ≡ n + 1)
+  next-stored n = (omega arith, omega arith)
+
   -- a name above the limit is new
   past-name : NewProcess p (nameLimit + 1)
   past-name id b e = omega (arith, v .eachProcess id b .lasting .given .name .1)
@@ -151,8 +164,8 @@ module _ (m : Module) (k : ℕ) (u : SoundModule m) (h : Calling m k) where
         ≡ cond b (Changed (Created (p .processCount + 1) (createdProcess (given name priority (timeOf f) (timeOf e)))) Nothing (p .processCount + 1)) (Refused 3)
     unfolding C.createProcess D.checked
     create-is b q =
-        let n = new-name (λ (x : Process). x .given .name) name blankProcess processLimit (p .processCount) (p .processes) (v .lists .numbered .few) (v .lists .numbered .size) new in
-        go b q (lt-leb processLimit (p .processCount) (room .less)) n (normal-not (room .early))
+        let o = creation-open (λ (x : Process). x .given .name) name blankProcess processLimit (p .processes) (p .processCount) (v .lists .numbered) room new in
+        go b q (o .0) (o .1) (o .2)
       where
         go : (b : Bool) → C.admissible (St.contextOf m k) (asked m k u h 2 (Number name) (Number priority) f e) ≡ b → leb processLimit (p .processCount) ≡ false → C.processNamed (Number name) (take (p .processCount) (p .processes)) ≡ false → normalMode p ≡ false
             → C.createProcess (St.contextOf m k) (asked m k u h 2 (Number name) (Number priority) f e) p
@@ -229,19 +242,17 @@ module _ (m : Module) (k : ℕ) (u : SoundModule m) (h : Calling m k) where
       × Refuses m (callBy k 14 (pos (nameLimit + 1)) (pos start) (pos max) (pos 0)) 3
   unfolding Sv.callDecision Sv.services Pl.strayField Ob.createSemaphore D.checked
   semaphore-name-corner start max room new b s =
-      let o = v .objects in
-      let full : leb semaphoreLimit (p .semaphoreCount) ≡ false = lt-leb semaphoreLimit (p .semaphoreCount) (room .less) in
-      let fresh : (name : ℕ) → NewSemaphore p name → Ob.semaphoreNamed (Number name) (take (p .semaphoreCount) (p .semaphores)) ≡ false = λ name f. new-name (λ (x : SemaphoreT). x .name) name noSemaphore semaphoreLimit (p .semaphoreCount) (p .semaphores) (o .semaphores .numbered .few) (o .semaphores .numbered .size) f in
+      let o = v .objects .semaphores in
       let n = p .semaphoreCount + 1 in
       let x : SemaphoreT = record { name = nameLimit; value = start; max = max } in
-      let e : n - 1 ≡ p .semaphoreCount = omega arith in
-      let t : Prim.Native.Nat.max (p .semaphoreCount) n ≡ n = omega arith in (
+      let e = next-stored (p .semaphoreCount) in
+      let w = creation-open (λ (x : SemaphoreT). x .name) nameLimit noSemaphore semaphoreLimit (p .semaphores) (p .semaphoreCount) (o .numbered) room new in
+      let z = creation-open (λ (x : SemaphoreT). x .name) (nameLimit + 1) noSemaphore semaphoreLimit (p .semaphores) (p .semaphoreCount) (o .numbered) room (λ j r q. omega (arith, o .each j r .name .1)) in (
         puts-is m k _ _
             (gives m k u h 14 (pos nameLimit) (pos start) (pos max) (pos 0) (omega arith) (omega arith) refl (Changed (StoredSemaphore n x) Nothing n)
-            (rw (field-number start (omega (arith, b .1)), field-number max (omega (arith, b .1)), full, fresh nameLimit new, le-leb 1 max (b .0), le-leb max valueLimit (b .1), from-zero start, le-leb start max s, normal-not (room .early))))
-            (semaphore-in n x p (within-in semaphoreLimit n (omega arith) (omega (arith, room .less))) ∙ rw (e, t)),
-        gives m k u h 14 (pos (nameLimit + 1)) (pos start) (pos max) (pos 0) (omega arith) (omega arith) refl (Refused 3)
-            (rw (full, fresh (nameLimit + 1) (λ j r q. omega (arith, o .semaphores .each j r .name .1)))),
+            (rw (field-number start (omega (arith, b .1)), field-number max (omega (arith, b .1)), le-leb 1 max (b .0), le-leb max valueLimit (b .1), from-zero start, le-leb start max s) (rw (w .0, w .1, w .2))))
+            (semaphore-in n x p (within-in semaphoreLimit n (omega arith) (omega (arith, room .less))) ∙ rw (e .0, e .1)),
+        gives m k u h 14 (pos (nameLimit + 1)) (pos start) (pos max) (pos 0) (omega arith) (omega arith) refl (Refused 3) (rw (z .0, z .1)),
       )
 
   event-name-corner : Room p (p .eventCount) eventLimit → NewEvent p nameLimit
@@ -249,19 +260,50 @@ module _ (m : Module) (k : ℕ) (u : SoundModule m) (h : Calling m k) where
       × Refuses m (callBy k 17 (pos (nameLimit + 1)) (pos 0) (pos 0) (pos 0)) 3
   unfolding Sv.callDecision Sv.services Pl.strayField Ob.createEvent D.checked
   event-name-corner room new =
-      let o = v .objects in
-      let full : leb eventLimit (p .eventCount) ≡ false = lt-leb eventLimit (p .eventCount) (room .less) in
-      let fresh : (name : ℕ) → NewEvent p name → Ob.eventNamed (Number name) (take (p .eventCount) (p .events)) ≡ false = λ name f. new-name (λ (x : EventState). x .name) name noEvent eventLimit (p .eventCount) (p .events) (o .events .numbered .few) (o .events .numbered .size) f in
+      let o = v .objects .events in
       let n = p .eventCount + 1 in
       let x : EventState = record { name = nameLimit; up = false } in
-      let e : n - 1 ≡ p .eventCount = omega arith in
-      let t : max (p .eventCount) n ≡ n = omega arith in (
+      let e = next-stored (p .eventCount) in
+      let w = creation-open (λ (x : EventState). x .name) nameLimit noEvent eventLimit (p .events) (p .eventCount) (o .numbered) room new in
+      let z = creation-open (λ (x : EventState). x .name) (nameLimit + 1) noEvent eventLimit (p .events) (p .eventCount) (o .numbered) room (λ j r q. omega (arith, o .each j r .name .1)) in (
         puts-is m k _ _
-            (gives m k u h 17 (pos nameLimit) (pos 0) (pos 0) (pos 0) (omega arith) (omega arith) refl (Changed (StoredEvent n x) Nothing n)
-            (rw (full, fresh nameLimit new, normal-not (room .early))))
-            (event-in n x p (within-in eventLimit n (omega arith) (omega (arith, room .less))) ∙ rw (e, t)),
-        gives m k u h 17 (pos (nameLimit + 1)) (pos 0) (pos 0) (pos 0) (omega arith) (omega arith) refl (Refused 3)
-            (rw (full, fresh (nameLimit + 1) (λ j r q. omega (arith, o .events .each j r .name .1)))),
+            (gives m k u h 17 (pos nameLimit) (pos 0) (pos 0) (pos 0) (omega arith) (omega arith) refl (Changed (StoredEvent n x) Nothing n) (rw (w .0, w .1, w .2)))
+            (event-in n x p (within-in eventLimit n (omega arith) (omega (arith, room .less))) ∙ rw (e .0, e .1)),
+        gives m k u h 17 (pos (nameLimit + 1)) (pos 0) (pos 0) (pos 0) (omega arith) (omega arith) refl (Refused 3) (rw (z .0, z .1)),
+      )
+
+  buffer-name-corner : (limit : ℕ) → Room p (p .bufferCount) bufferLimit → NewBuffer p nameLimit → Between 1 messageLimit limit
+      → Puts m (callBy k 23 (pos nameLimit) (pos limit) (pos 0) (pos 0)) 0 (p .bufferCount + 1) k (withNewBuffer nameLimit limit p)
+      × Refuses m (callBy k 23 (pos (nameLimit + 1)) (pos limit) (pos 0) (pos 0)) 3
+  unfolding Sv.callDecision Sv.services Pl.strayField Bu.createBuffer D.checked
+  buffer-name-corner limit room new b =
+      let o = v .objects .buffers in
+      let n = p .bufferCount + 1 in
+      let e = next-stored (p .bufferCount) in
+      let w = creation-open (λ (x : Buffer). x .name) nameLimit noBuffer bufferLimit (p .buffers) (p .bufferCount) (o .numbered) room new in
+      let z = creation-open (λ (x : Buffer). x .name) (nameLimit + 1) noBuffer bufferLimit (p .buffers) (p .bufferCount) (o .numbered) room (λ j r q. omega (arith, o .each j r .name .1)) in (
+        puts-is m k _ _
+            (gives m k u h 23 (pos nameLimit) (pos limit) (pos 0) (pos 0) (omega arith) (omega arith) refl (Changed (CreatedBuffer n nameLimit limit) Nothing n)
+            (rw (field-number limit (omega (arith, b .1)), le-leb 1 limit (b .0), le-leb limit messageLimit (b .1)) (rw (w .0, w .1, w .2))))
+            (buffer-in n (emptyBuffer nameLimit limit) p (within-in bufferLimit n (omega arith) (omega (arith, room .less))) ∙ rw (e .0, e .1)),
+        gives m k u h 23 (pos (nameLimit + 1)) (pos limit) (pos 0) (pos 0) (omega arith) (omega arith) refl (Refused 3) (rw (z .0, z .1)),
+      )
+
+  blackboard-name-corner : Room p (p .blackboardCount) blackboardLimit → NewBlackboard p nameLimit
+      → Puts m (callBy k 26 (pos nameLimit) (pos 0) (pos 0) (pos 0)) 0 (p .blackboardCount + 1) k (withNewBlackboard nameLimit p)
+      × Refuses m (callBy k 26 (pos (nameLimit + 1)) (pos 0) (pos 0) (pos 0)) 3
+  unfolding Sv.callDecision Sv.services Pl.strayField Bb.createBlackboard D.checked
+  blackboard-name-corner room new =
+      let o = v .objects .blackboards in
+      let n = p .blackboardCount + 1 in
+      let x : BlackboardT = record { name = nameLimit; shown = false; message = 0 } in
+      let e = next-stored (p .blackboardCount) in
+      let w = creation-open (λ (x : BlackboardT). x .name) nameLimit noBlackboard blackboardLimit (p .blackboards) (p .blackboardCount) (o .numbered) room new in
+      let z = creation-open (λ (x : BlackboardT). x .name) (nameLimit + 1) noBlackboard blackboardLimit (p .blackboards) (p .blackboardCount) (o .numbered) room (λ j r q. omega (arith, o .each j r .name .1)) in (
+        puts-is m k _ _
+            (gives m k u h 26 (pos nameLimit) (pos 0) (pos 0) (pos 0) (omega arith) (omega arith) refl (Changed (StoredBlackboard n x) Nothing n) (rw (w .0, w .1, w .2)))
+            (blackboard-in n x p (within-in blackboardLimit n (omega arith) (omega (arith, room .less))) ∙ rw (e .0, e .1)),
+        gives m k u h 26 (pos (nameLimit + 1)) (pos 0) (pos 0) (pos 0) (omega arith) (omega arith) refl (Refused 3) (rw (z .0, z .1)),
       )
 
   -- ---------------------------------------------------------------- priorities, delays
@@ -444,6 +486,29 @@ module _ (m : Module) (k : ℕ) (u : SoundModule m) (h : Calling m k) where
         λ z. gives m k u h 20 (pos j) (pos 0) (pos 0) (pos 0) (omega arith) (omega arith) refl (Unchanged 0 (At 0)) (rw (i, q, normal-is n, z)),
       )
 
+  send-buffer-corner : (j x : ℕ) → p .mode ≡ 3 → Between 1 (p .bufferCount) j → x ≤ durationLimit → buffer j p .queue .len ≡ buffer j p .limit → Refuses m (callBy k 24 (pos j) (pos x) (pos 0) (pos 0)) 2
+  unfolding Sv.callDecision Sv.services Pl.strayField Bu.sendBuffer D.awaiting D.queued D.checked
+  send-buffer-corner j x n b ok full =
+      gives m k u h 24 (pos j) (pos x) (pos 0) (pos 0) (omega arith) (omega arith) refl (Refused 2)
+      (rw (field-number j (omega (arith, b .1, v .objects .buffers .numbered .few)), field-number x (omega arith), known j (p .bufferCount) b, normal-is n, from-zero x, le-leb x durationLimit ok, le-ltb (buffer j p .queue .len) (buffer j p .limit) (omega (arith, full))))
+
+  receive-buffer-corner : (j : ℕ) → p .mode ≡ 3 → Between 1 (p .bufferCount) j → buffer j p .queue .len ≡ 0 → Refuses m (callBy k 25 (pos j) (pos 0) (pos 0) (pos 0)) 2
+  unfolding Sv.callDecision Sv.services Pl.strayField Bu.receiveBuffer D.awaiting D.queued D.checked
+  receive-buffer-corner j n b none =
+      gives m k u h 25 (pos j) (pos 0) (pos 0) (pos 0) (omega arith) (omega arith) refl (Refused 2)
+      (rw (field-number j (omega (arith, b .1, v .objects .buffers .numbered .few)), known j (p .bufferCount) b, normal-is n, none))
+
+  read-blackboard-corner : (j : ℕ) → p .mode ≡ 3 → Between 1 (p .blackboardCount) j
+      → (blackboard j p .shown ≡ false → Refuses m (callBy k 28 (pos j) (pos 0) (pos 0) (pos 0)) 2)
+      × (blackboard j p .shown ≡ true → Gives m (callBy k 28 (pos j) (pos 0) (pos 0) (pos 0)) 0 (blackboard j p .message) (At 0) m)
+  unfolding Sv.callDecision Sv.services Pl.strayField Bb.readBlackboard D.awaiting D.queued D.checked
+  read-blackboard-corner j n b =
+      let i = field-number j (omega (arith, b .1, v .objects .blackboards .numbered .few)) in
+      let q = known j (p .blackboardCount) b in (
+        λ z. gives m k u h 28 (pos j) (pos 0) (pos 0) (pos 0) (omega arith) (omega arith) refl (Refused 2) (rw (i, q, normal-is n, z)),
+        λ z. gives m k u h 28 (pos j) (pos 0) (pos 0) (pos 0) (omega arith) (omega arith) refl (Unchanged (blackboard j p .message) (At 0)) (rw (i, q, normal-is n, z)),
+      )
+
   -- ---------------------------------------------------------------- SIGNAL, PERIODIC_WAIT
   signal-corner : (j : ℕ) → Between 1 (p .semaphoreCount) j → semaphore j p .value ≡ semaphore j p .max → Refuses m (callBy k 16 (pos j) (pos 0) (pos 0) (pos 0)) 1
   unfolding Sv.callDecision Sv.services Pl.strayField Ob.signal D.checked
@@ -478,6 +543,8 @@ corners m k h = record {
   processName = process-name-corner m k (calling-sound m k h) h;
   semaphoreName = semaphore-name-corner m k (calling-sound m k h) h;
   eventName = event-name-corner m k (calling-sound m k h) h;
+  bufferName = buffer-name-corner m k (calling-sound m k h) h;
+  blackboardName = blackboard-name-corner m k (calling-sound m k h) h;
   period = period-corner m k (calling-sound m k h) h;
   delayEarly = delay-early-corner m k (calling-sound m k h) h;
   delayNormal = delay-normal-corner m k (calling-sound m k h) h;
@@ -486,6 +553,9 @@ corners m k h = record {
   timedWait = timed-wait-corner m k (calling-sound m k h) h;
   waitSemaphore = wait-semaphore-corner m k (calling-sound m k h) h;
   waitEvent = wait-event-corner m k (calling-sound m k h) h;
+  sendBuffer = send-buffer-corner m k (calling-sound m k h) h;
+  receiveBuffer = receive-buffer-corner m k (calling-sound m k h) h;
+  readBlackboard = read-blackboard-corner m k (calling-sound m k h) h;
   signal = signal-corner m k (calling-sound m k h) h;
   periodicWait = periodic-wait-corner m k (calling-sound m k h) h;
 }

@@ -44,12 +44,12 @@ by-place P (x ∷ l) d k f zero n e g = let h : n ≡ k = omega arith in rw h (f
 by-place P (x ∷ l) d k f (suc i) n e g = by-place P l d (suc k) (f .1) i n (omega arith) (λ h. g (omega arith))
 
 -- ---------------------------------------------------------------- calls
--- what is shown of each call, whatever fields it is given; 3 and 4 are one
+-- what is shown of each call, whatever fields it is given but for 1, 24 and 25; 3 and 4 are one
 module _ (c : Context) (x : Port) (n : ℕ) (r : Request) (p : Partition) (P : Decision → Type 0)
-    (f1 : (a : Field) → P (setMode c a p))
+    (f1 : n ≡ 1 → P (setMode c (r .a) p))
     (f2 : (r : Request) → P (createProcess c r p))
     (f3 : (id : ℕ) (delay : Field) → P (start c id delay p))
-    (f5 : (id : ℕ) → P (stop c id p))
+    (f5 : n ≡ 5 → (id : ℕ) → P (stop c id p))
     (f6 : P (stopSelf c p))
     (f7 : (id : ℕ) → P (suspend c id p))
     (f8 : (a : Field) → P (suspendSelf c a p))
@@ -68,8 +68,8 @@ module _ (c : Context) (x : Port) (n : ℕ) (r : Request) (p : Partition) (P : D
     (f21 : n ≡ 21 → (a : Field) → P (write c x a))
     (f22 : P (read c x))
     (f23 : (name limit : Field) → P (createBuffer name limit p))
-    (f24 : (k : ℕ) (m a : Field) → P (sendBuffer c k m a p))
-    (f25 : (k : ℕ) (a : Field) → P (receiveBuffer c k a p))
+    (f24 : n ≡ 24 → P (sendBuffer c (numberOf (r .a)) (r .b) (r .c) p))
+    (f25 : n ≡ 25 → P (receiveBuffer c (numberOf (r .a)) (r .b) p))
     (f26 : (name : Field) → P (createBlackboard name p))
     (f27 : (k : ℕ) (m : Field) → P (show k m p))
     (f28 : (k : ℕ) (a : Field) → P (readBlackboard c k a p))
@@ -77,7 +77,7 @@ module _ (c : Context) (x : Port) (n : ℕ) (r : Request) (p : Partition) (P : D
     (other : (1 ≤ n → n ≤ callLimit → ⊥) → P (Refused 13)) where
   each : Each (λ j (s : Service). n ≡ j → P (s .decides c x r p)) 1 services
   unfolding Each services
-  each = (λ _. f1 _, (λ _. f2 _, (λ _. f3 _ _, (λ _. f3 _ _, (λ _. f5 _, (λ _. f6, (λ _. f7 _, (λ _. f8 _, (λ _. f9 _, (λ _. f10, (λ _. f11 _, (λ _. f12 _ _, (λ _. f13 _, (λ _. f14 _, (λ _. f15 _ _, (λ _. f16 _, (λ _. f17 _, (λ _. f18 _, (λ _. f19 _, (λ _. f20 _ _, (λ e. f21 e _, (λ _. f22, (λ _. f23 _ _, (λ _. f24 _ _ _, (λ _. f25 _ _, (λ _. f26 _, (λ _. f27 _ _, (λ _. f28 _ _, (λ _. f29 _, tt)))))))))))))))))))))))))))))
+  each = (λ e. f1 e, (λ _. f2 _, (λ _. f3 _ _, (λ _. f3 _ _, (λ e. f5 e _, (λ _. f6, (λ _. f7 _, (λ _. f8 _, (λ _. f9 _, (λ _. f10, (λ _. f11 _, (λ _. f12 _ _, (λ _. f13 _, (λ _. f14 _, (λ _. f15 _ _, (λ _. f16 _, (λ _. f17 _, (λ _. f18 _, (λ _. f19 _, (λ _. f20 _ _, (λ e. f21 e _, (λ _. f22, (λ _. f23 _ _, (λ e. f24 e, (λ e. f25 e, (λ _. f26 _, (λ _. f27 _ _, (λ _. f28 _ _, (λ _. f29 _, tt)))))))))))))))))))))))))))))
 
   all : length services ≡ callLimit
   unfolding services

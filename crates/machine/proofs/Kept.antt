@@ -20,8 +20,7 @@ use Rattle.machine.specs.declared.Decision.{Decision}
 use Rattle.machine.specs.declared.Decision.the-variants.{Refused, Unchanged, Ticked, Blocked, Changed, Restarted, Written}
 use Rattle.machine.specs.declared.Semaphore.{Semaphore as SemaphoreT}
 use Rattle.machine.specs.declared.EventState.{EventState}
-use Rattle.machine.specs.declared.QueueChange.{QueueChange}
-use Rattle.machine.specs.declared.QueueChange.the-variants.{Put, Taken, Exchanged}
+use Rattle.machine.specs.declared.QueueChange.the-variants.{Exchanged}
 use Rattle.machine.specs.declared.Buffer.{Buffer}
 use Rattle.machine.specs.declared.Blackboard.{Blackboard as BlackboardT}
 use Rattle.machine.specs.declared.Request.{Request}
@@ -331,11 +330,11 @@ module _ (c : Context) (p : Partition) (v : Valid (c .frame) (c .time) p) (k : S
   in-checks : (l : List (Bool × ℕ)) (d : Decision) → (Passed l → SoundDecision c p d) → Sound c p (checked Refused l d)
   in-checks l d f = by-checks (Sound c p) Refused l d (λ n. record { is = tt }) (λ h. record { is = f h })
 
-  normal-caller : normalMode p ≡ true → Caller (c .caller) p
+  pub normal-caller : normalMode p ≡ true → Caller (c .caller) p
   normal-caller n = rw (k .caller) (running-caller p (v .lists) (λ z. not-both _ (rw (n, z)) (or-false-parts (idleMode p) _ (k .calls) .1)))
 
   -- not a start mode
-  in-normal : startMode p ≡ false → normalMode p ≡ true
+  pub in-normal : startMode p ≡ false → normalMode p ≡ true
   in-normal h = not-false (normalMode p) h
 
   -- DORMANT or periodic is refused
@@ -614,10 +613,10 @@ module _ (c : Context) (p : Partition) (v : Valid (c .frame) (c .time) p) (k : S
 pub call-sound : (c : Context) (x : Port) (n : ℕ) (r : Request) (p : Partition) → Valid (c .frame) (c .time) p → SoundContext c p → SoundMessage (c .time) (x .message) → Sound c p (callDecision c x n r p)
 call-sound c x n r p v k s =
     by-call c x n r p (Sound c p)
-    (set-mode-sound c p v k)
+    (λ _. set-mode-sound c p v k _)
     (create-process-sound c p v k)
     (start-sound-in c p v k)
-    (stop-sound c p v k)
+    (λ _. stop-sound c p v k)
     (stop-self-sound c p v k)
     (suspend-sound c p v k)
     (suspend-self-sound c p v k)
@@ -636,8 +635,8 @@ call-sound c x n r p v k s =
     (λ _. write-sound c p v k x)
     (read-sound c p v k x s)
     (create-buffer-sound c p v k)
-    (send-sound c p v k)
-    (receive-sound c p v k)
+    (λ _. send-sound c p v k _ _ _)
+    (λ _. receive-sound c p v k _ _)
     (create-blackboard-sound c p v k)
     (show-sound c p v k)
     (read-blackboard-sound c p v k)

@@ -33,3 +33,8 @@ pub mod Replays
 pub mod Applied
 pub mod Starts
 pub mod Queues
+pub mod Available
+pub mod Moves
+pub mod Senders
+pub mod Account
+pub mod Families

@@ -125,3 +125,6 @@ first-of q (x ∷ l) e h = rw e
 
 pub members-of : (q : Ids) (l : List ℕ) → q ≡ idsOf l → members q ≡ l
 members-of q l e = rw e (members-idsOf l)
+
+pub cons-not : (x : ℕ) (l : List ℕ) → x ∷ l ≡ [] → ⊥
+cons-not x l e = let z : suc (length l) ≡ 0 = ap length e in omega arith

@@ -1,5 +1,5 @@
 -- Queues of messages: what each move makes of a sound one. Assumes nothing.
-use Prim.Native.Nat.{ℕ, zero, suc, _+_, _-_, _≤_, _<_}
+use Prim.Native.Nat.{ℕ, zero, suc, _+_, _-_, _≤_}
 use mathlib.Core.Path.{_≡_, refl, ap, sym, _∙_}
 use mathlib.Core.List.{List, [], _∷_, _++_}
 use native.Mathlib.Omega.{arith}
@@ -10,8 +10,8 @@ use Rattle.machine.specs.declared.QueueChange.the-variants.{Put, Taken, 
 use Rattle.machine.specs.declared.Buffer.{Buffer}
 use Rattle.machine.specs.Limits.{messageLimit, durationLimit}
 use Rattle.machine.specs.Messages.{held, queueOf, put, taken, first, moved}
-use Rattle.machine.specs.Partition.{movedIn, emptyBuffer}
-use Rattle.machine.specs.Valid.{AllMessages, SoundQueue, SoundBuffer, SoundMove, Between}
+use Rattle.machine.specs.Partition.{movedIn}
+use Rattle.machine.specs.Valid.{AllMessages, SoundQueue, SoundBuffer, SoundMove}
 use Rattle.machine.specs.Plain.{plainMoved, plainMovedIn}
 use Rattle.machine.proofs.Lists.{put-queueOf, held-queueOf}
 
@@ -75,6 +75,16 @@ module _ (b : Buffer) (s : SoundBuffer b) where
 
   pub moved-held : (a : QueueChange) → SoundMove b a → held (moved a (b .queue)) ≡ plainMoved a l
   moved-held a h = ap held (moved-plain a h) ∙ held-queueOf (plainMoved a l)
+
+  -- how many there are then
+  pub put-length : (m : ℕ) → SoundMove b (Put m) → moved (Put m) (b .queue) .len ≡ b .queue .len + 1
+  put-length m h = ap (λ (q : Queue). q .len) (moved-plain (Put m) h) ∙ omega (arith, length-append l (m ∷ []), size)
+
+  pub taken-length : SoundMove b Taken → moved Taken (b .queue) .len + 1 ≡ b .queue .len
+  taken-length h = ap (λ (q : Queue). q .len + 1) (moved-plain Taken h) ∙ taken-size h
+
+  pub exchanged-length : (m : ℕ) → SoundMove b (Exchanged m) → moved (Exchanged m) (b .queue) .len ≡ b .queue .len
+  exchanged-length m h = ap (λ (q : Queue). q .len) (moved-plain (Exchanged m) h) ∙ omega (arith, length-append (drop 1 l) (m ∷ []), taken-size (h .0))
 
   plain-few : (a : QueueChange) → SoundMove b a → length (plainMoved a l) ≤ b .limit
   plain-few (Put m) h = omega (arith, length-append l (m ∷ []), size, h .0)

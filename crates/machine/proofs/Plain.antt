@@ -406,7 +406,7 @@ module _ (m : Module) (s : SoundModule m) (e : EventT) where
     uncapped = λ i h. numbers-plain (after .table .frame) (after .t) (part after i) (after-sound .eachPartition i (rw (decided-table m (numberOf (r .partition)) (decision m r)) h)) (after-sound .time);
   }
 
-empty-refused : (e : EventT) → step emptyModule e ≡ record { state = emptyModule; answer = record { code = 13; value = 0; extra = At 0; t = 0; current = 0; running = 0 } }
+pub empty-refused : (e : EventT) → step emptyModule e ≡ record { state = emptyModule; answer = record { code = 13; value = 0; extra = At 0; t = 0; current = 0; running = 0 } }
 unfolding step decision checked emptyModule emptyTable lookup
 empty-refused e = by-test (λ (n : ℕ). _≡_ {A = Stepped} (record { state = emptyModule; answer = record { code = 13; value = 0; extra = At 0; t = 0; current = 0; running = n } }) (record { state = emptyModule; answer = record { code = 13; value = 0; extra = At 0; t = 0; current = 0; running = 0 } })) (sees (requestOf e) 0) (λ _. refl) (λ _. refl)
 

@@ -34,7 +34,7 @@ use Rattle.machine.specs.declared.Module.{Module}
 use Rattle.machine.specs.Limits.{callLimit, processLimit, semaphoreLimit, eventLimit, bufferLimit, blackboardLimit, durationLimit, greatestValue}
 use Rattle.machine.specs.Ids.{members, keptIf, kept, other}
 use Rattle.machine.specs.Process.{Class, classOf, objectIn, forNormal, blankProcess, later, object, onObject, periodic, ready, due, waitsForNothing, waitsForNormal, onlyMarked, served, handed, waitingFor, woken, expired, ticked, entered, startRule, startedEarly}
-use Rattle.machine.specs.Partition.{within, byId, nothingCreated, idleMode, normalMode, noSemaphore, noEvent, process, semaphore, event, stored, created, storedSemaphore, storedEvent, storedBuffer, storedBlackboard, emptyBuffer, movedIn, buffer, arrivedLast, changedAll, waitsOn, waiters, running, applied, tickPartition, enteredNormal, withMode, withEvents, each, noted}
+use Rattle.machine.specs.Partition.{within, nothingCreated, idleMode, normalMode, noSemaphore, noEvent, process, semaphore, event, stored, created, storedSemaphore, storedEvent, storedBuffer, storedBlackboard, emptyBuffer, movedIn, buffer, arrivedLast, changedAll, waitsOn, waiters, running, applied, tickPartition, enteredNormal, withMode, withEvents, each, noted}
 use Rattle.machine.specs.Fields.{field, requestOf, isNumber, isTimeout, numberOf, timeOf}
 use Rattle.machine.specs.Decisions.{checked, replyOf, changed, unchanged, unknown, blocked, startMode, queued, awaiting}
 use Rattle.machine.specs.Calls.{setMode, createProcess, start, stop, stopSelf, suspend, suspendSelf, timedWait, periodicWait, resume, setPriority, getStatus}
@@ -50,21 +50,37 @@ use Rattle.machine.specs.Step.{contextOf, decision, moduleAfter, step}
 use Rattle.machine.specs.Valid.{Between, contains, Distinct, ListedIn, Valid, SoundChange, SoundDecision, SoundModule, Reached, plainTick}
 use Rattle.machine.specs.Plain.{plainById, followed, plainStored}
 use Rattle.machine.specs.Starred.{own, callBy, Calling, Gives, WaitEnded}
-use Rattle.machine.specs.Queues.{Queue, KeepsOrEnds, NotExchanged, QueueChanges, joining, QueueAfter, WaitsFor, Queued, FirstServed, NoneServed, AllServed, Queues}
+use Rattle.machine.specs.Queues.{SameObjects, has, Queue, KeepsOrEnds, NotExchanged, QueueChanges, joining, QueueAfter, WaitsFor, Queued, FirstServed, NoneServed, AllServed, Queues}
 use Rattle.machine.proofs.Tests.{by-test, not-both, or-left, or-right, and-left, and-right, Passed, passed-parts, by-checks}
 use Rattle.machine.proofs.Bounds.{either, same-or-not, not-so, within-in, within-out, named-same, named-other, semaphore-in, event-in, created-in, created-out}
 use Rattle.machine.proofs.Lists.{members-idsOf, kept-snoc}
 use Rattle.machine.proofs.Tracking.{contains-kept, kept-same, kept-kept, kept-all, kept-no, kept-whole}
-use Rattle.machine.proofs.Keeping.{process-other, process-stored, stored-rest, rest-count, stored-listed, each-changed, from-range, changed-rest, changed-listed, changed-process, each-listed, each-process, AllCreated}
+use Rattle.machine.proofs.Keeping.{Rest, process-other, process-stored, stored-rest, rest-count, stored-listed, each-changed, from-range, changed-rest, changed-listed, changed-process, each-listed, each-process, AllCreated}
 use Rattle.machine.proofs.Sound.{ready-off}
 use Rattle.machine.proofs.Dispatch.{by-call, Calls, by-event}
 use Rattle.machine.proofs.Bodies.{Bodily, bodyRefusal}
 use Rattle.machine.proofs.Kept.{tick-valid, change-valid, nothing-valid, Caller, running-caller, waiters-distinct, waiters-exact, waiters-on, waiters-created}
-use Rattle.machine.proofs.Calling.{field-number, from-zero, calling-sound, calling-valid, asked, decides, gives, own-after}
+use Rattle.machine.proofs.Calling.{field-number, from-zero, calling-valid, asked, decides, gives, own-after}
 use Rattle.machine.proofs.Corners.{known}
 use Rattle.machine.proofs.Reached.{at-set, plain-part, tick-module-plain, place, context-sound, made, made-sound, made-body, decided-sound, valid-sound, reached-valid}
 use Rattle.machine.proofs.Answers.{decided-table}
 use Rattle.machine.proofs.Plain.{by-id-plain, stored-plain}
+
+-- ---------------------------------------------------------------- objects that stay
+-- a change of processes alone leaves the objects
+pub rest-objects : (p q : Partition) → Rest p q → SameObjects p q
+rest-objects p q e = record {
+  semaphores = ap (λ (r : Partition). r .semaphores) e;
+  events = ap (λ (r : Partition). r .events) e;
+  buffers = ap (λ (r : Partition). r .buffers) e;
+  blackboards = ap (λ (r : Partition). r .blackboards) e;
+}
+
+pub same-objects : (p : Partition) → SameObjects p p
+same-objects p = record { semaphores = refl; events = refl; buffers = refl; blackboards = refl }
+
+pub noted-objects : (p q : Partition) → SameObjects p q → SameObjects p (noted q)
+noted-objects p q s = record { semaphores = s .semaphores; events = s .events; buffers = s .buffers; blackboards = s .blackboards }
 
 -- ---------------------------------------------------------------- a process stored
 followed-same : (b : Bool) (id : ℕ) (l : List ℕ) → followed b b id l ≡ l
@@ -153,10 +169,10 @@ pub record Part (l k : List ℕ) : Type 0 where
   pub by : ℕ → Bool
   pub is : k ≡ kept by l
 
-part-whole : (l : List ℕ) → Part l l
+pub part-whole : (l : List ℕ) → Part l l
 part-whole l = record { by = λ _. true; is = sym (kept-all (λ _. true) l (λ _ _. refl)) }
 
-part-trans : {l k j : List ℕ} → Part l k → Part k j → Part l j
+pub part-trans : {l k j : List ℕ} → Part l k → Part k j → Part l j
 part-trans {l} a b = record { by = λ x. b .by x && a .by x; is = b .is ∙ ap (kept (b .by)) (a .is) ∙ kept-kept (b .by) (a .by) l }
 
 -- a queue that is a part of another list holds those of the list that wait on the object
@@ -191,12 +207,12 @@ module _ (o : ℕ) (some : o ≡ 0 → ⊥) where
       (all-part f k l (stored id x p) (stored-listed p id x v b) (λ y c. rw (rest-count p _ (stored-rest p id x)) (all y (rw c (or-true (eqb id y))))))
 
 -- ---------------------------------------------------------------- what the rules make of a wait
-expired-wait : (t : ℕ) (x : Process) → expired t x .wait ≡ x .wait
+pub expired-wait : (t : ℕ) (x : Process) → expired t x .wait ≡ x .wait
 unfolding expired
 expired-wait t x = by-test (λ (y : Process). y .wait ≡ x .wait) (due t (x .times .deadline)) (λ _. refl) (λ _. refl)
 
 -- a tick ends the wait whose time has come
-ticked-object : (t : ℕ) (x : Process) → object (ticked t x .wait) ≡ cond (due t (x .times .wake)) 0 (object (x .wait))
+pub ticked-object : (t : ℕ) (x : Process) → object (ticked t x .wait) ≡ cond (due t (x .times .wake)) 0 (object (x .wait))
 unfolding woken
 ticked-object t x = ap object (expired-wait t (woken t x)) ∙ either (due t (x .times .wake))
     (λ e. rw e (by-test (λ (y : Process). object (y .wait) ≡ 0) (onlyMarked x) (λ _. refl) (λ _. refl)))
@@ -205,7 +221,7 @@ ticked-object t x = ap object (expired-wait t (woken t x)) ∙ either (due t (x 
 ticked-ends : (t : ℕ) (x : Process) → KeepsOrEnds x (ticked t x)
 ticked-ends t x = either (due t (x .times .wake)) (λ e. inl (ticked-object t x ∙ rw e)) (λ e. inr (ticked-object t x ∙ rw e))
 
-start-object : (c : Context) (delay : ℕ) (x : Process) → object (startRule c delay x .wait) ≡ 0
+pub start-object : (c : Context) (delay : ℕ) (x : Process) → object (startRule c delay x .wait) ≡ 0
 unfolding startRule
 start-object c delay x = by-test (λ (y : Process). object (y .wait) ≡ 0) (periodic x) (λ _. refl) (λ _. by-test (λ (y : Process). object (y .wait) ≡ 0) (eqb delay 0) (λ _. refl) (λ _. refl))
 
@@ -214,7 +230,7 @@ unfolding entered
 entered-ends c x = by-test (KeepsOrEnds x) (waitsForNormal (x .wait)) (λ _. inl (start-object c (x .times .delay) x)) (λ _. inr refl)
 
 -- one that waits on an object is left
-normal-off : (v : Class) → forNormal v ≡ true → objectIn v ≡ 0
+pub normal-off : (v : Class) → forNormal v ≡ true → objectIn v ≡ 0
 normal-off Class.nothing e = refl
 normal-off Class.normal e = refl
 normal-off Class.timer e = refl
@@ -227,7 +243,7 @@ entered-on c x some = by-test (λ (y : Process). y ≡ x) (waitsForNormal (x .wa
 
 -- ---------------------------------------------------------------- the changes
 -- a partition with the same waiting list, whose processes wait as before
-same-queue : (o : ℕ) (p q : Partition) → q .waiting ≡ p .waiting → ((y : ℕ) → object (process y q .wait) ≡ object (process y p .wait)) → waiters o q ≡ waiters o p
+pub same-queue : (o : ℕ) (p q : Partition) → q .waiting ≡ p .waiting → ((y : ℕ) → object (process y q .wait) ≡ object (process y p .wait)) → waiters o q ≡ waiters o p
 unfolding waiters
 same-queue o p q e f = ap (λ (a : Ids). kept (waitsOn o q) (members a)) e ∙ kept-same (waitsOn o q) (waitsOn o p) (members (p .waiting)) (λ y _. ap (λ n. eqb n o) (f y))
 
@@ -248,19 +264,19 @@ module _ (p : Partition) (v : ListedIn p) (o : ℕ) (some : o ≡ 0 → ⊥) whe
   unfolding arrivedLast
   arrived-queue id = same-queue o p _ refl (λ _. refl)
 
-  semaphore-queue : (k : ℕ) (s : SemaphoreT) → waiters o (storedSemaphore k s p) ≡ waiters o p
+  pub semaphore-queue : (k : ℕ) (s : SemaphoreT) → waiters o (storedSemaphore k s p) ≡ waiters o p
   unfolding storedSemaphore
   semaphore-queue k s = by-test (λ (q : Partition). waiters o q ≡ waiters o p) (within semaphoreLimit k) (λ _. same-queue o p _ refl (λ _. refl)) (λ _. refl)
 
-  event-queue : (k : ℕ) (e : EventState) → waiters o (storedEvent k e p) ≡ waiters o p
+  pub event-queue : (k : ℕ) (e : EventState) → waiters o (storedEvent k e p) ≡ waiters o p
   unfolding storedEvent
   event-queue k e = by-test (λ (q : Partition). waiters o q ≡ waiters o p) (within eventLimit k) (λ _. same-queue o p _ refl (λ _. refl)) (λ _. refl)
 
-  buffer-queue : (k : ℕ) (b : Buffer) → waiters o (storedBuffer k b p) ≡ waiters o p
+  pub buffer-queue : (k : ℕ) (b : Buffer) → waiters o (storedBuffer k b p) ≡ waiters o p
   unfolding storedBuffer
   buffer-queue k b = by-test (λ (q : Partition). waiters o q ≡ waiters o p) (within bufferLimit k) (λ _. same-queue o p _ refl (λ _. refl)) (λ _. refl)
 
-  blackboard-queue : (k : ℕ) (b : BlackboardT) → waiters o (storedBlackboard k b p) ≡ waiters o p
+  pub blackboard-queue : (k : ℕ) (b : BlackboardT) → waiters o (storedBlackboard k b p) ≡ waiters o p
   unfolding storedBlackboard
   blackboard-queue k b = by-test (λ (q : Partition). waiters o q ≡ waiters o p) (within blackboardLimit k) (λ _. same-queue o p _ refl (λ _. refl)) (λ _. refl)
 
@@ -389,10 +405,10 @@ module _ (c : Context) (p : Partition) where
   unfolding setMode createProcess start stop stopSelf suspend suspendSelf timedWait periodicWait resume setPriority getStatus createSemaphore createEvent blocked waitSemaphore waitEvent signal setEvent resetEvent write read channelChecks createBuffer sendBuffer receiveBuffer createBlackboard show readBlackboard clear Passed
   call-order x n r =
       by-call c x n r p (InOrder c p)
-      (λ a. in-order _ _ (λ _. by-test (InOrder c p) (isNumber 3 a) (λ _. fine (tt, tt)) (λ _. fine tt)))
+      (λ _. in-order _ _ (λ _. by-test (InOrder c p) (isNumber 3 (r .a)) (λ _. fine (tt, tt)) (λ _. fine tt)))
       (λ _. in-order _ _ (λ _. fine (tt, tt)))
       (λ id delay. in-order _ _ (λ _. fine (starts id (numberOf delay), tt)))
-      (λ _. in-order _ _ (λ _. fine (inl refl, tt)))
+      (λ _ _. in-order _ _ (λ _. fine (inl refl, tt)))
       (in-order _ _ (λ _. fine (inl refl, tt)))
       (λ _. in-order _ _ (λ _. fine (inr refl, tt)))
       (λ a. in-order _ _ (λ h. by-test (InOrder c p) (isNumber 0 a) (λ _. fine tt) (λ _. fine (refl, normal (or-left (startMode p) _ (h .0))))))
@@ -411,8 +427,8 @@ module _ (c : Context) (p : Partition) where
       (λ _ _. in-order _ _ (λ _. in-order _ _ (λ _. fine tt)))
       (in-order _ _ (λ _. in-order _ _ (λ _. fine tt)))
       (λ _ _. in-order _ _ (λ _. fine (tt, tt)))
-      (λ _ _ _. await-order _ _ _ _ _ _ _ (fine (sent-order _ _ _, tt)))
-      (λ _ _. await-order _ _ _ _ _ _ _ (received-order _ _))
+      (λ _. await-order _ _ _ _ _ _ _ (fine (sent-order _ _ _, tt)))
+      (λ _. await-order _ _ _ _ _ _ _ (received-order _ _))
       (λ _. in-order _ _ (λ _. fine (tt, tt)))
       (λ _ _. in-order _ _ (λ _. fine (tt, tt)))
       (λ _ _. await-order _ _ _ _ _ _ _ (fine tt))
@@ -431,10 +447,10 @@ module _ (o : ℕ) (some : o ≡ 0 → ⊥) where
   unfolding tickPartition
   unticked t p e = rw e
 
-  tick-part : (t : ℕ) (p : Partition) → ListedIn p → Part (waiters o p) (waiters o (tickPartition t p))
+  pub tick-part : (t : ℕ) (p : Partition) → ListedIn p → Part (waiters o p) (waiters o (tickPartition t p))
   tick-part t p v = either (normalMode p) (λ e. record { by = _; is = ticked-queue p v o some t e }) (λ e. part-of _ _ (unticked t p e))
 
-  change-part : (c : Context) (p : Partition) → Valid (c .frame) (c .time) p → (a : Change) → SoundChange c p a → OrderlyChange p a → Part (waiters o p) (waiters o (applied a p))
+  pub change-part : (c : Context) (p : Partition) → Valid (c .frame) (c .time) p → (a : Change) → SoundChange c p a → OrderlyChange p a → Part (waiters o p) (waiters o (applied a p))
   change-part c p v Nothing h k = part-whole (waiters o p)
   change-part c p v (Stored id x) h k = stored-part o some p (v .lists) id (h .0) x k
   change-part c p v (Created id x) h k = part-of _ _ (rw (h .next) (created-queue p (v .lists) o some x (rw (h .dormant))))
@@ -472,7 +488,7 @@ module _ (m : Module) (s : SoundModule m) (o : ℕ) (some : o ≡ 0 → ⊥) whe
   abbrev Follows : ℕ → ℕ → ℕ → Partition → Type 0
   Follows code k i q = waiters o q ≡ kept (waitsOn o q) (waiters o (part m i)) ++ joining code k i o (part m i) q
 
-  listed : (i : ℕ) → i < m .table .size → ListedIn (part m i)
+  pub listed : (i : ℕ) → i < m .table .size → ListedIn (part m i)
   listed i l = s .eachPartition i l .lists
 
   none-joins : (code k i : ℕ) (q : Partition) → (eqb code 7 ≡ false) ⊎ (eqb k (i + 1) ≡ false) → ListedIn q → Part (waiters o (part m i)) (waiters o q) → Follows code k i q
@@ -606,13 +622,16 @@ module _ (o : ℕ) (some : o ≡ 0 → ⊥) (p : Partition) (v : ListedIn p) (id
   pub first-created : Between 1 (p .processCount) id
   first-created = waiters-created p v o id first-in
 
-  pub first-served : waiters o (stored id (served (process id p)) p) ≡ rest
+  pub served-queue : (x : Process) → object (x .wait) ≡ 0 → waiters o (stored id x p) ≡ rest
   unfolding kept Distinct
-  first-served =
+  served-queue x off =
       let d : Distinct (id ∷ rest) = rw e at (waiters-distinct p v o) in
-      stored-queue p v id first-created (served (process id p)) o some (inr (inl refl))
-      ∙ rw (eq-eqb (object (process id p .wait)) o (in-queue p v o some id first-in), ne-eqb 0 o (λ z. some (sym z)), e, eq-eqb id id refl)
+      stored-queue p v id first-created x o some (inr (inl off))
+      ∙ rw (eq-eqb (object (process id p .wait)) o (in-queue p v o some id first-in), off, ne-eqb 0 o (λ z. some (sym z)), e, eq-eqb id id refl)
       (kept-whole id rest (d .0))
+
+  pub first-served : waiters o (stored id (served (process id p)) p) ≡ rest
+  first-served = served-queue (served (process id p)) refl
 
 -- all of a queue are served: those READY then join the arrival list in queue order
 pub all-served : (f : Process → Process) → ((x : Process) → object (f x .wait) ≡ 0) → (o : ℕ) → (o ≡ 0 → ⊥) → (p : Partition) → ListedIn p → members (changedAll f (waiters o p) p .arrival) ≡ members (p .arrival) ++ kept (λ y. ready (process y (changedAll f (waiters o p) p))) (waiters o p)
@@ -631,7 +650,7 @@ waits-for (pos n) h =
 waits-for (negsuc zero) h = (refl, refl)
 waits-for (negsuc (suc n)) h = not-both _ h (rw (ne-eqb (suc n) 0 (λ z. omega arith)))
 
-ended-is : (x : Process) → WaitEnded 0 x (served x)
+pub ended-is : (x : Process) → WaitEnded 0 x (served x)
 ended-is x = record { wake = refl; wait = refl; codeIs = refl; mark = refl; started = refl }
 
 module _ (m : Module) (k : ℕ) (u : SoundModule m) (h : Calling m k) where
@@ -642,33 +661,61 @@ module _ (m : Module) (k : ℕ) (u : SoundModule m) (h : Calling m k) where
   valid = calling-valid m k u h
 
   -- a call that waits for the object that w names, where it has to wait
-  module _ (n j count : ℕ) (a : ℤ) (w : Wait) (lo : 1 ≤ n) (hi : n ≤ callLimit) (some : object w ≡ 0 → ⊥) (success : Decision) where
+  module _ (n j count : ℕ) (x y a : ℤ) (w : Wait) (lo : 1 ≤ n) (hi : n ≤ callLimit) (some : object w ≡ 0 → ⊥) (success : Decision) where
     abbrev asks : EventT
-    asks = callBy k n (pos j) a (pos 0) (pos 0)
+    asks = callBy k n (pos j) x y (pos 0)
 
-    pub queued-last : strayField (serviceOf n .fields) (asked m k u h n (field (pos j)) (field a) (Number 0) (Number 0)) ≡ false
-        → decides m k u h n (pos j) a (pos 0) (pos 0) lo hi ≡ awaiting (contextOf m k) ((unknown j count, 3) ∷ []) true [] (field a) false success w p
+    pub queued-last : strayField (serviceOf n .fields) (asked m k u h n (field (pos j)) (field x) (field y) (Number 0)) ≡ false
+        → decides m k u h n (pos j) x y (pos 0) lo hi ≡ awaiting (contextOf m k) ((unknown j count, 3) ∷ []) true [] (field a) false success w p
         → Between 1 count j → p .mode ≡ 3 → WaitsFor a → Queued m k asks w
     unfolding awaiting queued blocked checked
     queued-last stray is b normal t =
         let c = running-caller p (valid .lists) (h .runs normal) in
-        let x = waitingFor w (later (At (m .t)) (timeOf (field a))) (process (running p) p) in
-        let q = stored (running p) x p in
+        let z = waitingFor w (later (At (m .t)) (timeOf (field a))) (process (running p) p) in
+        let q = stored (running p) z p in
         let f = waits-for a t in
-        let g = gives m k u h n (pos j) a (pos 0) (pos 0) lo hi stray (Blocked (running p) x) (is ∙ rw (known m k u h j count b, eq-eqb (p .mode) 3 normal, f .0, f .1)) in
+        let g = gives m k u h n (pos j) x y (pos 0) lo hi stray (Blocked (running p) z) (is ∙ rw (known m k u h j count b, eq-eqb (p .mode) 3 normal, f .0, f .1)) in
         record {
           code = g .codeIs;
-          wait = rw (own-after m k u h q g) (ap (λ (y : Process). y .wait) (process-stored p (running p) x (valid .lists) (c .created)));
-          queue = rw (own-after m k u h q g) (same-queue (object w) q (noted q) refl (λ _. refl) ∙ joins-last (object w) some p (valid .lists) (running p) (c .created) x (c .isReady) ∙ rw (eq-eqb (object w) (object w) refl));
+          wait = rw (own-after m k u h q g) (ap (λ (y : Process). y .wait) (process-stored p (running p) z (valid .lists) (c .created)));
+          queue = rw (own-after m k u h q g) (same-queue (object w) q (noted q) refl (λ _. refl) ∙ joins-last (object w) some p (valid .lists) (running p) (c .created) z (c .isReady) ∙ rw (eq-eqb (object w) (object w) refl));
         }
 
-  wait-semaphore : (j : ℕ) (a : ℤ) → p .mode ≡ 3 → Between 1 (p .semaphoreCount) j → semaphore j p .value ≡ 0 → WaitsFor a → Queued m k (callBy k 15 (pos j) a (pos 0) (pos 0)) (Semaphore j)
+  pub wait-semaphore : (j : ℕ) (a : ℤ) → p .mode ≡ 3 → Between 1 (p .semaphoreCount) j → semaphore j p .value ≡ 0 → WaitsFor a → Queued m k (callBy k 15 (pos j) a (pos 0) (pos 0)) (Semaphore j)
   unfolding callDecision services strayField waitSemaphore
-  wait-semaphore j a n b z t = queued-last 15 j (p .semaphoreCount) a (Semaphore j) (omega arith) (omega arith) (λ e. omega arith) (changed (withValue j (semaphore j p .value - 1) p)) refl (rw (field-number j (omega (arith, b .1, valid .objects .semaphores .numbered .few)), z)) b n t
+  wait-semaphore j a n b z t = queued-last 15 j (p .semaphoreCount) a (pos 0) a (Semaphore j) (omega arith) (omega arith) (λ e. omega arith) (changed (withValue j (semaphore j p .value - 1) p)) refl (rw (field-number j (omega (arith, b .1, valid .objects .semaphores .numbered .few)), z)) b n t
 
-  wait-event : (j : ℕ) (a : ℤ) → p .mode ≡ 3 → Between 1 (p .eventCount) j → event j p .up ≡ false → WaitsFor a → Queued m k (callBy k 20 (pos j) a (pos 0) (pos 0)) (Event j)
+  pub wait-event : (j : ℕ) (a : ℤ) → p .mode ≡ 3 → Between 1 (p .eventCount) j → event j p .up ≡ false → WaitsFor a → Queued m k (callBy k 20 (pos j) a (pos 0) (pos 0)) (Event j)
   unfolding callDecision services strayField waitEvent
-  wait-event j a n b z t = queued-last 20 j (p .eventCount) a (Event j) (omega arith) (omega arith) (λ e. omega arith) unchanged refl (rw (field-number j (omega (arith, b .1, valid .objects .events .numbered .few)), z)) b n t
+  wait-event j a n b z t = queued-last 20 j (p .eventCount) a (pos 0) a (Event j) (omega arith) (omega arith) (λ e. omega arith) unchanged refl (rw (field-number j (omega (arith, b .1, valid .objects .events .numbered .few)), z)) b n t
+
+  -- a call that stores q: the first of queue o served, in a record r that differs from the caller's in no process
+  module _ (o : ℕ) (some : o ≡ 0 → ⊥) (r : Partition) (v : ListedIn r) (same : (y : ℕ) → process y r ≡ process y p) (f : Process → Process) (ends : (x : Process) → WaitEnded 0 x (f x)) where
+    module _ (id : ℕ) (rest : List ℕ) (e : waiters o r ≡ id ∷ rest) (value : ℕ) (event : EventT) (g : Gives m event 0 value (At 0) (withPart (k - 1) (stored id (f (process id p)) r) m)) where
+      abbrev x : Process
+      x = f (process id p)
+
+      abbrev q : Partition
+      q = stored id x r
+
+      pub first-served-by : FirstServed m k event o id rest (x .message)
+      first-served-by =
+          let b = first-created o some r v id rest e in
+          record {
+            code = g .codeIs;
+            queue = rw (own-after m k u h q g) (same-queue o q (noted q) refl (λ _. refl) ∙ served-queue o some r v id rest e x (ap object (ends (process id p) .wait)));
+            ended = rw (own-after m k u h q g, process-stored r id x v b) (ends (process id p));
+            has = rw (own-after m k u h q g, process-stored r id x v b);
+            others = λ y ne. rw (own-after m k u h q g) (process-other r id x y ne ∙ same y);
+          }
+
+  -- a call that stores q, which has all processes of the caller's record
+  pub none-served : (o value : ℕ) (event : EventT) (q : Partition) → Gives m event 0 value (At 0) (withPart (k - 1) q m) → waiters o q ≡ [] → q .processes ≡ p .processes → NoneServed m k event o
+  none-served o value event q g e f = record {
+    code = g .codeIs;
+    queue = rw (own-after m k u h q g) (same-queue o q (noted q) refl (λ _. refl) ∙ e);
+    processes = rw (own-after m k u h q g) f;
+  }
 
   -- SIGNAL
   module _ (j : ℕ) (b : Between 1 (p .semaphoreCount) j) (below : semaphore j p .value ≡ semaphore j p .max → ⊥) where
@@ -687,22 +734,14 @@ module _ (m : Module) (k : ℕ) (u : SoundModule m) (h : Calling m k) where
         let f : field (pos j) ≡ Number j = field-number j (omega (arith, b .1, valid .objects .semaphores .numbered .few)) in
         gives m k u h 16 (pos j) (pos 0) (pos 0) (pos 0) (omega arith) (omega arith) refl (changed (signalled l j p)) (rw (f, known m k u h j (p .semaphoreCount) b, ne-eqb _ _ below, e))
 
-    pub signal-first : (id : ℕ) (rest : List ℕ) → waiters o p ≡ id ∷ rest → FirstServed m k signals o id rest
+    pub signal-first : (id : ℕ) (rest : List ℕ) → waiters o p ≡ id ∷ rest → FirstServed m k signals o id rest (has m k id) × SameObjects p (own (step m signals .state) k)
     unfolding signalled
     signal-first id rest e =
-        let v = valid .lists in
-        let x = served (process id p) in
-        let q = stored id x p in
         let g = signal-gives (id ∷ rest) e in
-        record {
-          code = g .codeIs;
-          queue = rw (own-after m k u h q g) (same-queue o q (noted q) refl (λ _. refl) ∙ first-served o some p v id rest e);
-          ended = rw (own-after m k u h q g, process-stored p id x v (first-created o some p v id rest e)) (ended-is (process id p));
-          others = λ y ne. rw (own-after m k u h q g) (process-other p id x y ne);
-          semaphores = rw (own-after m k u h q g) (ap (λ (r : Partition). r .semaphores) (stored-rest p id x));
-        }
+        let q = stored id (served (process id p)) p in
+        (first-served-by o some p (valid .lists) (λ _. refl) served ended-is id rest e 0 signals g, rw (own-after m k u h q g) (noted-objects p q (rest-objects p q (stored-rest p id (served (process id p))))))
 
-    signal-none : waiters o p ≡ [] → NoneServed m k signals j
+    pub signal-none : waiters o p ≡ [] → NoneServed m k signals o × (semaphore j (own (step m signals .state) k) .value ≡ semaphore j p .value + 1)
     unfolding signalled
     signal-none e =
         let few : j ≤ semaphoreLimit = omega (arith, b .1, valid .objects .semaphores .numbered .few) in
@@ -710,22 +749,34 @@ module _ (m : Module) (k : ℕ) (u : SoundModule m) (h : Calling m k) where
         let t = valid .objects .semaphores .each j b in
         let s : SemaphoreT = record { name = semaphore j p .name; value = oneMore (semaphore j p .value); max = semaphore j p .max } in
         let q = storedSemaphore j s p in
-        let g = signal-gives [] e in
+        let g = signal-gives [] e in (
+          none-served o 0 signals q g (semaphore-queue p (valid .lists) o some j s ∙ e) (ap (λ (r : Partition). r .processes) (semaphore-in j s p i)),
+          rw (own-after m k u h q g, semaphore-in j s p i, named-same semaphoreLimit noSemaphore j s (p .semaphores) (b .0) few (omega (arith, valid .objects .semaphores .numbered .size))) (rw (lt-ltb (semaphore j p .value) greatestValue (omega (arith, t .value, t .max .1)))),
+        )
+
+  -- a call that ends all waits of queue o, each process changed by f, in a record r that differs from the caller's in no process and no list
+  module _ (o : ℕ) (some : o ≡ 0 → ⊥) (r : Partition) (v : ListedIn r) (queue : waiters o r ≡ waiters o p) (same : (y : ℕ) → process y r ≡ process y p) (arrived : r .arrival ≡ p .arrival) (f : Process → Process) (ends : (x : Process) → WaitEnded 0 x (f x)) where
+    off : (x : Process) → object (f x .wait) ≡ 0
+    off x = ap object (ends x .wait)
+
+    abbrev done : Partition
+    done = changedAll f (waiters o r) r
+
+    pub all-served-by : (event : EventT) → Gives m event 0 0 (At 0) (withPart (k - 1) done m) → AllServed m k event o (λ id. f (process id p) .message)
+    all-served-by event gives =
+        let is : (y : ℕ) → process y done ≡ cond (contains y (waiters o p)) (f (process y p)) (process y p) = λ y. ended-process r v o some f off o y ∙ rw (queue, same y) in
+        let g = own-after m k u h done gives in
         record {
-          code = g .codeIs;
-          queue = rw (own-after m k u h q g) (same-queue o q (noted q) refl (λ _. refl) ∙ semaphore-queue p (valid .lists) o some j s ∙ e);
-          value = rw (own-after m k u h q g, semaphore-in j s p i, named-same semaphoreLimit noSemaphore j s (p .semaphores) (b .0) few (omega (arith, valid .objects .semaphores .numbered .size))) (rw (lt-ltb (semaphore j p .value) greatestValue (omega (arith, t .value, t .max .1))));
-          processes = rw (own-after m k u h q g) (ap (λ (r : Partition). r .processes) (semaphore-in j s p i));
+          code = gives .codeIs;
+          queue = rw g (same-queue o done (noted done) refl (λ _. refl) ∙ ended-queue r v o some f off);
+          ended = λ id c. rw (g, is id, c) (ends (process id p));
+          has = λ id c. rw (g, is id, c);
+          others = λ id c. rw (g, is id, c);
+          arrival = rw g (all-served f off o some r v ∙ rw (queue, arrived));
         }
 
   -- SET_EVENT
   module _ (j : ℕ) (b : Between 1 (p .eventCount) j) where
-    abbrev queue : ℕ
-    queue = object (Event j)
-
-    is-some : queue ≡ 0 → ⊥
-    is-some e = omega arith
-
     abbrev sets : EventT
     sets = callBy k 18 (pos j) (pos 0) (pos 0) (pos 0)
 
@@ -736,59 +787,29 @@ module _ (m : Module) (k : ℕ) (u : SoundModule m) (h : Calling m k) where
     abbrev up : Partition
     up = storedEvent j state p
 
-    abbrev done : Partition
-    done = changedAll served (waiters queue up) up
-
     up-is : up ≡ withEvents (set (p .events) (j - 1) state) (max (p .eventCount) j) p
     up-is = event-in j state p (within-in eventLimit j (b .0) (omega (arith, b .1, valid .objects .events .numbered .few)))
 
-    up-listed : ListedIn up
-    up-listed = rw up-is (valid .lists)
+    abbrev waits-on : ℕ
+    waits-on = object (Event j)
 
-    up-queue : waiters queue up ≡ waiters queue p
-    up-queue = event-queue p (valid .lists) queue is-some j state
+    abbrev after-all : Partition
+    after-all = changedAll served (waiters waits-on up) up
 
-    up-process : (y : ℕ) → process y up ≡ process y p
-    up-process y = rw up-is
-
-    set-gives : Gives m sets 0 0 (At 0) (withPart (k - 1) done m)
+    set-gives : Gives m sets 0 0 (At 0) (withPart (k - 1) after-all m)
     unfolding callDecision services strayField setEvent checked
     set-gives =
         let f : field (pos j) ≡ Number j = field-number j (omega (arith, b .1, valid .objects .events .numbered .few)) in
-        gives m k u h 18 (pos j) (pos 0) (pos 0) (pos 0) (omega arith) (omega arith) refl (Changed (withUp j true p) (Ended queue) 0) (rw (f, known m k u h j (p .eventCount) b))
+        gives m k u h 18 (pos j) (pos 0) (pos 0) (pos 0) (omega arith) (omega arith) refl (Changed (withUp j true p) (Ended waits-on) 0) (rw (f, known m k u h j (p .eventCount) b))
 
-    set-events : done .events ≡ set (p .events) (j - 1) state
-    set-events = ap (λ (r : Partition). r .events) (changed-rest served (waiters queue up) up) ∙ ap (λ (r : Partition). r .events) up-is
-
-    set-up : event j done .up ≡ true
+    set-up : event j after-all .up ≡ true
     set-up =
         let few = valid .objects .events .numbered .few in
-        ap (λ (l : List EventState). byId eventLimit noEvent j l .up) set-events ∙ ap (λ (e : EventState). e .up) (named-same eventLimit noEvent j state (p .events) (b .0) (omega (arith, b .1, few)) (omega (arith, b .1, few, valid .objects .events .numbered .size)))
+        ap (λ (r : Partition). event j r .up) (changed-rest served (waiters waits-on up) up)
+        ∙ rw up-is (ap (λ (e : EventState). e .up) (named-same eventLimit noEvent j state (p .events) (b .0) (omega (arith, b .1, few)) (omega (arith, b .1, few, valid .objects .events .numbered .size))))
 
-    pub set-event : AllServed m k sets queue × (event j (own (step m sets .state) k) .up ≡ true)
-    set-event =
-        let is : (y : ℕ) → process y done ≡ cond (contains y (waiters queue p)) (served (process y p)) (process y p) = λ y. ended-process up up-listed queue is-some served (λ _. refl) queue y ∙ rw (up-queue, up-process y) in
-        let g = own-after m k u h done set-gives in (
-          record {
-            code = set-gives .codeIs;
-            queue = rw g (same-queue queue done (noted done) refl (λ _. refl) ∙ ended-queue up up-listed queue is-some served (λ _. refl));
-            ended = λ id c. rw (g, is id, c) (ended-is (process id p));
-            others = λ id c. rw (g, is id, c);
-            arrival = rw g (all-served served (λ _. refl) queue is-some up up-listed ∙ rw (up-queue, ap (λ (r : Partition). r .arrival) up-is));
-          },
-          rw g set-up,
-        )
-
--- Law. A waiter joins its object's queue last, ended waits leave it and the others keep their order, and the first is served first.
-pub queues : Queues
-queues = record {
-  events = queue-after;
-  changes = λ m h i l. changes-queue (part m i) (valid-sound m (reached-valid m h) i l .eachPartition i l .lists);
-  calls = λ m k h j. let u = calling-sound m k h in record {
-    waitSemaphore = wait-semaphore m k u h j;
-    waitEvent = wait-event m k u h j;
-    signalFirst = λ id rest b below. signal-first m k u h j b below id rest;
-    signalNone = signal-none m k u h j;
-    setEvent = set-event m k u h j;
-  };
-}
+    pub set-event : AllServed m k sets waits-on (has m k) × (event j (own (step m sets .state) k) .up ≡ true)
+    set-event = (
+      all-served-by waits-on (λ z. omega arith) up (rw up-is (valid .lists)) (event-queue p (valid .lists) waits-on (λ z. omega arith) j state) (λ y. rw up-is) (rw up-is) served ended-is sets set-gives,
+      rw (own-after m k u h after-all set-gives) set-up,
+    )

@@ -173,7 +173,7 @@ wake-resumed t mark r Class.timer w e h = h
 wake-resumed t mark r Class.release w e h = h
 wake-resumed t mark r (Class.onto kind k n) w e h = h
 
-for-nothing : (v : Class) → forNothing v ≡ true → v ≡ Class.nothing
+pub for-nothing : (v : Class) → forNothing v ≡ true → v ≡ Class.nothing
 for-nothing Class.nothing e = refl
 for-nothing Class.normal e = not-both _ e refl
 for-nothing Class.timer e = not-both _ e refl

@@ -344,7 +344,7 @@ module _ (m : Module) (k : ℕ) (u : SoundModule m) (h : Calling m k) where
     signal-ends : let a = callBy k 16 (pos j) (pos 0) (pos 0) (pos 0) in
         let y = process id (own (St.step m a .state) k) in
         (St.step m a .answer .code ≡ 0) × WaitEnded 0 (process id (own m k)) y × ReadyUnmarked (process id (own m k)) y
-    signal-ends = let q = signal-first m k u h j b below id _ queue-is in (q .code, q .ended, λ s. suspended-not-ready (process id (own (St.step m (callBy k 16 (pos j) (pos 0) (pos 0) (pos 0)) .state) k)) (q .ended .mark ∙ s))
+    signal-ends = let q = signal-first m k u h j b below id _ queue-is in (q .0 .code, q .0 .ended, λ s. suspended-not-ready (process id (own (St.step m (callBy k 16 (pos j) (pos 0) (pos 0) (pos 0)) .state) k)) (q .0 .ended .mark ∙ s))
 
   -- ---------------------------------------------------------------- SET_EVENT
   module _ (j id : ℕ) (b : Between 1 (own m k .eventCount) j) (w : process id (own m k) .wait ≡ Event j) where

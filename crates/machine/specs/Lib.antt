@@ -26,3 +26,4 @@ pub mod Valid
 pub mod Starred
 pub mod Plain
 pub mod Queues
+pub mod Account

@@ -1,9 +1,9 @@
 -- Queues of messages, first in first out.
 use Prim.Native.Nat.{ℕ, _+_, _-_}
-use mathlib.Core.Bool.{Bool, cond, not}
-use mathlib.Core.List.{List, [], _∷_, _++_}
+use mathlib.Core.Bool.{cond}
+use mathlib.Core.List.{List, _++_}
 use lib.ListN.{length, getD, set, take, drop, replicate}
-use lib.Dec.{ltb, eqb}
+use lib.Dec.{ltb}
 use Rattle.machine.specs.declared.Queue.{Queue}
 use Rattle.machine.specs.declared.QueueChange.{QueueChange}
 use Rattle.machine.specs.declared.QueueChange.the-variants.{Put, Taken, Exchanged}

@@ -1,6 +1,6 @@
 -- The module: records with nothing in them, reading the record, and the only three ways to change it.
 use Prim.Native.Nat.{ℕ, _-_}
-use mathlib.Core.Bool.{false, cond}
+use mathlib.Core.Bool.{cond}
 use mathlib.Core.List.{List, []}
 use lib.ListN.{getD, set, replicate}
 use lib.Dec.{eqb}

@@ -1,7 +1,7 @@
 -- A process by itself.
 use Prim.Native.Nat.{ℕ, _+_, _*_}
-use mathlib.Core.Bool.{Bool, true, false, cond, not, _&&_, _||_}
-use lib.Dec.{leb, eqb, ltb}
+use mathlib.Core.Bool.{Bool, true, false, cond, not, _&&_}
+use lib.Dec.{leb, eqb}
 use Rattle.machine.specs.declared.Given.{Given}
 use Rattle.machine.specs.declared.Times.{Times}
 use Rattle.machine.specs.declared.Process.{Process}

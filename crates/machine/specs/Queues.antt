@@ -1,12 +1,12 @@
 -- Queues, said over the number o of an object (`object`; 0 is none), for every kind of object at once: a waiter joins its object's queue last,
 -- ended waits leave it and the others keep their order, and the first is served first. The queue of an object is `waiters o p`. Nothing of the
 -- machine rests on it.
-use Prim.Native.Nat.{ℕ, _+_, _<_}
+use Prim.Native.Nat.{ℕ, _+_, _≤_, _<_}
 use mathlib.Core.Path.{_≡_}
-use mathlib.Core.Bool.{true, false, cond, not, _&&_, _||_}
+use mathlib.Core.Bool.{Bool, true, false, cond, not, _&&_, _||_}
 use mathlib.Core.List.{List, [], _∷_, _++_}
 use mathlib.Core.Logic.{_⊎_}
-use lib.Dec.{eqb}
+use lib.Dec.{eqb, ltb}
 use lib.IntN.{ℤ, pos}
 use Rattle.machine.specs.declared.Process.{Process}
 use Rattle.machine.specs.declared.Partition.{Partition}
@@ -17,18 +17,21 @@ use Rattle.machine.specs.declared.Buffer.{Buffer}
 use Rattle.machine.specs.declared.Blackboard.{Blackboard as BlackboardT}
 use Rattle.machine.specs.declared.Change.the-variants.{Ended, Handed}
 use Rattle.machine.specs.declared.Wait.{Wait}
-use Rattle.machine.specs.declared.Wait.the-variants.{Semaphore, Event}
+use Rattle.machine.specs.declared.Wait.the-variants.{Semaphore, Event, Sending, Receiving, Blackboard}
 use Rattle.machine.specs.declared.Event.{Event as EventT}
 use Rattle.machine.specs.declared.Module.{Module}
 use Rattle.machine.specs.Limits.{durationLimit}
 use Rattle.machine.specs.Fields.{requestOf, numberOf}
 use Rattle.machine.specs.Ids.{members, kept}
-use Rattle.machine.specs.Process.{object, due, ready}
-use Rattle.machine.specs.Partition.{normalMode, process, semaphore, event, stored, storedSemaphore, storedEvent, created, storedBuffer, storedBlackboard, arrivedLast, applied, tickPartition, enteredNormal, running, waitsOn, waiters}
+use Rattle.machine.specs.Process.{Class, objectIn, object, carried, due, ready}
+use Rattle.machine.specs.Messages.{held}
+use Rattle.machine.specs.declared.Time.the-variants.{At}
+use Rattle.machine.specs.Buffers.{hasRoom, holds}
+use Rattle.machine.specs.Partition.{normalMode, process, semaphore, event, buffer, blackboard, stored, storedSemaphore, storedEvent, created, storedBuffer, storedBlackboard, arrivedLast, applied, tickPartition, enteredNormal, running, waitsOn, waiters}
 use Rattle.machine.specs.Module.{part}
 use Rattle.machine.specs.Step.{step}
 use Rattle.machine.specs.Valid.{Between, contains, Distinct, Reached}
-use Rattle.machine.specs.Starred.{own, callBy, Calling, WaitEnded}
+use Rattle.machine.specs.Starred.{own, callBy, Calling, Gives, WaitEnded}
 use Rattle.machine.specs.Plain.{followed, plainMinusOne, plainBetween}
 
 -- ---------------------------------------------------------------- a queue
@@ -68,6 +71,33 @@ pub record QueueChanges (o : ℕ) (p : Partition) : Type 0 where
   -- a tick of a NORMAL partition: those whose wake time has come leave
   pub ticked : (t : ℕ) → normalMode p ≡ true → waiters o (tickPartition t p) ≡ kept (λ id. not (due t (process id p .times .wake))) (waiters o p)
 
+-- ---------------------------------------------------------------- who waits
+-- no object changes
+pub record SameObjects (p q : Partition) : Type 0 where
+  pub semaphores : q .semaphores ≡ p .semaphores
+  pub events : q .events ≡ p .events
+  pub buffers : q .buffers ≡ p .buffers
+  pub blackboards : q .blackboards ≡ p .blackboards
+
+-- what a call that waits on queue k of a kind looks at, by the kinds of classOf: a semaphore's value is above 0, an event is UP, a buffer has
+-- room, a buffer holds a message, a blackboard shows one
+abbrev pub available : ℕ → ℕ → Partition → Bool
+available kind k p =
+    cond (eqb kind 1) (ltb 0 (semaphore k p .value))
+    (cond (eqb kind 2) (event k p .up)
+    (cond (eqb kind 3) (hasRoom (buffer k p))
+    (cond (eqb kind 4) (holds (buffer k p))
+    (cond (eqb kind 5) (blackboard k p .shown) false))))
+
+-- the number of queue k of a kind
+abbrev pub queueNumber : ℕ → ℕ → ℕ
+queueNumber kind k = objectIn (Class.onto kind k 0)
+
+-- nobody waits for what is there: no process waits on a semaphore above 0, on an event UP, with a message for a buffer that has room, for a
+-- message of a buffer that holds one, and no reader waits while a blackboard shows one
+abbrev pub NoneWaits : Partition → Type 0
+NoneWaits p = (kind k : ℕ) → available kind k p ≡ true → waiters (queueNumber kind k) p ≡ []
+
 -- ---------------------------------------------------------------- an event
 -- who joins queue o of partition number i + 1, whose record was p and is q, at an event of partition k that answers code: the process that ran,
 -- where the event is its own partition's, answers 7, and it waits on the object then
@@ -93,29 +123,34 @@ pub record Queued (m : Module) (k : ℕ) (e : EventT) (w : Wait) : Type 0 where
   pub wait : process (running (own m k)) (own (step m e .state) k) .wait ≡ w
   pub queue : waiters (object w) (own (step m e .state) k) ≡ waiters (object w) (own m k) ++ (running (own m k) ∷ [])
 
--- the wait of process id, the first of queue o, ends: it leaves the queue, and neither another process nor a semaphore changes
-pub record FirstServed (m : Module) (k : ℕ) (e : EventT) (o id : ℕ) (rest : List ℕ) : Type 0 where
+-- the wait of process id, the first of queue o, ends: it leaves the queue, this message is in its record then, and no other process changes
+pub record FirstServed (m : Module) (k : ℕ) (e : EventT) (o id : ℕ) (rest : List ℕ) (message : ℕ) : Type 0 where
   pub code : step m e .answer .code ≡ 0
   pub queue : waiters o (own (step m e .state) k) ≡ rest
   pub ended : WaitEnded 0 (process id (own m k)) (process id (own (step m e .state) k))
+  pub has : process id (own (step m e .state) k) .message ≡ message
   pub others : (y : ℕ) → (y ≡ id → ⊥) → process y (own (step m e .state) k) ≡ process y (own m k)
-  pub semaphores : own (step m e .state) k .semaphores ≡ own m k .semaphores
 
--- nobody waits on semaphore j: its value is one more, and no process changes
-pub record NoneServed (m : Module) (k : ℕ) (e : EventT) (j : ℕ) : Type 0 where
+-- nobody is served: no process changes
+pub record NoneServed (m : Module) (k : ℕ) (e : EventT) (o : ℕ) : Type 0 where
   pub code : step m e .answer .code ≡ 0
-  pub queue : waiters (object (Semaphore j)) (own (step m e .state) k) ≡ []
-  pub value : semaphore j (own (step m e .state) k) .value ≡ semaphore j (own m k) .value + 1
+  pub queue : waiters o (own (step m e .state) k) ≡ []
   pub processes : own (step m e .state) k .processes ≡ own m k .processes
 
--- all waits of queue o end, no other process changes, and those READY then join the arrival list in queue order
-pub record AllServed (m : Module) (k : ℕ) (e : EventT) (o : ℕ) : Type 0 where
+-- all waits of queue o end, each waiter has its message then, no other process changes, and those READY then join the arrival list in queue order
+pub record AllServed (m : Module) (k : ℕ) (e : EventT) (o : ℕ) (message : ℕ → ℕ) : Type 0 where
   pub code : step m e .answer .code ≡ 0
   pub queue : waiters o (own (step m e .state) k) ≡ []
   pub ended : (id : ℕ) → contains id (waiters o (own m k)) ≡ true → WaitEnded 0 (process id (own m k)) (process id (own (step m e .state) k))
+  pub has : (id : ℕ) → contains id (waiters o (own m k)) ≡ true → process id (own (step m e .state) k) .message ≡ message id
   pub others : (id : ℕ) → contains id (waiters o (own m k)) ≡ false → process id (own (step m e .state) k) ≡ process id (own m k)
   pub arrival : members (own (step m e .state) k .arrival) ≡ members (own m k .arrival) ++ kept (λ id. ready (process id (own (step m e .state) k))) (waiters o (own m k))
 
+-- the message that a process has
+abbrev pub has : Module → ℕ → ℕ → ℕ
+has m k id = process id (own m k) .message
+
+-- semaphores and events
 pub record QueueCalls (m : Module) (k j : ℕ) : Type 0 where
   -- 15 WAIT_SEMAPHORE of a value 0 and 20 WAIT_EVENT of an event DOWN: queued last
   pub waitSemaphore : (a : ℤ) → let p = own m k in
@@ -126,14 +161,64 @@ pub record QueueCalls (m : Module) (k j : ℕ) : Type 0 where
       → Queued m k (callBy k 20 (pos j) a (pos 0) (pos 0)) (Event j)
   -- 16 SIGNAL below max: the first waiter's wait ends; none: value + 1
   pub signalFirst : (id : ℕ) (rest : List ℕ) → let p = own m k in
+      let e = callBy k 16 (pos j) (pos 0) (pos 0) (pos 0) in
       Between 1 (p .semaphoreCount) j → (semaphore j p .value ≡ semaphore j p .max → ⊥) → waiters (object (Semaphore j)) p ≡ id ∷ rest
-      → FirstServed m k (callBy k 16 (pos j) (pos 0) (pos 0) (pos 0)) (object (Semaphore j)) id rest
+      → FirstServed m k e (object (Semaphore j)) id rest (has m k id) × SameObjects p (own (step m e .state) k)
   pub signalNone : let p = own m k in
+      let e = callBy k 16 (pos j) (pos 0) (pos 0) (pos 0) in
       Between 1 (p .semaphoreCount) j → (semaphore j p .value ≡ semaphore j p .max → ⊥) → waiters (object (Semaphore j)) p ≡ []
-      → NoneServed m k (callBy k 16 (pos j) (pos 0) (pos 0) (pos 0)) j
+      → NoneServed m k e (object (Semaphore j)) × (semaphore j (own (step m e .state) k) .value ≡ semaphore j p .value + 1)
   -- 18 SET_EVENT: UP, all waiters' waits end in queue order
   pub setEvent : let e = callBy k 18 (pos j) (pos 0) (pos 0) (pos 0) in
-      Between 1 (own m k .eventCount) j → AllServed m k e (object (Event j)) × (event j (own (step m e .state) k) .up ≡ true)
+      Between 1 (own m k .eventCount) j → AllServed m k e (object (Event j)) (has m k) × (event j (own (step m e .state) k) .up ≡ true)
+
+-- a time-out: −1, or 0..9,999,999
+abbrev pub TimeOut : ℤ → Type 0
+TimeOut a = (plainMinusOne a || plainBetween 0 durationLimit a) ≡ true
+
+-- buffers and blackboards; b is a message
+pub record MessageCalls (m : Module) (k j : ℕ) : Type 0 where
+  -- 24 SEND_BUFFER to a full buffer, 25 RECEIVE_BUFFER from an empty one, 28 READ_BLACKBOARD of one that shows nothing: queued last
+  pub sendWaits : (b : ℕ) (a : ℤ) → let p = own m k in
+      p .mode ≡ 3 → Between 1 (p .bufferCount) j → buffer j p .queue .len ≡ buffer j p .limit → b ≤ durationLimit → WaitsFor a
+      → Queued m k (callBy k 24 (pos j) (pos b) a (pos 0)) (Sending j b)
+  pub receiveWaits : (a : ℤ) → let p = own m k in
+      p .mode ≡ 3 → Between 1 (p .bufferCount) j → held (buffer j p .queue) ≡ [] → WaitsFor a
+      → Queued m k (callBy k 25 (pos j) a (pos 0) (pos 0)) (Receiving j)
+  pub readWaits : (a : ℤ) → let p = own m k in
+      p .mode ≡ 3 → Between 1 (p .blackboardCount) j → blackboard j p .shown ≡ false → WaitsFor a
+      → Queued m k (callBy k 28 (pos j) a (pos 0) (pos 0)) (Blackboard j)
+  -- 24 SEND_BUFFER where receivers wait: the message goes straight into the first one's record, and no object changes
+  pub sendFirst : (b id : ℕ) (rest : List ℕ) (a : ℤ) → let p = own m k in
+      let e = callBy k 24 (pos j) (pos b) a (pos 0) in
+      p .mode ≡ 3 → Between 1 (p .bufferCount) j → waiters (object (Receiving j)) p ≡ id ∷ rest → b ≤ durationLimit → TimeOut a
+      → FirstServed m k e (object (Receiving j)) id rest b × SameObjects p (own (step m e .state) k)
+  -- where none waits and there is room: it is the buffer's last message
+  pub sendNone : (b : ℕ) (a : ℤ) → let p = own m k in
+      let e = callBy k 24 (pos j) (pos b) a (pos 0) in
+      p .mode ≡ 3 → Between 1 (p .bufferCount) j → waiters (object (Receiving j)) p ≡ [] → buffer j p .queue .len < buffer j p .limit → b ≤ durationLimit → TimeOut a
+      → NoneServed m k e (object (Receiving j)) × (held (buffer j (own (step m e .state) k) .queue) ≡ held (buffer j p .queue) ++ (b ∷ []))
+  -- 25 RECEIVE_BUFFER: the first message; the first waiting sender's message is let in at the end, none: the others move up
+  pub receiveFirst : (b : ℕ) (l : List ℕ) (id : ℕ) (rest : List ℕ) (a : ℤ) → let p = own m k in
+      let e = callBy k 25 (pos j) a (pos 0) (pos 0) in
+      p .mode ≡ 3 → Between 1 (p .bufferCount) j → held (buffer j p .queue) ≡ b ∷ l → waiters (object (Sending j 0)) p ≡ id ∷ rest → TimeOut a
+      → FirstServed m k e (object (Sending j 0)) id rest (has m k id) × (step m e .answer .value ≡ b) × (held (buffer j (own (step m e .state) k) .queue) ≡ l ++ (carried (process id p) ∷ []))
+  pub receiveNone : (b : ℕ) (l : List ℕ) (a : ℤ) → let p = own m k in
+      let e = callBy k 25 (pos j) a (pos 0) (pos 0) in
+      p .mode ≡ 3 → Between 1 (p .bufferCount) j → held (buffer j p .queue) ≡ b ∷ l → waiters (object (Sending j 0)) p ≡ [] → TimeOut a
+      → NoneServed m k e (object (Sending j 0)) × (step m e .answer .value ≡ b) × (held (buffer j (own (step m e .state) k) .queue) ≡ l)
+  -- 27 SHOW: all waiters' waits end in queue order, and each has the message; it is shown
+  pub show : (b : ℕ) → let e = callBy k 27 (pos j) (pos b) (pos 0) (pos 0) in
+      Between 1 (own m k .blackboardCount) j → b ≤ durationLimit
+      → AllServed m k e (object (Blackboard j)) (λ _. b) × (blackboard j (own (step m e .state) k) ≡ record { name = blackboard j (own m k) .name; shown = true; message = b })
+  -- 28 READ_BLACKBOARD of what is shown: the value, and nothing changes
+  pub readShown : (a : ℤ) → let p = own m k in
+      p .mode ≡ 3 → Between 1 (p .blackboardCount) j → blackboard j p .shown ≡ true → TimeOut a
+      → Gives m (callBy k 28 (pos j) a (pos 0) (pos 0)) 0 (blackboard j p .message) (At 0) m
+  -- 29 CLEAR: it shows nothing
+  pub clear : let e = callBy k 29 (pos j) (pos 0) (pos 0) (pos 0) in
+      Between 1 (own m k .blackboardCount) j
+      → (step m e .answer .code ≡ 0) × (blackboard j (own (step m e .state) k) ≡ record { name = blackboard j (own m k) .name; shown = false; message = 0 })
 
 -- the whole
 pub record Queues : Type 0 where
@@ -141,5 +226,8 @@ pub record Queues : Type 0 where
   pub events : (m : Module) → Reached m → (e : EventT) (i : ℕ) → i < m .table .size → (o : ℕ) → (o ≡ 0 → ⊥) → QueueAfter m e i o
   -- each change of a partition of a reached record
   pub changes : (m : Module) → Reached m → (i : ℕ) → i < m .table .size → (o : ℕ) → (o ≡ 0 → ⊥) → QueueChanges o (part m i)
+  -- who waits, in each partition of a reached record
+  pub none : (m : Module) → Reached m → (i : ℕ) → i < m .table .size → NoneWaits (part m i)
   -- the calls
   pub calls : (m : Module) (k : ℕ) → Calling m k → (j : ℕ) → QueueCalls m k j
+  pub messages : (m : Module) (k : ℕ) → Calling m k → (j : ℕ) → MessageCalls m k j

@@ -18,10 +18,11 @@ use Rattle.machine.specs.declared.Window.{Window}
 use Rattle.machine.specs.declared.Wait.the-variants.{None, Normal, Delay, Timed, Period, Semaphore, Event, Sending, Receiving, Blackboard}
 use Rattle.machine.specs.declared.Time.{Time}
 use Rattle.machine.specs.declared.Time.the-variants.{Never, At}
-use Rattle.machine.specs.Limits.{processLimit, semaphoreLimit, eventLimit, nameLimit, priorityLimit, valueLimit, timeLimit}
+use Rattle.machine.specs.Limits.{processLimit, semaphoreLimit, eventLimit, bufferLimit, messageLimit, blackboardLimit, nameLimit, priorityLimit, valueLimit, durationLimit, timeLimit}
 use Rattle.machine.specs.Ids.{members, idsOf, kept, other}
 use Rattle.machine.specs.Process.{createdProcess, ready, withCurrent}
-use Rattle.machine.specs.Partition.{process, semaphore, event, running, nothingCreated, noted, withProcesses, withSemaphores, withEvents}
+use Rattle.machine.specs.Partition.{process, semaphore, event, buffer, blackboard, running, nothingCreated, noted, withProcesses, withSemaphores, withEvents, withBuffers, withBlackboards}
+use Rattle.machine.specs.Messages.{queueOf}
 use Rattle.machine.specs.Windows.{windows, noWindow}
 use Rattle.machine.specs.Module.{part, message, channel, current, withPart}
 use Rattle.machine.specs.Step.{step}
@@ -95,6 +96,13 @@ withNewSemaphore name start max p = withSemaphores (set (p .semaphores) (p .sema
 abbrev pub withNewEvent : ℕ → Partition → Partition
 withNewEvent name p = withEvents (set (p .events) (p .eventCount) (record { name = name; up = false })) (p .eventCount + 1) p
 
+-- one more buffer, one more blackboard, with nothing in them
+abbrev pub withNewBuffer : ℕ → ℕ → Partition → Partition
+withNewBuffer name limit p = withBuffers (set (p .buffers) (p .bufferCount) (record { name = name; limit = limit; queue = queueOf [] })) (p .bufferCount + 1) p
+
+abbrev pub withNewBlackboard : ℕ → Partition → Partition
+withNewBlackboard name p = withBlackboards (set (p .blackboards) (p .blackboardCount) (record { name = name; shown = false; message = 0 })) (p .blackboardCount + 1) p
+
 -- semaphore j has this value
 abbrev pub withSemaphoreAt : ℕ → ℕ → Partition → Partition
 withSemaphoreAt j n p = withSemaphores (set (p .semaphores) (j - 1) (record { name = semaphore j p .name; value = n; max = semaphore j p .max })) (p .semaphoreCount) p
@@ -105,7 +113,7 @@ pub record Room (p : Partition) (count limit : ℕ) : Type 0 where
   pub early : p .mode ≡ 3 → ⊥
   pub less : count < limit
 
--- no process, semaphore, event of the partition has this name
+-- no process, semaphore, event, buffer, blackboard of the partition has this name
 abbrev pub NewProcess : Partition → ℕ → Type 0
 NewProcess p name = (id : ℕ) → Between 1 (p .processCount) id → process id p .given .name ≡ name → ⊥
 
@@ -114,6 +122,12 @@ NewSemaphore p name = (j : ℕ) → Between 1 (p .semaphoreCount) j → semaphor
 
 abbrev pub NewEvent : Partition → ℕ → Type 0
 NewEvent p name = (j : ℕ) → Between 1 (p .eventCount) j → event j p .name ≡ name → ⊥
+
+abbrev pub NewBuffer : Partition → ℕ → Type 0
+NewBuffer p name = (j : ℕ) → Between 1 (p .bufferCount) j → buffer j p .name ≡ name → ⊥
+
+abbrev pub NewBlackboard : Partition → ℕ → Type 0
+NewBlackboard p name = (j : ℕ) → Between 1 (p .blackboardCount) j → blackboard j p .name ≡ name → ⊥
 
 -- CREATE_PROCESS name, priority, period, capacity
 abbrev pub createBy : ℕ → ℕ → ℕ → Time → Time → EventT
@@ -203,6 +217,14 @@ pub record Corners (m : Module) (k : ℕ) : Type 0 where
       Room p (p .eventCount) eventLimit → NewEvent p nameLimit
       → Puts m (callBy k 17 (pos nameLimit) (pos 0) (pos 0) (pos 0)) 0 (p .eventCount + 1) k (withNewEvent nameLimit p)
       × Refuses m (callBy k 17 (pos (nameLimit + 1)) (pos 0) (pos 0) (pos 0)) 3
+  pub bufferName : (limit : ℕ) → let p = own m k in
+      Room p (p .bufferCount) bufferLimit → NewBuffer p nameLimit → Between 1 messageLimit limit
+      → Puts m (callBy k 23 (pos nameLimit) (pos limit) (pos 0) (pos 0)) 0 (p .bufferCount + 1) k (withNewBuffer nameLimit limit p)
+      × Refuses m (callBy k 23 (pos (nameLimit + 1)) (pos limit) (pos 0) (pos 0)) 3
+  pub blackboardName : let p = own m k in
+      Room p (p .blackboardCount) blackboardLimit → NewBlackboard p nameLimit
+      → Puts m (callBy k 26 (pos nameLimit) (pos 0) (pos 0) (pos 0)) 0 (p .blackboardCount + 1) k (withNewBlackboard nameLimit p)
+      × Refuses m (callBy k 26 (pos (nameLimit + 1)) (pos 0) (pos 0) (pos 0)) 3
   -- period M/M + 1 (M above 1), with every capacity that M admits, and M + 1 whatever the capacity
   pub period : (name priority : ℕ) (capacity : Time) (e : ℤ) → let p = own m k in
       let M = m .table .frame in
@@ -227,7 +249,7 @@ pub record Corners (m : Module) (k : ℕ) : Type 0 where
       → (m .t ≡ x .written + refresh → Gives m (callBy k 22 (pos i) (pos 0) (pos 0) (pos 0)) 0 (x .value) (At 1) m)
       × (m .t ≡ x .written + refresh + 1 → Gives m (callBy k 22 (pos i) (pos 0) (pos 0) (pos 0)) 0 (x .value) (At 0) m)
   -- timeout 0: SUSPEND_SELF changes nothing, TIMED_WAIT puts the caller last, WAIT_SEMAPHORE and WAIT_EVENT answer 2 where they would wait, and
-  -- succeed where they need not
+  -- succeed where they need not; the calls of document 02 that wait answer 2 too (where they need not wait: `MessageCalls` of Queues)
   pub suspendSelf : let p = own m k in
       p .mode ≡ 3 → process (running p) p .given .period ≡ Never
       → Gives m (callBy k 8 (pos 0) (pos 0) (pos 0) (pos 0)) 0 0 (At 0) m
@@ -242,6 +264,14 @@ pub record Corners (m : Module) (k : ℕ) : Type 0 where
       p .mode ≡ 3 → Between 1 (p .eventCount) j
       → (event j p .up ≡ false → Refuses m (callBy k 20 (pos j) (pos 0) (pos 0) (pos 0)) 2)
       × (event j p .up ≡ true → Gives m (callBy k 20 (pos j) (pos 0) (pos 0) (pos 0)) 0 0 (At 0) m)
+  pub sendBuffer : (j x : ℕ) → let p = own m k in
+      p .mode ≡ 3 → Between 1 (p .bufferCount) j → x ≤ durationLimit → buffer j p .queue .len ≡ buffer j p .limit → Refuses m (callBy k 24 (pos j) (pos x) (pos 0) (pos 0)) 2
+  pub receiveBuffer : (j : ℕ) → let p = own m k in
+      p .mode ≡ 3 → Between 1 (p .bufferCount) j → buffer j p .queue .len ≡ 0 → Refuses m (callBy k 25 (pos j) (pos 0) (pos 0) (pos 0)) 2
+  pub readBlackboard : (j : ℕ) → let p = own m k in
+      p .mode ≡ 3 → Between 1 (p .blackboardCount) j
+      → (blackboard j p .shown ≡ false → Refuses m (callBy k 28 (pos j) (pos 0) (pos 0) (pos 0)) 2)
+      × (blackboard j p .shown ≡ true → Gives m (callBy k 28 (pos j) (pos 0) (pos 0) (pos 0)) 0 (blackboard j p .message) (At 0) m)
   -- SIGNAL at max
   pub signal : (j : ℕ) → let p = own m k in
       Between 1 (p .semaphoreCount) j → semaphore j p .value ≡ semaphore j p .max

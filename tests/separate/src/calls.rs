@@ -1,12 +1,14 @@
-//! The bodies of calls 1 to 22 ("Calls"). Checks run in the order written.
+//! The bodies of calls 1 to 29 ("Calls" of document 01; 23 to 29 of document
+//! 02, a). Checks run in the order written.
 
 mod channel;
+mod message;
 mod process;
 mod queue;
 mod start;
 
 use crate::machine::{Caller, Event, Outcome};
-use crate::record::{Id, Module};
+use crate::record::{Id, Mode, Module, Partition, Wait};
 use std::ops::RangeInclusive;
 
 /// D: a delay, a capacity or a message.
@@ -15,6 +17,11 @@ const D: RangeInclusive<i64> = 0..=MOST_TIME;
 pub const NAMES: RangeInclusive<i64> = 1..=255;
 pub const PRIORITIES: RangeInclusive<i64> = 1..=239;
 pub const MOST_VALUE: i64 = 32_767;
+/// How many messages a buffer may hold.
+pub const LIMITS: RangeInclusive<i64> = 1..=16;
+
+/// What a body with shared checks answers; `Err` is a refusal by one of them.
+type Checked = Result<Outcome, Outcome>;
 
 /// The number's refusal, written like the paper's "n: ...".
 fn refuse(code: i64) -> Outcome {
@@ -29,6 +36,81 @@ fn in_t(number: i64) -> bool {
 /// A time-out a of T from t: t + a, or never.
 fn after(t: i64, a: i64) -> Option<i64> {
     (a != -1).then_some(t + a)
+}
+
+/// The checks of a call that may wait in a queue. 3: id unknown. 5: start
+/// mode. 3: a field not good. Gives the id and the calling process.
+fn may_wait(known: Option<Id>, caller: Caller, good: bool) -> Result<(Id, Id), Outcome> {
+    let of = known.ok_or(refuse(3))?;
+    let Caller::Process(own) = caller else {
+        return Err(refuse(5));
+    };
+    if !good {
+        return Err(refuse(3));
+    }
+    Ok((of, own))
+}
+
+impl Partition {
+    /// The checks of a call that creates. 4: as many exist as may. 1: name
+    /// exists among them. 3: name not 1..255, or another field not good. 5:
+    /// NORMAL.
+    fn may_create(
+        &self,
+        mut names: impl ExactSizeIterator<Item = i64>,
+        most: usize,
+        name: i64,
+        good: bool,
+    ) -> Result<(), Outcome> {
+        if names.len() == most {
+            return Err(refuse(4));
+        }
+        if names.any(|other| other == name) {
+            return Err(refuse(1));
+        }
+        if !NAMES.contains(&name) || !good {
+            return Err(refuse(3));
+        }
+        if self.mode == Mode::Normal {
+            return Err(refuse(5));
+        }
+        Ok(())
+    }
+
+    /// What a call does that finds nothing. 2: a = 0. Else queued last,
+    /// w = t + a or -1, code 7.
+    fn wait_in_queue(&mut self, id: Id, wait: Wait, t: i64, a: i64) -> Checked {
+        if a == 0 {
+            return Err(refuse(2));
+        }
+        self.change(id, |process| {
+            process.wait = wait;
+            process.wake = after(t, a);
+        });
+        self.join_queue(id);
+        Ok(Outcome::WAITING)
+    }
+
+    /// The bodies of the calls for semaphores, events, buffers, blackboards.
+    fn object_body(&mut self, caller: Caller, t: i64, event: &Event) -> Checked {
+        let [a, b, c, _] = event.fields;
+        match event.call {
+            14 => self.create_semaphore(a, b, c),
+            15 => self.wait_semaphore(caller, t, a, b),
+            16 => Ok(self.signal(a)),
+            17 => self.create_event(a),
+            18 => Ok(self.set_event(a)),
+            19 => Ok(self.reset_event(a)),
+            20 => self.wait_event(caller, t, a, b),
+            23 => self.create_buffer(a, b),
+            24 => self.send_buffer(caller, t, a, b, c),
+            25 => self.receive_buffer(caller, t, a, b),
+            26 => self.create_blackboard(a),
+            27 => Ok(self.show(a, b)),
+            28 => self.read_blackboard(caller, t, a, b),
+            _ => Ok(self.clear(a)),
+        }
+    }
 }
 
 impl Module {
@@ -57,13 +139,9 @@ impl Module {
             11 => partition.resume(caller, a),
             12 => partition.set_priority(a, b),
             13 => partition.get_process_status(caller, a),
-            14 => partition.create_semaphore(a, b, c),
-            15 => partition.wait_semaphore(caller, t, a, b),
-            16 => partition.signal(a),
-            17 => partition.create_event(a),
-            18 => partition.set_event(a),
-            19 => partition.reset_event(a),
-            _ => partition.wait_event(caller, t, a, b),
+            _ => match partition.object_body(caller, t, event) {
+                Ok(outcome) | Err(outcome) => outcome,
+            },
         }
     }
 }

@@ -1,5 +1,7 @@
 //! Counts what made-up inputs reach: answers, waits, reasons, corners.
 
+mod messages;
+
 use crate::events::Events;
 use crate::generate;
 use crate::line::LENGTH;
@@ -8,10 +10,10 @@ use crate::record::{Channel, Mode, Module, Partition, Process, Wait};
 use crate::replay::{read_table, Lines};
 use std::io::{self, Write};
 
-const CALLS: usize = 23;
+const CALLS: usize = 30;
 const CODES: usize = 14;
 
-/// The codes that document 01 allows for a tick (0) and for each call, but
+/// The codes that the documents allow for a tick (0) and for each call, but
 /// for 10, which only a tick at the end of time gets.
 pub const ALLOWED: [&[usize]; CALLS] = [
     &[0, 13],
@@ -37,6 +39,13 @@ pub const ALLOWED: [&[usize]; CALLS] = [
     &[0, 2, 3, 5, 7, 8, 9, 13],
     &[0, 3, 5, 8, 9, 13],
     &[0, 1, 3, 5, 8, 9, 13],
+    &[0, 1, 3, 4, 5, 8, 9, 13],
+    &[0, 2, 3, 5, 7, 8, 9, 13],
+    &[0, 2, 3, 5, 7, 8, 9, 13],
+    &[0, 1, 3, 4, 5, 8, 9, 13],
+    &[0, 3, 8, 9, 13],
+    &[0, 2, 3, 5, 7, 8, 9, 13],
+    &[0, 3, 8, 9, 13],
 ];
 
 const NAMES: [&str; CALLS] = [
@@ -63,32 +72,66 @@ const NAMES: [&str; CALLS] = [
     "WAIT_EVENT",
     "WRITE",
     "READ",
+    "CREATE_BUFFER",
+    "SEND_BUFFER",
+    "RECEIVE_BUFFER",
+    "CREATE_BLACKBOARD",
+    "SHOW",
+    "READ_BLACKBOARD",
+    "CLEAR",
 ];
 
 /// The kinds of wait, and the suspended mark of a process without wait.
-pub const WAITS: [&str; 7] = [
+pub const WAITS: [&str; 10] = [
     "normal",
     "delay",
     "timed",
     "period",
     "semaphore",
     "event",
+    "sending",
+    "receiving",
+    "blackboard",
     "suspended, no wait",
 ];
 
-/// What can happen to a wait.
-pub const CHANGES: [&str; 10] = [
+/// What can happen to a wait. SIGNAL and SET_EVENT end one by signal, and so
+/// do SEND_BUFFER, RECEIVE_BUFFER and SHOW.
+pub const CHANGES: [&str; 13] = [
     "began",
+    "suspended",
+    "resumed",
     "by signal",
     "by time",
     "by stop",
     "by NORMAL",
     "erased",
-    "suspended",
-    "resumed",
     "by signal, suspended",
     "by time, suspended",
+    "by stop, suspended",
+    "by NORMAL, suspended",
+    "erased, suspended",
 ];
+
+/// True if the rules let this happen to a wait. A periodic process is never
+/// suspended, and the mark without wait is no wait that could be suspended.
+fn may_happen(wait: &str, change: &str) -> bool {
+    let (way, suspended) = match change.strip_suffix(", suspended") {
+        Some(way) => (way, true),
+        None => (change, change == "suspended"),
+    };
+    match wait {
+        "period" if suspended || way == "resumed" => return false,
+        "suspended, no wait" if suspended => return false,
+        _ => {}
+    }
+    match way {
+        "by signal" => ["semaphore", "event", "sending", "receiving", "blackboard"].contains(&wait),
+        "by time" => wait != "normal",
+        "by NORMAL" => wait == "normal",
+        _ => true,
+    }
+}
 
 /// The reasons for 13, in the order in which they are looked for.
 pub const REASONS: [&str; 11] = [
@@ -96,7 +139,7 @@ pub const REASONS: [&str; 11] = [
     "partition below 0",
     "partition above P",
     "call below 0",
-    "call above 22",
+    "call above 29",
     "partition 0 with a call",
     "a partition with call 0",
     "unused a not 0",
@@ -105,7 +148,7 @@ pub const REASONS: [&str; 11] = [
     "unused e not 0",
 ];
 
-pub const CORNERS: [&str; 20] = [
+pub const CORNERS: [&str; 54] = [
     "no current partition",
     "deadline missed",
     "deadline missed while waiting or suspended",
@@ -126,6 +169,40 @@ pub const CORNERS: [&str; 20] = [
     "16 processes in NORMAL",
     "priority 239 or name 255 taken",
     "STOP of a queued process",
+    "name 255 of a buffer or blackboard taken",
+    "name 256 of a buffer or blackboard refused",
+    "limit 16 taken",
+    "limit 17 refused",
+    "message 9,999,999 sent",
+    "message 9,999,999 shown",
+    "message 10,000,000 not sent",
+    "message 10,000,000 not shown",
+    "message 0 sent",
+    "message 0 received",
+    "message 0 shown",
+    "message 0 read",
+    "message 0 over another in a waiter's record",
+    "message over an earlier one in a waiter's record",
+    "equal messages held",
+    "16 messages held",
+    "SEND_BUFFER to two waiting receivers or more",
+    "RECEIVE_BUFFER with two waiting senders or more",
+    "sender waits at limit 1",
+    "sender waits at a limit above 1",
+    "sender let in behind held messages",
+    "sender stopped ahead of another",
+    "sender timed out ahead of another",
+    "receiver gone from ahead of another",
+    "SHOW to two waiting readers or more",
+    "SHOW over another message",
+    "SHOW over an equal message",
+    "SHOW in a start mode",
+    "CLEAR of a message",
+    "CLEAR in a start mode",
+    "RECEIVE_BUFFER at once by a process with a message in its record",
+    "START of a process with a message in its record",
+    "restart erases held messages",
+    "restart erases a shown message",
 ];
 
 /// Where a table was refused, or that it was accepted.
@@ -204,14 +281,15 @@ impl Coverage {
         for (place, process) in old.processes.iter().enumerate() {
             match new.processes.get(place) {
                 Some(later) => self.take_process(event, process, later),
-                None => self.count_wait(process, "erased"),
+                None => self.count_wait(process, &of_wait(process, "erased")),
             }
         }
+        self.take_queues(event, old, new);
     }
 
     fn take_process(&mut self, event: &Event, old: &Process, new: &Process) {
         if old.wait != new.wait && old.wait != Wait::None {
-            self.count_wait(old, ending(event, old, new));
+            self.count_wait(old, &of_wait(old, ending(event, new)));
         }
         if old.wait != new.wait && new.wait != Wait::None {
             self.count_wait(new, "began");
@@ -251,7 +329,10 @@ impl Coverage {
             Wait::Period => 3,
             Wait::Semaphore(_) => 4,
             Wait::Event(_) => 5,
-            Wait::None if process.suspended => 6,
+            Wait::Sending { .. } => 6,
+            Wait::Receiving(_) => 7,
+            Wait::Blackboard(_) => 8,
+            Wait::None if process.suspended => 9,
             Wait::None => return,
         };
         self.waits[wait][place(&CHANGES, change)] += 1;
@@ -266,7 +347,10 @@ impl Coverage {
     fn take_corners(&mut self, before: &Module, event: &Event, answer: &Answer, after: &Module) {
         self.count_corner("no current partition", answer.current == 0);
         let accepted = answer.code == 0 || answer.code == 7;
-        if !accepted || event.call == 0 {
+        if !accepted {
+            return self.take_refused_corners(before, event, answer);
+        }
+        if event.call == 0 {
             return;
         }
         let own = event.partition as usize;
@@ -281,6 +365,7 @@ impl Coverage {
                 let channel = &before.channels()[event.fields[0] as usize - 1];
                 self.take_read_corners(channel, after.t());
             }
+            23.. => self.take_message_corners(event, answer, old, new),
             _ => self.take_call_corners(event, old),
         }
         self.take_running_corners(answer, old, new);
@@ -293,9 +378,12 @@ impl Coverage {
         let another_ready = old.arrival.len() > 1;
         match event.call {
             2 => self.count_corner("priority 239 or name 255 taken", a == 255 || b == 239),
+            3 | 4 => {
+                let holds = old.process(id).message != 0;
+                self.count_corner("START of a process with a message in its record", holds);
+            }
             5 => {
-                let wait = old.process(id).wait;
-                let queued = matches!(wait, Wait::Semaphore(_) | Wait::Event(_));
+                let queued = old.process(id).wait.queued();
                 self.count_corner("STOP of a queued process", queued);
             }
             8 => self.count_corner("SUSPEND_SELF 0", a == 0),
@@ -335,6 +423,10 @@ impl Coverage {
             return;
         }
         self.count_corner("restart by a running process", old.mode == Mode::Normal);
+        let held = old.buffers.iter().any(|buffer| !buffer.messages.is_empty());
+        self.count_corner("restart erases held messages", held);
+        let shown = old.blackboards.iter().any(|board| board.message.is_some());
+        self.count_corner("restart erases a shown message", shown);
         for (channel, later) in before.channels().iter().zip(after.channels()) {
             let erased = channel.message.is_some() && later.message.is_none();
             self.count_corner("restart erases a message", erased);
@@ -365,7 +457,7 @@ impl Coverage {
         self.tables[place(&TABLES, outcome)] += 1;
     }
 
-    /// The pairs (call, code) that document 01 allows and that were not met.
+    /// The pairs (call, code) that the documents allow and that were not met.
     pub fn missing(&self) -> Vec<(usize, usize)> {
         let pairs = ALLOWED.iter().enumerate();
         let pairs = pairs.flat_map(|(call, codes)| codes.iter().map(move |&code| (call, code)));
@@ -374,7 +466,7 @@ impl Coverage {
             .collect()
     }
 
-    /// The pairs that were met though document 01 has no such answer.
+    /// The pairs that were met though the documents have no such answer.
     pub fn unforeseen(&self) -> Vec<(usize, usize)> {
         let pairs = (0..CALLS).flat_map(|call| (0..CODES).map(move |code| (call, code)));
         let met = |&(call, code): &(usize, usize)| self.answers[call][code] > 0;
@@ -382,6 +474,28 @@ impl Coverage {
             .filter(met)
             .filter(|&(call, code)| !ALLOWED[call].contains(&code))
             .collect()
+    }
+
+    /// What the rules let happen to a wait and what was not met, by wait.
+    pub fn missing_waits(&self) -> Vec<(&'static str, &'static str)> {
+        self.waits_where(|may_happen, met| may_happen && !met)
+    }
+
+    /// What happened to a wait though the rules do not have it.
+    pub fn unforeseen_waits(&self) -> Vec<(&'static str, &'static str)> {
+        self.waits_where(|may_happen, met| !may_happen && met)
+    }
+
+    fn waits_where(&self, wanted: fn(bool, bool) -> bool) -> Vec<(&'static str, &'static str)> {
+        let mut found = Vec::new();
+        for (wait, counts) in WAITS.iter().zip(&self.waits) {
+            for (change, &count) in CHANGES.iter().zip(counts) {
+                if wanted(may_happen(wait, change), count > 0) {
+                    found.push((*wait, *change));
+                }
+            }
+        }
+        found
     }
 
     pub fn print(&self, out: &mut impl Write) -> io::Result<()> {
@@ -392,7 +506,17 @@ impl Coverage {
         print_list(out, "corners", &CORNERS, &self.corners)?;
         print_list(out, "tables", &TABLES, &self.tables)?;
         print_pairs(out, "allowed and not reached", &self.missing())?;
-        print_pairs(out, "reached and not allowed", &self.unforeseen())
+        print_pairs(out, "reached and not allowed", &self.unforeseen())?;
+        print_waits(
+            out,
+            "waits: possible and not reached",
+            &self.missing_waits(),
+        )?;
+        print_waits(
+            out,
+            "waits: reached and not possible",
+            &self.unforeseen_waits(),
+        )
     }
 
     fn print_answers(&self, out: &mut impl Write) -> io::Result<()> {
@@ -436,15 +560,20 @@ impl Default for Coverage {
 }
 
 /// How a wait ended.
-fn ending(event: &Event, old: &Process, new: &Process) -> &'static str {
+fn ending(event: &Event, new: &Process) -> &'static str {
     match event.call {
         _ if !new.started => "by stop",
-        0 if old.suspended => "by time, suspended",
         0 => "by time",
-        16 | 18 if old.suspended => "by signal, suspended",
-        16 | 18 => "by signal",
+        16 | 18 | 24 | 25 | 27 => "by signal",
         _ => "by NORMAL",
     }
+}
+
+/// The way in which a process's wait ended, told apart by its suspended mark.
+fn of_wait(process: &Process, way: &str) -> String {
+    let mark = process.suspended && process.wait != Wait::None;
+    let suffix = if mark { ", suspended" } else { "" };
+    format!("{way}{suffix}")
 }
 
 /// Why an event gets 13.
@@ -455,7 +584,7 @@ fn reason(module: &Module, event: &Event) -> usize {
         (event.partition < 0, "partition below 0"),
         (event.partition > partitions, "partition above P"),
         (event.call < 0, "call below 0"),
-        (event.call > LAST_CALL, "call above 22"),
+        (event.call > LAST_CALL, "call above 29"),
         (
             event.partition == 0 && event.call != 0,
             "partition 0 with a call",
@@ -514,6 +643,14 @@ fn print_pairs(out: &mut impl Write, title: &str, pairs: &[(usize, usize)]) -> i
     writeln!(out, "\n{title}: {}", pairs.len())?;
     for &(call, code) in pairs {
         writeln!(out, "  call {call} {} code {code}", NAMES[call])?;
+    }
+    Ok(())
+}
+
+fn print_waits(out: &mut impl Write, title: &str, waits: &[(&str, &str)]) -> io::Result<()> {
+    writeln!(out, "\n{title}: {}", waits.len())?;
+    for (wait, change) in waits {
+        writeln!(out, "  {wait}: {change}")?;
     }
     Ok(())
 }

@@ -1,6 +1,8 @@
 //! The whole record as text, one item per line; -1 for never.
 
 use crate::record::{Channel, Id, Module, Partition, Process, Wait, Window};
+use std::collections::VecDeque;
+use std::fmt::Display;
 use std::io::{self, Write};
 
 /// Prints the record; a refused table's record is the line `empty`.
@@ -75,36 +77,68 @@ fn dump_channel(channel: &Channel, n: usize, out: &mut impl Write) -> io::Result
 fn dump_partition(partition: &Partition, k: usize, out: &mut impl Write) -> io::Result<()> {
     writeln!(
         out,
-        "partition {k} mode {} processes {} semaphores {} events {}",
+        "partition {k} mode {} processes {} semaphores {} events {} buffers {} blackboards {}",
         partition.mode.number(),
         partition.processes.len(),
         partition.semaphores.len(),
-        partition.events.len()
+        partition.events.len(),
+        partition.buffers.len(),
+        partition.blackboards.len()
     )?;
     for (process, id) in partition.processes.iter().zip(1..) {
         dump_process(process, id, out)?;
     }
+    dump_objects(partition, out)?;
+    write!(out, "arrival")?;
+    dump_numbers(&partition.arrival, out)?;
+    dump_waiters(partition, out)
+}
+
+/// The semaphores, events, buffers and blackboards.
+fn dump_objects(partition: &Partition, out: &mut impl Write) -> io::Result<()> {
     for (semaphore, id) in partition.semaphores.iter().zip(1..) {
         let (name, value, max) = (semaphore.name, semaphore.value, semaphore.max);
         writeln!(out, "semaphore {id} name {name} value {value} max {max}")?;
     }
     for (event, id) in partition.events.iter().zip(1..) {
-        writeln!(
-            out,
-            "event {id} name {} up {}",
-            event.name,
-            u8::from(event.up)
-        )?;
+        let (name, up) = (event.name, u8::from(event.up));
+        writeln!(out, "event {id} name {name} up {up}")?;
     }
-    write!(out, "arrival")?;
-    dump_ids(&partition.arrival, out)?;
-    for (semaphore, id) in partition.semaphores.iter().zip(1..) {
-        write!(out, "waiters semaphore {id}")?;
-        dump_ids(&semaphore.queue, out)?;
+    for (buffer, id) in partition.buffers.iter().zip(1..) {
+        let (name, limit) = (buffer.name, buffer.limit);
+        write!(out, "buffer {id} name {name} limit {limit} messages")?;
+        dump_numbers(&buffer.messages, out)?;
     }
-    for (event, id) in partition.events.iter().zip(1..) {
-        write!(out, "waiters event {id}")?;
-        dump_ids(&event.queue, out)?;
+    for (blackboard, id) in partition.blackboards.iter().zip(1..) {
+        let (name, message) = (blackboard.name, blackboard.message.unwrap_or(-1));
+        writeln!(out, "blackboard {id} name {name} message {message}")?;
+    }
+    Ok(())
+}
+
+/// Every queue, also where no one waits.
+fn dump_waiters(partition: &Partition, out: &mut impl Write) -> io::Result<()> {
+    let semaphores = partition.semaphores.iter().map(|it| &it.queue);
+    let events = partition.events.iter().map(|it| &it.queue);
+    let senders = partition.buffers.iter().map(|it| &it.senders);
+    let receivers = partition.buffers.iter().map(|it| &it.receivers);
+    let blackboards = partition.blackboards.iter().map(|it| &it.queue);
+    dump_queues("semaphore", semaphores, out)?;
+    dump_queues("event", events, out)?;
+    dump_queues("sending", senders, out)?;
+    dump_queues("receiving", receivers, out)?;
+    dump_queues("blackboard", blackboards, out)
+}
+
+/// The queues of one kind of wait, by id.
+fn dump_queues<'a>(
+    wait: &str,
+    queues: impl Iterator<Item = &'a VecDeque<Id>>,
+    out: &mut impl Write,
+) -> io::Result<()> {
+    for (queue, id) in queues.zip(1..) {
+        write!(out, "waiters {wait} {id}")?;
+        dump_numbers(queue, out)?;
     }
     Ok(())
 }
@@ -114,7 +148,7 @@ fn dump_process(process: &Process, id: Id, out: &mut impl Write) -> io::Result<(
     write!(
         out,
         "process {id} name {} base {} current {} period {} capacity {} release {} deadline {} \
-         wake {} delay {} suspended {} missed {} code {} started {} wait ",
+         wake {} delay {} suspended {} missed {} code {} message {} started {} wait ",
         process.name,
         process.base,
         process.current,
@@ -127,6 +161,7 @@ fn dump_process(process: &Process, id: Id, out: &mut impl Write) -> io::Result<(
         u8::from(process.suspended),
         u8::from(process.missed),
         process.wake_code,
+        process.message,
         u8::from(process.started)
     )?;
     dump_wait(process.wait, out)
@@ -141,13 +176,19 @@ fn dump_wait(wait: Wait, out: &mut impl Write) -> io::Result<()> {
         Wait::Period => writeln!(out, "period"),
         Wait::Semaphore(id) => writeln!(out, "semaphore {id}"),
         Wait::Event(id) => writeln!(out, "event {id}"),
+        Wait::Sending { buffer, message } => writeln!(out, "sending {buffer} {message}"),
+        Wait::Receiving(id) => writeln!(out, "receiving {id}"),
+        Wait::Blackboard(id) => writeln!(out, "blackboard {id}"),
     }
 }
 
-/// The ids, each after a single space, and the line's end.
-fn dump_ids<'a>(ids: impl IntoIterator<Item = &'a Id>, out: &mut impl Write) -> io::Result<()> {
-    for id in ids {
-        write!(out, " {id}")?;
+/// The numbers, each after a single space, and the line's end.
+fn dump_numbers<T: Display>(
+    numbers: impl IntoIterator<Item = T>,
+    out: &mut impl Write,
+) -> io::Result<()> {
+    for number in numbers {
+        write!(out, " {number}")?;
     }
     writeln!(out)
 }

@@ -1,10 +1,10 @@
 //! Events chosen by looking at the record, so that calls of the current
 //! partition, known ids and the edges of every rule come up.
 
-use crate::calls::MOST_TIME;
+use crate::calls::{LIMITS, MOST_TIME};
 use crate::line::{self, Line};
 use crate::machine::{Answer, Event, LAST_CALL, USED};
-use crate::record::{Channel, EventFlag, Id, Mode, Module, Process, Semaphore};
+use crate::record::{Blackboard, Buffer, Channel, EventFlag, Id, Mode, Module, Process, Semaphore};
 use crate::replay::Lines;
 use crate::rng::Rng;
 use crate::tables;
@@ -18,16 +18,21 @@ pub struct Events {
     pub(crate) rng: Rng,
     /// Ticks still to come before the next choice.
     burst: usize,
+    /// True in runs that mostly queue for objects and pass messages.
+    passing: bool,
 }
 
+/// How often the tick and each call is chosen.
+type Weights = [usize; USED.len()];
+
 /// How often each call is made by a partition's main program: tick, 1, 2, ...
-const START_WEIGHTS: [usize; 23] = [
-    8, 5, 26, 13, 11, 2, 1, 4, 1, 1, 1, 4, 3, 3, 11, 1, 4, 10, 2, 2, 1, 4, 4,
+const START_WEIGHTS: Weights = [
+    8, 5, 26, 13, 11, 2, 1, 4, 1, 1, 1, 4, 3, 3, 11, 1, 4, 10, 2, 2, 1, 4, 4, 12, 1, 1, 10, 4, 1, 2,
 ];
 
 /// How often each call is made by a running process.
-const NORMAL_WEIGHTS: [usize; 23] = [
-    24, 1, 2, 8, 7, 3, 1, 6, 4, 6, 4, 8, 6, 6, 2, 11, 8, 2, 5, 5, 8, 7, 7,
+const NORMAL_WEIGHTS: Weights = [
+    24, 1, 2, 8, 7, 3, 1, 6, 4, 6, 4, 8, 6, 6, 2, 11, 8, 2, 5, 5, 8, 7, 7, 2, 14, 11, 2, 6, 9, 5,
 ];
 
 impl Events {
@@ -40,11 +45,13 @@ impl Events {
     }
 
     /// A source of events for a module.
-    pub fn of(module: Module, rng: Rng) -> Events {
+    pub fn of(module: Module, mut rng: Rng) -> Events {
+        let passing = rng.percent(40);
         Events {
             module,
             rng,
             burst: 0,
+            passing,
         }
     }
 
@@ -85,10 +92,13 @@ impl Events {
         if self.rng.percent(30) && self.near_refresh(own) {
             return self.call(own, 22);
         }
+        if self.rng.percent(30) && self.fills(own) {
+            return self.call(own, 24);
+        }
         let partition = self.module.partition(own);
         let weights = match partition.mode {
             Mode::Normal if partition.running() != 0 => self.normal_weights(own),
-            Mode::ColdStart | Mode::WarmStart => START_WEIGHTS,
+            Mode::ColdStart | Mode::WarmStart => self.start_weights(),
             _ => return self.call_that_gets_9(own),
         };
         match self.rng.weighted(&weights) {
@@ -98,11 +108,36 @@ impl Events {
     }
 
     /// A periodic caller mostly works for a while and waits for its release.
-    fn normal_weights(&self, own: Id) -> [usize; 23] {
+    /// One that waits in a queue is suspended more often, and a suspended one
+    /// stopped or erased.
+    fn normal_weights(&self, own: Id) -> Weights {
         let partition = self.module.partition(own);
         let mut weights = NORMAL_WEIGHTS;
         if partition.process(partition.running()).periodic() {
             weights[10] = 22;
+        }
+        if partition.processes.iter().any(may_suspend_waiter) {
+            weights[7] += 4;
+        }
+        if partition.processes.iter().any(suspended_waiter) {
+            weights[1] += 2;
+            weights[5] += 3;
+        }
+        if self.passing {
+            weights[0] = 12;
+            for call in [5, 15, 16, 18, 20, 24, 25, 27, 28] {
+                weights[call] *= 2;
+            }
+        }
+        weights
+    }
+
+    /// Where messages are passed more processes are started before NORMAL.
+    fn start_weights(&self) -> Weights {
+        let mut weights = START_WEIGHTS;
+        if self.passing {
+            weights[2] *= 2;
+            weights[3] *= 2;
         }
         weights
     }
@@ -161,7 +196,7 @@ impl Events {
                 let partition = rng.pick(&[own, 0, -1]);
                 Event {
                     partition,
-                    call: rng.pick(&[-1, 23, FAR]),
+                    call: rng.pick(&[-1, LAST_CALL + 1, FAR]),
                     fields: zeros,
                 }
             }
@@ -218,8 +253,8 @@ impl Events {
             2 => self.new_process(own),
             3 => [self.process(own, Process::dormant), 0, 0, 0],
             4 => self.delayed_start(own),
-            5 => [self.process(own, |process| process.started), 0, 0, 0],
-            7 => [self.process(own, may_suspend), 0, 0, 0],
+            5 => [self.process_to_stop(own), 0, 0, 0],
+            7 => [self.process_to_suspend(own), 0, 0, 0],
             8 | 9 => [self.time_out(own), 0, 0, 0],
             11 => [self.process(own, |process| process.suspended), 0, 0, 0],
             12 => [
@@ -230,29 +265,51 @@ impl Events {
             ],
             13 => [self.process(own, |_| true), 0, 0, 0],
             14 => self.new_semaphore(own),
-            15 => [
-                self.semaphore(own, |it| it.value == 0),
-                self.time_out(own),
-                0,
-                0,
-            ],
+            15 => [self.semaphore_to_wait(own), self.time_out(own), 0, 0],
             16 => [self.semaphore(own, |it| !it.queue.is_empty()), 0, 0, 0],
             17 => [self.name(own, 17), 0, 0, 0],
             18 => [self.event(own, |it| !it.queue.is_empty()), 0, 0, 0],
             19 => [self.event(own, |it| it.up), 0, 0, 0],
-            20 => [self.event(own, |it| !it.up), self.time_out(own), 0, 0],
+            20 => [self.event_to_wait(own), self.time_out(own), 0, 0],
             21 => [self.source_channel(own), self.message(), 0, 0],
             22 => [self.destination_channel(own), 0, 0, 0],
+            23.. => self.message_fields(own, call),
             _ => [0; 4],
         }
     }
 
-    /// Mostly NORMAL once a process is started; restarts and IDLE are rare.
+    /// The fields of calls 23 to 29.
+    fn message_fields(&mut self, own: Id, call: i64) -> [i64; 4] {
+        match call {
+            23 => [self.name(own, 23), self.limit(), 0, 0],
+            24 => [
+                self.buffer_to_send(own),
+                self.passed_message(),
+                self.time_out(own),
+                0,
+            ],
+            25 => [self.buffer_to_receive(own), self.time_out(own), 0, 0],
+            26 => [self.name(own, 26), 0, 0, 0],
+            27 => [
+                self.blackboard(own, |it| !it.queue.is_empty()),
+                self.passed_message(),
+                0,
+                0,
+            ],
+            28 => [self.blackboard_to_read(own), self.time_out(own), 0, 0],
+            _ => [self.blackboard(own, |it| it.message.is_some()), 0, 0, 0],
+        }
+    }
+
+    /// Mostly NORMAL once a process is started; restarts and IDLE are rare,
+    /// less so where a suspended process waits in a queue.
     fn mode(&mut self, own: Id) -> i64 {
         let partition = self.module.partition(own);
         let started = partition.processes.iter().any(|process| process.started);
+        let suspended = partition.processes.iter().any(suspended_waiter);
         let weights = match partition.mode {
             // 0, 1, 2, 3, out of range
+            Mode::Normal if suspended => [1, 25, 35, 20, 19],
             Mode::Normal => [1, 8, 10, 50, 31],
             _ if started => [1, 2, 4, 83, 10],
             _ => [1, 5, 10, 14, 70],
@@ -284,6 +341,8 @@ impl Events {
         let names: Vec<i64> = match call {
             2 => partition.processes.iter().map(|it| it.name).collect(),
             14 => partition.semaphores.iter().map(|it| it.name).collect(),
+            23 => partition.buffers.iter().map(|it| it.name).collect(),
+            26 => partition.blackboards.iter().map(|it| it.name).collect(),
             _ => partition.events.iter().map(|it| it.name).collect(),
         };
         (!names.is_empty()).then(|| self.rng.pick(&names))
@@ -368,6 +427,42 @@ impl Events {
         [self.name(own, 14), start.clamp(-1, FAR), max, 0]
     }
 
+    /// Mostly small, so that buffers fill; the greatest too, and those beyond.
+    fn limit(&mut self) -> i64 {
+        let greatest = *LIMITS.end();
+        match self.rng.below(12) {
+            0 => self.rng.pick(&[0, -1, greatest + 1, FAR]),
+            1 => greatest,
+            2..=6 => 1,
+            _ => self.rng.range(2, 4),
+        }
+    }
+
+    /// A message for a buffer or a blackboard, often one that came before.
+    fn passed_message(&mut self) -> i64 {
+        if self.rng.percent(30) {
+            return self.rng.range(0, 3);
+        }
+        self.message()
+    }
+
+    /// A process to stop: often one that waits in a queue.
+    fn process_to_stop(&mut self, own: Id) -> i64 {
+        match self.rng.below(4) {
+            0 => self.process(own, |process| process.wait.queued()),
+            1 => self.process(own, suspended_waiter),
+            _ => self.process(own, |process| process.started),
+        }
+    }
+
+    /// A process to suspend: often one that waits in a queue.
+    fn process_to_suspend(&mut self, own: Id) -> i64 {
+        if self.rng.percent(60) {
+            return self.process(own, may_suspend_waiter);
+        }
+        self.process(own, may_suspend)
+    }
+
     /// An id: mostly of a process of the wanted sort, sometimes unknown.
     fn process(&mut self, own: Id, wanted: impl Fn(&Process) -> bool) -> i64 {
         pick_id(&mut self.rng, &self.module.partition(own).processes, wanted)
@@ -383,6 +478,70 @@ impl Events {
 
     fn event(&mut self, own: Id, wanted: impl Fn(&EventFlag) -> bool) -> i64 {
         pick_id(&mut self.rng, &self.module.partition(own).events, wanted)
+    }
+
+    /// True if a process runs that may fill one of the greatest buffers.
+    fn fills(&self, own: Id) -> bool {
+        let partition = self.module.partition(own);
+        partition.running() != 0 && partition.buffers.iter().any(is_being_filled)
+    }
+
+    /// A semaphore to wait for: often one at 0, or one with waiters.
+    fn semaphore_to_wait(&mut self, own: Id) -> i64 {
+        let wanted = self.rng.pick(&[
+            |it: &Semaphore| it.value == 0,
+            |it: &Semaphore| !it.queue.is_empty(),
+        ]);
+        self.semaphore(own, wanted)
+    }
+
+    /// An event to wait for: often one that is DOWN, or one with waiters.
+    fn event_to_wait(&mut self, own: Id) -> i64 {
+        let wanted = self.rng.pick(&[
+            |it: &EventFlag| !it.up,
+            |it: &EventFlag| !it.queue.is_empty(),
+        ]);
+        self.event(own, wanted)
+    }
+
+    /// A buffer to send to: often a full one, one with waiters, or one that is
+    /// being filled.
+    fn buffer_to_send(&mut self, own: Id) -> i64 {
+        let wanted = self.rng.pick(&[
+            Buffer::full as fn(&Buffer) -> bool,
+            |it| !it.senders.is_empty(),
+            |it| !it.receivers.is_empty(),
+            is_being_filled,
+            is_being_filled,
+        ]);
+        pick_id(&mut self.rng, &self.module.partition(own).buffers, wanted)
+    }
+
+    /// A buffer to receive from: often an empty one, or one with waiters.
+    fn buffer_to_receive(&mut self, own: Id) -> i64 {
+        let wanted = self.rng.pick(&[
+            |it: &Buffer| it.messages.is_empty(),
+            |it: &Buffer| !it.senders.is_empty(),
+            |it: &Buffer| !it.receivers.is_empty(),
+        ]);
+        pick_id(&mut self.rng, &self.module.partition(own).buffers, wanted)
+    }
+
+    fn blackboard(&mut self, own: Id, wanted: impl Fn(&Blackboard) -> bool) -> i64 {
+        pick_id(
+            &mut self.rng,
+            &self.module.partition(own).blackboards,
+            wanted,
+        )
+    }
+
+    /// A blackboard to read: often an empty one, or one with waiting readers.
+    fn blackboard_to_read(&mut self, own: Id) -> i64 {
+        let wanted = self.rng.pick(&[
+            |it: &Blackboard| it.message.is_none(),
+            |it: &Blackboard| !it.queue.is_empty(),
+        ]);
+        self.blackboard(own, wanted)
     }
 
     /// A channel to write to, mostly with the partition as its source.
@@ -454,6 +613,19 @@ fn about_to_age(channel: &Channel, t: i64) -> bool {
     age == channel.refresh || age == channel.refresh + 1
 }
 
+/// True of a buffer of the greatest limit that holds some messages.
+fn is_being_filled(buffer: &Buffer) -> bool {
+    buffer.limit as i64 == *LIMITS.end() && buffer.messages.len() > 3 && !buffer.full()
+}
+
 fn may_suspend(process: &Process) -> bool {
     process.started && !process.periodic() && !process.suspended
+}
+
+fn may_suspend_waiter(process: &Process) -> bool {
+    process.wait.queued() && may_suspend(process)
+}
+
+fn suspended_waiter(process: &Process) -> bool {
+    process.wait.queued() && process.suspended
 }

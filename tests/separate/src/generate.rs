@@ -5,7 +5,7 @@ use crate::events::Events;
 use crate::line;
 use crate::rng::Rng;
 use crate::tables::{self, NUMBER_DAMAGES};
-use crate::timing::{print_busy, print_ticks};
+use crate::timing::{print_busy, print_passing, print_ticks};
 use std::io::{self, Write};
 
 #[derive(Clone, Copy, Debug, PartialEq, Eq)]
@@ -13,6 +13,7 @@ pub enum Kind {
     Table,
     Events,
     Busy,
+    Passing,
     Ticks,
     Damaged,
 }
@@ -23,6 +24,7 @@ impl Kind {
             "table" => Some(Kind::Table),
             "events" => Some(Kind::Events),
             "busy" => Some(Kind::Busy),
+            "passing" => Some(Kind::Passing),
             "ticks" => Some(Kind::Ticks),
             "damaged" => Some(Kind::Damaged),
             _ => None,
@@ -36,6 +38,7 @@ pub fn generate(seed: u64, kind: Kind, count: u64, out: &mut impl Write) -> io::
         Kind::Table => out.write_all(&table(seed)),
         Kind::Events => print_events(seed, count, out),
         Kind::Busy => print_busy(seed, count, out),
+        Kind::Passing => print_passing(seed, count, out),
         Kind::Ticks => print_ticks(seed, count, out),
         Kind::Damaged => print_damaged(seed, count, out),
     }

@@ -1,4 +1,5 @@
-//! The partition executive of document 01, written from that paper alone.
+//! The partition executive of document 01, with the buffers and blackboards of
+//! document 02, a), written from these papers alone.
 //!
 //! It serves as a judge: another program that claims to be the same machine
 //! can be run beside it on the same input, answer by answer (`replay`) and

@@ -1,4 +1,5 @@
-//! The module record ("Module record" of document 01).
+//! The module record ("Module record" of document 01; buffers and blackboards
+//! of document 02, a).
 
 use std::collections::VecDeque;
 
@@ -8,6 +9,8 @@ pub type Id = usize;
 pub const PROCESSES: usize = 16;
 pub const SEMAPHORES: usize = 8;
 pub const EVENTS: usize = 8;
+pub const BUFFERS: usize = 8;
+pub const BLACKBOARDS: usize = 8;
 
 /// Time ends here.
 pub const LAST_TIME: i64 = 99_999_999;
@@ -51,6 +54,29 @@ pub enum Wait {
     Period,
     Semaphore(Id),
     Event(Id),
+    /// For room in a buffer; the message is kept with the wait.
+    Sending {
+        buffer: Id,
+        message: i64,
+    },
+    /// For a message of a buffer.
+    Receiving(Id),
+    /// For a message on a blackboard.
+    Blackboard(Id),
+}
+
+impl Wait {
+    /// True if a process that waits so stands in a queue.
+    pub fn queued(self) -> bool {
+        match self {
+            Wait::None | Wait::Normal | Wait::Delay | Wait::Timed | Wait::Period => false,
+            Wait::Semaphore(_)
+            | Wait::Event(_)
+            | Wait::Sending { .. }
+            | Wait::Receiving(_)
+            | Wait::Blackboard(_) => true,
+        }
+    }
 }
 
 /// A process. `None` stands for -1 (never, aperiodic, no capacity).
@@ -68,6 +94,9 @@ pub struct Process {
     pub suspended: bool,
     pub missed: bool,
     pub wake_code: i64,
+    /// The message last handed over to it while it waited; it stays till the
+    /// next.
+    pub message: i64,
     /// False is DORMANT.
     pub started: bool,
     pub wait: Wait,
@@ -89,6 +118,7 @@ impl Process {
             suspended: false,
             missed: false,
             wake_code: 0,
+            message: 0,
             started: false,
             wait: Wait::None,
         }
@@ -125,12 +155,40 @@ pub struct EventFlag {
     pub queue: VecDeque<Id>,
 }
 
+/// A buffer: its messages, first in first out, and the ids that wait to send
+/// while it is full or to receive while it is empty.
+#[derive(Clone, Debug, PartialEq, Eq)]
+pub struct Buffer {
+    pub name: i64,
+    /// The most messages that it holds.
+    pub limit: usize,
+    pub messages: VecDeque<i64>,
+    pub senders: VecDeque<Id>,
+    pub receivers: VecDeque<Id>,
+}
+
+impl Buffer {
+    pub fn full(&self) -> bool {
+        self.messages.len() == self.limit
+    }
+}
+
+/// A blackboard: the message that it shows, and the ids that wait for one.
+#[derive(Clone, Debug, PartialEq, Eq)]
+pub struct Blackboard {
+    pub name: i64,
+    pub message: Option<i64>,
+    pub queue: VecDeque<Id>,
+}
+
 #[derive(Clone, Debug, PartialEq, Eq)]
 pub struct Partition {
     pub mode: Mode,
     pub processes: Vec<Process>,
     pub semaphores: Vec<Semaphore>,
     pub events: Vec<EventFlag>,
+    pub buffers: Vec<Buffer>,
+    pub blackboards: Vec<Blackboard>,
     /// The READY processes in order of arrival.
     pub arrival: VecDeque<Id>,
 }
@@ -143,6 +201,8 @@ impl Partition {
             processes: Vec::with_capacity(PROCESSES),
             semaphores: Vec::with_capacity(SEMAPHORES),
             events: Vec::with_capacity(EVENTS),
+            buffers: Vec::with_capacity(BUFFERS),
+            blackboards: Vec::with_capacity(BLACKBOARDS),
             arrival: VecDeque::with_capacity(PROCESSES),
         }
     }
@@ -162,6 +222,14 @@ impl Partition {
 
     pub fn event_id(&self, number: i64) -> Option<Id> {
         known(number, self.events.len())
+    }
+
+    pub fn buffer_id(&self, number: i64) -> Option<Id> {
+        known(number, self.buffers.len())
+    }
+
+    pub fn blackboard_id(&self, number: i64) -> Option<Id> {
+        known(number, self.blackboards.len())
     }
 
     /// Changes a process and keeps the arrival list: becoming READY appends,
@@ -185,12 +253,31 @@ impl Partition {
         }
     }
 
+    /// The queue of those that wait so, if it is a wait in a queue.
+    fn queue(&mut self, wait: Wait) -> Option<&mut VecDeque<Id>> {
+        match wait {
+            Wait::None | Wait::Normal | Wait::Delay | Wait::Timed | Wait::Period => None,
+            Wait::Semaphore(of) => Some(&mut self.semaphores[of - 1].queue),
+            Wait::Event(of) => Some(&mut self.events[of - 1].queue),
+            Wait::Sending { buffer, .. } => Some(&mut self.buffers[buffer - 1].senders),
+            Wait::Receiving(of) => Some(&mut self.buffers[of - 1].receivers),
+            Wait::Blackboard(of) => Some(&mut self.blackboards[of - 1].queue),
+        }
+    }
+
+    /// Puts a process last into the queue that it waits in, if any.
+    pub fn join_queue(&mut self, id: Id) {
+        let wait = self.process(id).wait;
+        if let Some(queue) = self.queue(wait) {
+            queue.push_back(id);
+        }
+    }
+
     /// Takes a process out of the queue that it waits in, if any.
     pub fn leave_queue(&mut self, id: Id) {
-        match self.process(id).wait {
-            Wait::Semaphore(of) => leave(&mut self.semaphores[of - 1].queue, id),
-            Wait::Event(of) => leave(&mut self.events[of - 1].queue, id),
-            _ => {}
+        let wait = self.process(id).wait;
+        if let Some(queue) = self.queue(wait) {
+            leave(queue, id);
         }
     }
 
@@ -201,6 +288,13 @@ impl Partition {
             process.wake = None;
             process.wake_code = 0;
         });
+    }
+
+    /// A message handed over to a waiter goes into its process record, beside
+    /// the wake code; its wait ends as by a signal.
+    pub fn hand_over(&mut self, id: Id, message: i64) {
+        self.processes[id - 1].message = message;
+        self.end_wait_by_signal(id);
     }
 
     /// The READY process of greatest current priority, first in the arrival
@@ -225,6 +319,8 @@ impl Partition {
         self.processes.clear();
         self.semaphores.clear();
         self.events.clear();
+        self.buffers.clear();
+        self.blackboards.clear();
         self.arrival.clear();
     }
 }

@@ -1,4 +1,4 @@
-//! Inputs for timing: busy lines and ticks.
+//! Inputs for timing: busy lines, passed messages and ticks.
 
 use crate::calls::MOST_TIME;
 use crate::generate::print_table;
@@ -38,7 +38,7 @@ impl<W: Write> SetUp<'_, W> {
     }
 }
 
-/// A table of full major frames for the two benchmarks.
+/// A table of full major frames.
 fn full_table(rng: &mut Rng, partitions: i64) -> Vec<line::Six> {
     let windows = 2 * partitions;
     let duration = rng.range(3, 6);
@@ -76,12 +76,7 @@ pub(crate) fn print_busy(seed: u64, count: u64, out: &mut impl Write) -> io::Res
     let mut set_up = set_up(&numbers, out)?;
     for own in 1..=4 {
         set_up.reach(own)?;
-        for id in 1..=16 {
-            let period = if id % 4 == 0 { numbers[0][0] } else { -1 };
-            let priority = if id == 1 { 1 } else { rng.range(2, 9) };
-            set_up.call(own, 2, [id, priority, period, rng.pick(&[-1, 5, 20])])?;
-            set_up.call(own, 3, [id, 0, 0, 0])?;
-        }
+        start_processes(&mut set_up, &mut rng, own)?;
         for name in 1..=4 {
             set_up.call(own, 14, [name, 1, 3, 0])?;
             set_up.call(own, 17, [name, 0, 0, 0])?;
@@ -91,6 +86,19 @@ pub(crate) fn print_busy(seed: u64, count: u64, out: &mut impl Write) -> io::Res
     for _ in 0..count {
         let event = busy_event(&mut rng, &set_up.module);
         set_up.event(event)?;
+    }
+    Ok(())
+}
+
+/// 16 processes, started; one in four is periodic. Process 1 has the least
+/// priority.
+fn start_processes<W: Write>(set_up: &mut SetUp<W>, rng: &mut Rng, own: Id) -> io::Result<()> {
+    let frame = set_up.module.frame();
+    for id in 1..=16 {
+        let period = if id % 4 == 0 { frame } else { -1 };
+        let priority = if id == 1 { 1 } else { rng.range(2, 9) };
+        set_up.call(own, 2, [id, priority, period, rng.pick(&[-1, 5, 20])])?;
+        set_up.call(own, 3, [id, 0, 0, 0])?;
     }
     Ok(())
 }
@@ -145,6 +153,75 @@ fn busy_fields(rng: &mut Rng, module: &Module, partition: &Partition, call: i64)
         21 => [own as i64, rng.range(0, MOST_TIME), 0, 0],
         22 => [(own + module.partitions.len() - 2) as i64 % 4 + 1, 0, 0, 0],
         _ => [other, 0, 0, 0],
+    }
+}
+
+/// As the busy lines, but most calls pass messages, over four buffers and two
+/// blackboards of each partition.
+pub(crate) fn print_passing(seed: u64, count: u64, out: &mut impl Write) -> io::Result<()> {
+    let mut rng = Rng::new(seed);
+    let numbers = full_table(&mut rng, 4);
+    let mut set_up = set_up(&numbers, out)?;
+    for own in 1..=4 {
+        set_up.reach(own)?;
+        start_processes(&mut set_up, &mut rng, own)?;
+        for (name, limit) in [(1, 1), (2, 2), (3, 4), (4, 16)] {
+            set_up.call(own, 23, [name, limit, 0, 0])?;
+        }
+        for name in 1..=2 {
+            set_up.call(own, 26, [name, 0, 0, 0])?;
+        }
+        set_up.call(own, 1, [3, 0, 0, 0])?;
+    }
+    for _ in 0..count {
+        let event = passing_event(&mut rng, &set_up.module);
+        set_up.event(event)?;
+    }
+    Ok(())
+}
+
+/// A tick or a call that mostly passes a message and gets 0 or 7.
+fn passing_event(rng: &mut Rng, module: &Module) -> Event {
+    let own = module.current();
+    let partition = module.partition(own);
+    let caller = partition.running();
+    if rng.percent(10) || caller == 0 {
+        return Event::TICK;
+    }
+    let id = rng.range(1, 4);
+    let held = !partition.buffers[id as usize - 1].messages.is_empty();
+    let call = match rng.below(16) {
+        // Process 1 never waits: it takes what is held and sends where
+        // nothing is.
+        0..=9 if caller == 1 && held => 25,
+        0..=9 if caller == 1 => 24,
+        0..=4 => 24,
+        5..=9 => 25,
+        10..=11 if caller != 1 => 28,
+        10..=13 => 27,
+        14 if partition.process(caller).periodic() => 10,
+        14 => 13,
+        _ => 29,
+    };
+    Event {
+        partition: own as i64,
+        call,
+        fields: passing_fields(rng, id, call),
+    }
+}
+
+fn passing_fields(rng: &mut Rng, buffer: i64, call: i64) -> [i64; 4] {
+    let message = rng.range(0, MOST_TIME);
+    let time_out = rng.pick(&[-1, 10, 40]);
+    let blackboard = rng.range(1, 2);
+    match call {
+        10 => [0; 4],
+        13 => [rng.range(1, 16), 0, 0, 0],
+        24 => [buffer, message, time_out, 0],
+        25 => [buffer, time_out, 0, 0],
+        27 => [blackboard, message, 0, 0],
+        28 => [blackboard, time_out, 0, 0],
+        _ => [blackboard, 0, 0, 0],
     }
 }
 

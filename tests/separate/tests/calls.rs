@@ -1,4 +1,5 @@
-//! Calls 1 to 22: every rule, and the order of the checks.
+//! Calls 1 to 22: every rule, and the order of the checks. Calls 23 to 29 are
+//! in `messages.rs`.
 
 mod common;
 

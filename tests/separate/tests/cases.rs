@@ -1,6 +1,8 @@
 //! The hand-made cases beside this package, input by input.
 
+use separate::coverage::ALLOWED;
 use separate::dump;
+use separate::line::{self, Line};
 use separate::replay::{final_record, replay};
 use std::fs;
 use std::path::{Path, PathBuf};
@@ -46,7 +48,7 @@ fn check(folder: &str, least: usize) {
 
 #[test]
 fn the_cases_give_the_answers_worked_out_by_hand() {
-    check("cases", 40);
+    check("cases", 100);
 }
 
 #[test]
@@ -70,32 +72,59 @@ fn the_records_worked_out_by_hand() {
             compared += 1;
         }
     }
-    assert!(compared >= 10, "{compared} records");
+    assert!(compared >= 20, "{compared} records");
+}
+
+/// The numbers of each line; `None` for a bad one.
+fn lines(bytes: &[u8]) -> Vec<Option<separate::Six>> {
+    let lines = bytes.split_inclusive(|&byte| byte == b'\n');
+    lines
+        .map(|line| match line::read(line) {
+            Line::Six(six) => Some(six),
+            Line::Bad => None,
+        })
+        .collect()
 }
 
 #[test]
 fn every_call_and_every_code_but_10_appears_in_the_cases() {
-    let mut calls = [false; 23];
+    let mut calls = [false; 30];
     let mut codes = [false; 14];
     for folder in ["cases", "damaged"] {
         for input in inputs(folder) {
-            for line in contents(&input, "in").split_inclusive(|&byte| byte == b'\n') {
-                if let separate::line::Line::Six([_, call @ 0..=22, ..]) =
-                    separate::line::read(line)
-                {
+            for [_, call, ..] in lines(&contents(&input, "in")).into_iter().flatten() {
+                if (0..30).contains(&call) {
                     calls[call as usize] = true;
                 }
             }
-            for line in contents(&input, "out").split_inclusive(|&byte| byte == b'\n') {
-                match separate::line::read(line) {
-                    separate::line::Line::Six([code, ..]) => codes[code as usize] = true,
-                    separate::line::Line::Bad => panic!("{}", input.display()),
-                }
+            for answer in lines(&contents(&input, "out")) {
+                let [code, ..] = answer.unwrap_or_else(|| panic!("{}", input.display()));
+                codes[code as usize] = true;
             }
         }
     }
-    assert_eq!(calls, [true; 23]);
+    assert_eq!(calls, [true; 30]);
     // 6 is a wake code and no answer; 10 needs the end of time.
     let missing: Vec<_> = (0..14).filter(|&code| !codes[code]).collect();
     assert_eq!(missing, [6, 10]);
+}
+
+#[test]
+fn every_code_of_calls_23_to_29_appears_in_the_cases() {
+    let mut met = [[false; 14]; 30];
+    for input in inputs("cases") {
+        let answers = lines(&contents(&input, "out"));
+        let lines = lines(&contents(&input, "in"));
+        // The last lines are the events, one for each answer.
+        let events = &lines[lines.len() - answers.len()..];
+        for (event, answer) in events.iter().zip(answers) {
+            if let (Some([_, call @ 0..30, ..]), Some([code, ..])) = (event, answer) {
+                met[*call as usize][code as usize] = true;
+            }
+        }
+    }
+    for call in 23..30 {
+        let codes: Vec<_> = (0..14).filter(|&code| met[call][code]).collect();
+        assert_eq!(codes, ALLOWED[call], "call {call}");
+    }
 }

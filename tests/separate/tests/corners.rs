@@ -62,9 +62,45 @@ fn name_255_and_256() {
     world.refused(3, 2, &[256, 5, -1, -1]);
     world.refused(3, 14, &[256, 0, 1]);
     world.refused(3, 17, &[256]);
+    world.refused(3, 23, &[256, 1]);
+    world.refused(3, 26, &[256]);
     assert_eq!(world.call(2, &[255, 5, -1, -1]), [0, 1, 0]);
     assert_eq!(world.call(14, &[255, 0, 1]), [0, 1, 0]);
     assert_eq!(world.call(17, &[255]), [0, 1, 0]);
+    assert_eq!(world.call(23, &[255, 1]), [0, 1, 0]);
+    assert_eq!(world.call(26, &[255]), [0, 1, 0]);
+}
+
+#[test]
+fn limit_16_and_17() {
+    let mut world = World::one();
+    world.refused(3, 23, &[1, 17]);
+    assert_eq!(world.call(23, &[1, 16]), [0, 1, 0]);
+    world.started(5);
+    world.normal();
+    for message in 1..=16 {
+        world.done(24, &[1, message, 0]);
+    }
+    world.refused(2, 24, &[1, 17, 0]);
+    for message in 1..=16 {
+        assert_eq!(world.call(25, &[1, 0]), [0, message, 0]);
+    }
+    world.refused(2, 25, &[1, 0]);
+}
+
+#[test]
+fn message_9_999_999_and_10_000_000() {
+    let mut world = World::one();
+    world.buffer(1);
+    world.blackboard();
+    world.started(5);
+    world.normal();
+    world.refused(3, 24, &[1, 10_000_000, 0]);
+    world.refused(3, 27, &[1, 10_000_000]);
+    world.done(24, &[1, 9_999_999, 0]);
+    world.done(27, &[1, 9_999_999]);
+    assert_eq!(world.call(25, &[1, 0]), [0, 9_999_999, 0]);
+    assert_eq!(world.call(28, &[1, 0]), [0, 9_999_999, 0]);
 }
 
 #[test]
@@ -105,10 +141,15 @@ fn timeout_0() {
     let mut world = World::one();
     world.semaphore(0, 1);
     world.flag();
+    world.buffer(1);
+    world.blackboard();
     world.started(5);
     world.normal();
-    world.refused(2, 15, &[1, 0]);
-    world.refused(2, 20, &[1, 0]);
+    for call in [15, 20, 25, 28] {
+        world.refused(2, call, &[1, 0]);
+    }
+    world.done(24, &[1, 7, 0]);
+    world.refused(2, 24, &[1, 8, 0]);
     world.done(8, &[0]);
     world.done(9, &[0]);
     assert_eq!(world.running(), 1);
@@ -165,7 +206,7 @@ fn a_neighbours_running_process_never_shows_in_8_or_13() {
     assert_eq!(world.event([2, 13, 1, 0, 0, 0]), [8, 0, 0, 0, 1, 0]);
     assert_eq!(world.event([2, 13, 1, 1, 0, 0]), [13, 0, 0, 0, 1, 0]);
     assert_eq!(world.event([2, 0, 0, 0, 0, 0]), [13, 0, 0, 0, 1, 0]);
-    assert_eq!(world.event([2, 23, 0, 0, 0, 0]), [13, 0, 0, 0, 1, 0]);
+    assert_eq!(world.event([2, 30, 0, 0, 0, 0]), [13, 0, 0, 0, 1, 0]);
 }
 
 #[test]
@@ -192,21 +233,33 @@ fn an_ended_wait_makes_no_suspended_process_ready() {
     let mut world = World::one();
     world.semaphore(0, 1);
     world.flag();
-    for priority in [1, 9, 8, 7] {
+    world.buffer(1);
+    world.buffer(1);
+    world.blackboard();
+    for priority in [1, 9, 8, 7, 6, 5, 4] {
         world.started(priority);
     }
     world.normal();
     world.waits(15, &[1, 20]);
     world.waits(20, &[1, 20]);
     world.waits(9, &[3]);
-    for id in [2, 3, 4] {
+    world.waits(25, &[1, 20]);
+    world.waits(28, &[1, 20]);
+    world.done(24, &[2, 11, 0]);
+    world.waits(24, &[2, 12, 20]);
+    let waiters = [2, 3, 4, 5, 6, 7];
+    for id in waiters {
         world.done(7, &[id]);
     }
     world.done(16, &[1]);
     world.done(18, &[1]);
+    world.done(24, &[1, 21, 0]);
+    world.done(27, &[1, 31]);
+    assert_eq!(world.call(25, &[2, 0]), [0, 11, 0]);
     world.ticks(3);
     assert_eq!(world.arrival(), [1]);
-    for id in [2, 3, 4] {
+    for id in waiters {
+        assert_eq!(world.process(id).wait, Wait::None);
         assert_eq!(world.call(13, &[id]), [0, 3, -1]);
     }
 }

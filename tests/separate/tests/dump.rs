@@ -24,11 +24,11 @@ window 3 start 7 duration 1 partition 3 flag 1
 channel 1 source 1 destination 2 refresh 5 message -1 written -1
 channel 2 source 2 destination 1 refresh 5 message -1 written -1
 channel 3 source 2 destination 3 refresh 5 message -1 written -1
-partition 1 mode 1 processes 0 semaphores 0 events 0
+partition 1 mode 1 processes 0 semaphores 0 events 0 buffers 0 blackboards 0
 arrival
-partition 2 mode 1 processes 0 semaphores 0 events 0
+partition 2 mode 1 processes 0 semaphores 0 events 0 buffers 0 blackboards 0
 arrival
-partition 3 mode 1 processes 0 semaphores 0 events 0
+partition 3 mode 1 processes 0 semaphores 0 events 0 buffers 0 blackboards 0
 arrival
 ";
     assert_eq!(dump::text(&World::new(&CHANNELS).module), expected);
@@ -46,11 +46,11 @@ fn the_worked_example_at_t_6() {
 module t 6 current 2 running 0 frame 10 partitions 2 windows 2 channels 0
 window 1 start 0 duration 6 partition 1 flag 1
 window 2 start 6 duration 4 partition 2 flag 1
-partition 1 mode 3 processes 1 semaphores 0 events 0
+partition 1 mode 3 processes 1 semaphores 0 events 0 buffers 0 blackboards 0
 process 1 name 7 base 50 current 50 period -1 capacity 5 release -1 deadline -1 wake -1 delay 0 \
-suspended 0 missed 1 code 0 started 1 wait none
+suspended 0 missed 1 code 0 message 0 started 1 wait none
 arrival 1
-partition 2 mode 1 processes 0 semaphores 0 events 0
+partition 2 mode 1 processes 0 semaphores 0 events 0 buffers 0 blackboards 0
 arrival
 ";
     assert_eq!(dump::text(&world.module), expected);
@@ -82,23 +82,23 @@ fn every_kind_of_wait_has_its_word() {
     let expected = "\
 module t 0 current 1 running 1 frame 10 partitions 1 windows 1 channels 0
 window 1 start 0 duration 10 partition 1 flag 1
-partition 1 mode 3 processes 8 semaphores 2 events 2
+partition 1 mode 3 processes 8 semaphores 2 events 2 buffers 0 blackboards 0
 process 1 name 1 base 1 current 2 period -1 capacity -1 release -1 deadline -1 wake -1 delay 0 \
-suspended 0 missed 0 code 0 started 1 wait none
+suspended 0 missed 0 code 0 message 0 started 1 wait none
 process 2 name 2 base 9 current 9 period -1 capacity -1 release -1 deadline -1 wake -1 delay 0 \
-suspended 0 missed 0 code 0 started 1 wait semaphore 1
+suspended 0 missed 0 code 0 message 0 started 1 wait semaphore 1
 process 3 name 3 base 8 current 8 period -1 capacity -1 release -1 deadline -1 wake 20 delay 0 \
-suspended 1 missed 0 code 0 started 1 wait semaphore 1
+suspended 1 missed 0 code 0 message 0 started 1 wait semaphore 1
 process 4 name 4 base 7 current 7 period -1 capacity -1 release -1 deadline -1 wake 5 delay 0 \
-suspended 0 missed 0 code 0 started 1 wait event 1
+suspended 0 missed 0 code 0 message 0 started 1 wait event 1
 process 5 name 5 base 6 current 6 period -1 capacity -1 release -1 deadline -1 wake 4 delay 0 \
-suspended 0 missed 0 code 0 started 1 wait timed
+suspended 0 missed 0 code 0 message 0 started 1 wait timed
 process 6 name 6 base 5 current 5 period -1 capacity 30 release -1 deadline 39 wake 9 delay 9 \
-suspended 0 missed 0 code 0 started 1 wait delay
+suspended 0 missed 0 code 0 message 0 started 1 wait delay
 process 7 name 7 base 4 current 4 period 10 capacity 3 release 10 deadline 13 wake 10 delay 0 \
-suspended 0 missed 0 code 0 started 1 wait period
+suspended 0 missed 0 code 0 message 0 started 1 wait period
 process 8 name 8 base 3 current 0 period -1 capacity -1 release -1 deadline -1 wake -1 delay 0 \
-suspended 0 missed 0 code 0 started 0 wait none
+suspended 0 missed 0 code 0 message 0 started 0 wait none
 semaphore 1 name 1 value 0 max 2
 semaphore 2 name 2 value 1 max 1
 event 1 name 1 up 0
@@ -108,6 +108,65 @@ waiters semaphore 1 2 3
 waiters semaphore 2
 waiters event 1 4
 waiters event 2
+";
+    assert_eq!(dump::text(&world.module), expected);
+}
+
+#[test]
+fn buffers_and_blackboards_with_their_waiters_and_messages() {
+    let mut world = World::one();
+    world.semaphore(0, 1);
+    world.flag();
+    for limit in [2, 16] {
+        world.buffer(limit);
+    }
+    world.blackboard();
+    assert_eq!(world.call(26, &[255]), [0, 2, 0]);
+    for priority in [1, 9, 8, 7, 6, 5] {
+        world.started(priority);
+    }
+    world.done(27, &[2, 0]);
+    world.normal();
+    world.waits(25, &[1, -1]);
+    world.waits(25, &[2, 4]);
+    world.waits(28, &[1, -1]);
+    world.done(24, &[1, 33, 0]);
+    world.done(24, &[1, 0, 0]);
+    world.done(24, &[1, 9_999_999, 0]);
+    world.waits(24, &[1, 55, 7]);
+    world.waits(24, &[1, 44, -1]);
+    world.waits(25, &[2, -1]);
+    let expected = "\
+module t 0 current 1 running 1 frame 10 partitions 1 windows 1 channels 0
+window 1 start 0 duration 10 partition 1 flag 1
+partition 1 mode 3 processes 6 semaphores 1 events 1 buffers 2 blackboards 2
+process 1 name 1 base 1 current 1 period -1 capacity -1 release -1 deadline -1 wake -1 delay 0 \
+suspended 0 missed 0 code 0 message 0 started 1 wait none
+process 2 name 2 base 9 current 9 period -1 capacity -1 release -1 deadline -1 wake 7 delay 0 \
+suspended 0 missed 0 code 0 message 33 started 1 wait sending 1 55
+process 3 name 3 base 8 current 8 period -1 capacity -1 release -1 deadline -1 wake 4 delay 0 \
+suspended 0 missed 0 code 0 message 0 started 1 wait receiving 2
+process 4 name 4 base 7 current 7 period -1 capacity -1 release -1 deadline -1 wake -1 delay 0 \
+suspended 0 missed 0 code 0 message 0 started 1 wait blackboard 1
+process 5 name 5 base 6 current 6 period -1 capacity -1 release -1 deadline -1 wake -1 delay 0 \
+suspended 0 missed 0 code 0 message 0 started 1 wait sending 1 44
+process 6 name 6 base 5 current 5 period -1 capacity -1 release -1 deadline -1 wake -1 delay 0 \
+suspended 0 missed 0 code 0 message 0 started 1 wait receiving 2
+semaphore 1 name 1 value 0 max 1
+event 1 name 1 up 0
+buffer 1 name 1 limit 2 messages 0 9999999
+buffer 2 name 2 limit 16 messages
+blackboard 1 name 1 message -1
+blackboard 2 name 255 message 0
+arrival 1
+waiters semaphore 1
+waiters event 1
+waiters sending 1 2 5
+waiters sending 2
+waiters receiving 1
+waiters receiving 2 3 6
+waiters blackboard 1 4
+waiters blackboard 2
 ";
     assert_eq!(dump::text(&world.module), expected);
 }

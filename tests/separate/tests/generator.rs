@@ -1,6 +1,6 @@
 //! The generator reaches what it is there to reach.
 
-use separate::coverage::{Coverage, CORNERS, REASONS, TABLES, WAITS};
+use separate::coverage::{Coverage, CHANGES, CORNERS, REASONS, TABLES, WAITS};
 use separate::generate::{generate, Kind};
 use separate::line::{self, Line};
 use separate::replay::{final_record, read_table, replay, Lines};
@@ -49,30 +49,42 @@ fn every_pair_of_call_and_code_but_10_is_reached_within_200_seeds() {
 #[test]
 fn every_wait_begins_and_ends_in_every_way_it_can() {
     let coverage = Coverage::of_seeds(1, 200, 1000);
-    // began, by signal, by time, by stop, by NORMAL, erased, suspended,
-    // resumed, by signal while suspended, by time while suspended
+    assert_eq!(coverage.missing_waits(), []);
+    assert_eq!(coverage.unforeseen_waits(), []);
+    // began, suspended, resumed; by signal, by time, by stop, by NORMAL,
+    // erased; the same five while suspended
+    let for_normal = [1, 1, 1, 0, 0, 1, 1, 1, 0, 0, 1, 1, 1];
+    let for_a_time = [1, 1, 1, 0, 1, 1, 0, 1, 0, 1, 1, 0, 1];
+    let for_release = [1, 0, 0, 0, 1, 1, 0, 1, 0, 0, 0, 0, 0];
+    let in_a_queue = [1, 1, 1, 1, 1, 1, 0, 1, 1, 1, 1, 0, 1];
+    let mark_alone = [1, 0, 1, 0, 1, 1, 0, 1, 0, 0, 0, 0, 0];
     let possible = [
-        [
-            true, false, false, true, true, true, true, true, false, false,
-        ],
-        [
-            true, false, true, true, false, true, true, true, false, true,
-        ],
-        [
-            true, false, true, true, false, true, true, true, false, true,
-        ],
-        [
-            true, false, true, true, false, true, false, false, false, false,
-        ],
-        [true, true, true, true, false, true, true, true, true, true],
-        [true, true, true, true, false, true, true, true, true, true],
-        [
-            true, false, true, true, false, true, false, true, false, false,
-        ],
+        for_normal,
+        for_a_time,
+        for_a_time,
+        for_release,
+        in_a_queue,
+        in_a_queue,
+        in_a_queue,
+        in_a_queue,
+        in_a_queue,
+        mark_alone,
     ];
     for ((wait, counts), possible) in WAITS.iter().zip(coverage.waits).zip(possible) {
-        assert_eq!(counts.map(|count| count > 0), possible, "{wait}");
+        assert_eq!(counts.map(|count| u8::from(count > 0)), possible, "{wait}");
     }
+}
+
+#[test]
+fn a_run_of_nothing_names_every_wait_as_missing() {
+    let missing = Coverage::new().missing_waits();
+    // All but by signal where there is no queue, by time for NORMAL, by
+    // NORMAL for others, and the mark of those that cannot be suspended.
+    assert_eq!(missing.len(), 91);
+    assert!(missing.contains(&("sending", "by stop, suspended")));
+    assert!(missing.contains(&("blackboard", "erased, suspended")));
+    assert!(!missing.contains(&("period", "by time, suspended")));
+    assert_eq!(CHANGES.len() * WAITS.len(), 130);
 }
 
 #[test]
@@ -81,6 +93,7 @@ fn one_seed_gives_one_input() {
         Kind::Table,
         Kind::Events,
         Kind::Busy,
+        Kind::Passing,
         Kind::Ticks,
         Kind::Damaged,
     ] {
@@ -109,6 +122,34 @@ fn busy_lines_are_mostly_accepted_calls() {
     let accepted = codes.iter().filter(|&&code| code == 0 || code == 7).count();
     assert!(accepted * 10 > codes.len() * 8);
     assert!(codes.iter().all(|code| ![8, 9, 11, 13].contains(code)));
+}
+
+/// FNV-1a of an input.
+fn sum(bytes: &[u8]) -> u64 {
+    bytes.iter().fold(0xCBF2_9CE4_8422_2325, |sum, &byte| {
+        (sum ^ u64::from(byte)).wrapping_mul(0x0100_0000_01B3)
+    })
+}
+
+#[test]
+fn the_inputs_for_timing_stay_the_same_from_version_to_version() {
+    assert_eq!(sum(&input(1, Kind::Busy, 20_000)), 0xB496_D446_653C_9947);
+    assert_eq!(sum(&input(2, Kind::Ticks, 20_000)), 0x4EE9_173D_D80D_2EAE);
+}
+
+#[test]
+fn passing_lines_are_accepted_and_mostly_pass_messages() {
+    let bytes = input(3, Kind::Passing, 20_000);
+    let codes = codes(&bytes);
+    assert!(codes.iter().all(|code| [0, 7].contains(code)));
+    let passing = bytes
+        .chunks_exact(61)
+        .filter(|bytes| match line::read(bytes) {
+            Line::Six(six) => [24, 25, 27, 28].contains(&six[1]),
+            Line::Bad => panic!("a line that is no line"),
+        });
+    assert!(passing.count() * 10 > codes.len() * 7);
+    assert!(codes.iter().filter(|&&code| code == 7).count() > 2_000);
 }
 
 #[test]

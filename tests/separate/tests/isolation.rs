@@ -50,8 +50,19 @@ fn assert_same_inside(left: &Module, right: &Module, set: &[bool]) {
     }
 }
 
-/// Runs both lists and gives how many free events each had that did something.
-fn compare(seed: u64, count: usize) -> [usize; 2] {
+/// How many events did something.
+#[derive(Default)]
+struct Done {
+    /// Free events of each run.
+    free: [usize; 2],
+    /// Calls 23 to 29 among the free events of the first run.
+    free_messages: usize,
+    /// Calls 23 to 29 among the common events.
+    common_messages: usize,
+}
+
+/// Runs both lists and adds up what they did.
+fn compare(seed: u64, count: usize, done: &mut Done) {
     let mut rng = Rng::new(seed);
     let (numbers, mut left) = Events::with_table(seed);
     let module = tables::module(&numbers).expect("an accepted table");
@@ -61,9 +72,10 @@ fn compare(seed: u64, count: usize) -> [usize; 2] {
         .for_each(|inside| *inside = rng.percent(40));
     close(&module, &mut set);
     let mut right = Events::of(module, Rng::new(!seed));
-    let mut free = [0, 0];
     for _ in 0..count {
         let (event, answer) = left.next_event();
+        let accepted = usize::from(answer.code == 0 || answer.code == 7);
+        let messages = usize::from(event.call >= 23) * accepted;
         if common(&set, &event) {
             let other = right.module.step(&event);
             assert_eq!(
@@ -71,29 +83,29 @@ fn compare(seed: u64, count: usize) -> [usize; 2] {
                 visible(&set, &event, other.six()),
                 "seed {seed} event {event:?}"
             );
+            done.common_messages += messages;
         } else {
-            free[0] += usize::from(answer.code == 0 || answer.code == 7);
+            done.free[0] += accepted;
+            done.free_messages += messages;
         }
         for _ in 0..rng.below(3) {
             let event = right.choose();
             if !common(&set, &event) {
                 let answer = right.module.step(&event);
-                free[1] += usize::from(answer.code == 0 || answer.code == 7);
+                done.free[1] += usize::from(answer.code == 0 || answer.code == 7);
             }
         }
     }
     assert_same_inside(&left.module, &right.module, &set);
-    free
 }
 
 #[test]
 fn common_events_get_the_same_answers_and_leave_the_same_records() {
-    let mut free = [0, 0];
+    let mut done = Done::default();
     for seed in 0..600 {
-        let of_seed = compare(seed, 600);
-        free[0] += of_seed[0];
-        free[1] += of_seed[1];
+        compare(seed, 600, &mut done);
     }
     // Both sides had many different free events that changed something.
-    assert!(free[0] > 10_000 && free[1] > 10_000, "{free:?}");
+    assert!(done.free.iter().all(|&free| free > 10_000));
+    assert!(done.free_messages > 5_000 && done.common_messages > 5_000);
 }

@@ -264,7 +264,7 @@ fn dump_prints_the_record_at_the_end() {
     let expected = "\
 module t 3 current 1 running 0 frame 10 partitions 1 windows 1 channels 0
 window 1 start 0 duration 10 partition 1 flag 1
-partition 1 mode 1 processes 0 semaphores 0 events 0
+partition 1 mode 1 processes 0 semaphores 0 events 0 buffers 0 blackboards 0
 arrival
 ";
     assert_eq!(String::from_utf8(output.stdout).expect("ASCII"), expected);
@@ -273,7 +273,11 @@ arrival
 
 #[test]
 fn generate_prints_what_the_library_makes() {
-    for (name, kind) in [("events", Kind::Events), ("damaged", Kind::Damaged)] {
+    for (name, kind) in [
+        ("events", Kind::Events),
+        ("damaged", Kind::Damaged),
+        ("passing", Kind::Passing),
+    ] {
         let mut expected = Vec::new();
         generate(9, kind, 50, &mut expected).expect("a vector takes every byte");
         let output = run(GENERATE, &["9", name, "50"], b"");
@@ -302,4 +306,6 @@ fn coverage_names_what_was_not_reached() {
     let printed = String::from_utf8(output.stdout).expect("ASCII");
     assert!(printed.contains("  call 22 READ code 5\n"));
     assert!(printed.contains("  call 0 tick code 13\n"));
+    assert!(printed.contains("  call 24 SEND_BUFFER code 7\n"));
+    assert!(printed.contains("  sending: by stop, suspended\n"));
 }

@@ -1,8 +1,8 @@
 //! Calls 2 and 5 to 13: processes.
 
-use super::{after, in_t, refuse, D, MOST_TIME, NAMES, PRIORITIES};
+use super::{after, in_t, refuse, D, MOST_TIME, PRIORITIES};
 use crate::machine::{Caller, Outcome};
-use crate::record::{Id, Mode, Partition, Process, Wait, PROCESSES};
+use crate::record::{Id, Partition, Process, Wait, PROCESSES};
 
 impl Partition {
     /// 2 CREATE_PROCESS name, priority, period, capacity.
@@ -14,25 +14,16 @@ impl Partition {
         period: i64,
         capacity: i64,
     ) -> Outcome {
-        if self.processes.len() == PROCESSES {
-            return refuse(4);
-        }
-        if self.processes.iter().any(|process| process.name == name) {
-            return refuse(1);
-        }
         let length = 1..=MOST_TIME;
         let good_period = period == -1 || length.contains(&period) && period % frame == 0;
         let good_capacity = capacity == -1 || length.contains(&capacity);
-        if !NAMES.contains(&name)
-            || !PRIORITIES.contains(&priority)
-            || !good_period
-            || !good_capacity
-            || period != -1 && capacity > period
-        {
-            return refuse(3);
-        }
-        if self.mode == Mode::Normal {
-            return refuse(5);
+        let good = PRIORITIES.contains(&priority)
+            && good_period
+            && good_capacity
+            && (period == -1 || capacity <= period);
+        let names = self.processes.iter().map(|process| process.name);
+        if let Err(refusal) = self.may_create(names, PROCESSES, name, good) {
+            return refusal;
         }
         let or_never = |number| (number != -1).then_some(number);
         self.processes.push(Process::created(

@@ -1,116 +1,55 @@
 //! Calls 14 to 20: semaphores and events.
 
-use super::{after, in_t, refuse, MOST_VALUE, NAMES};
+use super::{in_t, may_wait, refuse, Checked, MOST_VALUE};
 use crate::machine::{Caller, Outcome};
-use crate::record::{
-    EventFlag, Id, Mode, Partition, Semaphore, Wait, EVENTS, PROCESSES, SEMAPHORES,
-};
+use crate::record::{EventFlag, Partition, Semaphore, Wait, EVENTS, PROCESSES, SEMAPHORES};
 use std::collections::VecDeque;
 
 impl Partition {
     /// 14 CREATE_SEMAPHORE name, start, max.
-    pub(super) fn create_semaphore(&mut self, name: i64, start: i64, max: i64) -> Outcome {
-        if self.semaphores.len() == SEMAPHORES {
-            return refuse(4);
-        }
-        if self
-            .semaphores
-            .iter()
-            .any(|semaphore| semaphore.name == name)
-        {
-            return refuse(1);
-        }
-        let good_max = (1..=MOST_VALUE).contains(&max);
-        if !NAMES.contains(&name) || !good_max || !(0..=max).contains(&start) {
-            return refuse(3);
-        }
-        if self.mode == Mode::Normal {
-            return refuse(5);
-        }
-        let queue = VecDeque::with_capacity(PROCESSES);
+    pub(super) fn create_semaphore(&mut self, name: i64, start: i64, max: i64) -> Checked {
+        let names = self.semaphores.iter().map(|semaphore| semaphore.name);
+        let good = (1..=MOST_VALUE).contains(&max) && (0..=max).contains(&start);
+        self.may_create(names, SEMAPHORES, name, good)?;
         self.semaphores.push(Semaphore {
             name,
             value: start,
             max,
-            queue,
+            queue: VecDeque::with_capacity(PROCESSES),
         });
-        Outcome::value(self.semaphores.len() as i64, 0)
+        Ok(Outcome::value(self.semaphores.len() as i64, 0))
     }
 
     /// 17 CREATE_EVENT name (DOWN).
-    pub(super) fn create_event(&mut self, name: i64) -> Outcome {
-        if self.events.len() == EVENTS {
-            return refuse(4);
-        }
-        if self.events.iter().any(|event| event.name == name) {
-            return refuse(1);
-        }
-        if !NAMES.contains(&name) {
-            return refuse(3);
-        }
-        if self.mode == Mode::Normal {
-            return refuse(5);
-        }
-        let queue = VecDeque::with_capacity(PROCESSES);
+    pub(super) fn create_event(&mut self, name: i64) -> Checked {
+        let names = self.events.iter().map(|event| event.name);
+        self.may_create(names, EVENTS, name, true)?;
         self.events.push(EventFlag {
             name,
             up: false,
-            queue,
+            queue: VecDeque::with_capacity(PROCESSES),
         });
-        Outcome::value(self.events.len() as i64, 0)
+        Ok(Outcome::value(self.events.len() as i64, 0))
     }
 
     /// 15 WAIT_SEMAPHORE id, a.
-    pub(super) fn wait_semaphore(&mut self, caller: Caller, t: i64, id: i64, a: i64) -> Outcome {
-        let Some(of) = self.semaphore_id(id) else {
-            return refuse(3);
-        };
-        let Caller::Process(id) = caller else {
-            return refuse(5);
-        };
-        if !in_t(a) {
-            return refuse(3);
-        }
+    pub(super) fn wait_semaphore(&mut self, caller: Caller, t: i64, id: i64, a: i64) -> Checked {
+        let (of, own) = may_wait(self.semaphore_id(id), caller, in_t(a))?;
         let semaphore = &mut self.semaphores[of - 1];
         if semaphore.value > 0 {
             semaphore.value -= 1;
-            return Outcome::DONE;
+            return Ok(Outcome::DONE);
         }
-        if a == 0 {
-            return refuse(2);
-        }
-        semaphore.queue.push_back(id);
-        self.begin_queued_wait(id, Wait::Semaphore(of), after(t, a))
+        self.wait_in_queue(own, Wait::Semaphore(of), t, a)
     }
 
     /// 20 WAIT_EVENT id, a.
-    pub(super) fn wait_event(&mut self, caller: Caller, t: i64, id: i64, a: i64) -> Outcome {
-        let Some(of) = self.event_id(id) else {
-            return refuse(3);
-        };
-        let Caller::Process(id) = caller else {
-            return refuse(5);
-        };
-        if !in_t(a) {
-            return refuse(3);
+    pub(super) fn wait_event(&mut self, caller: Caller, t: i64, id: i64, a: i64) -> Checked {
+        let (of, own) = may_wait(self.event_id(id), caller, in_t(a))?;
+        if self.events[of - 1].up {
+            return Ok(Outcome::DONE);
         }
-        let event = &mut self.events[of - 1];
-        if event.up {
-            return Outcome::DONE;
-        }
-        if a == 0 {
-            return refuse(2);
-        }
-        event.queue.push_back(id);
-        self.begin_queued_wait(id, Wait::Event(of), after(t, a))
-    }
-
-    fn begin_queued_wait(&mut self, id: Id, wait: Wait, wake: Option<i64>) -> Outcome {
-        self.change(id, |process| {
-            process.wait = wait;
-            process.wake = wake;
-        });
-        Outcome::WAITING
+        self.wait_in_queue(own, Wait::Event(of), t, a)
     }
 
     /// 16 SIGNAL id.

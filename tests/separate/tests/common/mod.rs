@@ -113,6 +113,19 @@ impl World {
         id
     }
 
+    /// Creates a buffer of partition 1; its name is its id.
+    pub fn buffer(&mut self, limit: i64) -> i64 {
+        let id = self.partition().buffers.len() as i64 + 1;
+        assert_eq!(self.call(23, &[id, limit]), [0, id, 0]);
+        id
+    }
+
+    pub fn blackboard(&mut self) -> i64 {
+        let id = self.partition().blackboards.len() as i64 + 1;
+        assert_eq!(self.call(26, &[id]), [0, id, 0]);
+        id
+    }
+
     pub fn normal(&mut self) {
         self.done(1, &[3]);
     }
@@ -143,6 +156,44 @@ impl World {
 
     pub fn event_queue(&self, id: i64) -> Vec<usize> {
         self.partition().events[id as usize - 1]
+            .queue
+            .iter()
+            .copied()
+            .collect()
+    }
+
+    /// The messages that a buffer holds, first to come out first.
+    pub fn held(&self, id: i64) -> Vec<i64> {
+        self.partition().buffers[id as usize - 1]
+            .messages
+            .iter()
+            .copied()
+            .collect()
+    }
+
+    pub fn senders(&self, id: i64) -> Vec<usize> {
+        self.partition().buffers[id as usize - 1]
+            .senders
+            .iter()
+            .copied()
+            .collect()
+    }
+
+    pub fn receivers(&self, id: i64) -> Vec<usize> {
+        self.partition().buffers[id as usize - 1]
+            .receivers
+            .iter()
+            .copied()
+            .collect()
+    }
+
+    /// The message that a blackboard shows, if any.
+    pub fn shown(&self, id: i64) -> Option<i64> {
+        self.partition().blackboards[id as usize - 1].message
+    }
+
+    pub fn readers(&self, id: i64) -> Vec<usize> {
+        self.partition().blackboards[id as usize - 1]
             .queue
             .iter()
             .copied()

@@ -1,0 +1,346 @@
+-- What the events that are no SEND to a buffer and no RECEIVE from it leave of the buffer and of its waiting senders: the messages stay, and a sender
+-- keeps its wait, but for one that STOP stops or a tick wakes. Assumes nothing.
+use Prim.Native.Nat.{ℕ, _-_, _≤_}
+use mathlib.Core.Path.{_≡_, refl, ap, sym, _∙_}
+use mathlib.Core.Bool.{Bool, true, false, not, _&&_}
+use mathlib.Core.List.{List, [], _∷_}
+use mathlib.Core.Logic.{_⊎_, inl, inr, ⊎-elim}
+use native.Mathlib.Omega.{arith}
+use lib.Dec.{eqb, leb}
+use borrow.Author.Tests.{eq-eqb, ne-eqb, eqb-true, eqb-false, le-leb, leb-true, not-true, not-false}
+use Rattle.machine.specs.declared.Process.{Process}
+use Rattle.machine.specs.declared.Partition.{Partition}
+use Rattle.machine.specs.declared.Context.{Context}
+use Rattle.machine.specs.declared.Port.{Port}
+use Rattle.machine.specs.declared.Buffer.{Buffer}
+use Rattle.machine.specs.declared.Change.{Change}
+use Rattle.machine.specs.declared.Change.the-variants.{Nothing, Stored, Created, Last, StoredSemaphore, StoredEvent, CreatedBuffer, Moved, StoredBlackboard, Ended, Handed, Entered}
+use Rattle.machine.specs.declared.Decision.{Decision}
+use Rattle.machine.specs.declared.Decision.the-variants.{Refused, Unchanged, Ticked, Blocked, Changed, Restarted, Written}
+use Rattle.machine.specs.declared.Wait.{Wait}
+use Rattle.machine.specs.declared.Wait.the-variants.{None, Normal}
+use Rattle.machine.specs.declared.Field.{Field}
+use Rattle.machine.specs.declared.Field.the-variants.{Number, MinusOne, Other}
+use Rattle.machine.specs.declared.Request.{Request}
+use Rattle.machine.specs.Limits.{processLimit, semaphoreLimit, eventLimit, bufferLimit, blackboardLimit, modeLimit}
+use Rattle.machine.specs.Fields.{isNumber, between, numberOf}
+use Rattle.machine.specs.Process.{classOf, objectIn, blankProcess, object, onObject, due, ready, waitsForNothing, waitsForNormal, served, handed, woken, ticked, entered, startRule}
+use Rattle.machine.specs.Partition.{within, noBuffer, process, buffer, normalMode, emptyBuffer, movedIn, withMode, stored, storedSemaphore, storedEvent, storedBuffer, storedBlackboard, arrivedLast, waitsOn, waiters, changedAll, each, enteredNormal, tickPartition, applied}
+use Rattle.machine.specs.Decisions.{checked, changed, blocked, unknown, startMode, dormant, queued, awaiting}
+use Rattle.machine.specs.Calls.{setMode, createProcess, start, stop, stopSelf, suspend, suspendSelf, timedWait, periodicWait, resume, setPriority, getStatus}
+use Rattle.machine.specs.Objects.{createSemaphore, waitSemaphore, signalled, signal, createEvent, setEvent, resetEvent, waitEvent}
+use Rattle.machine.specs.Buffers.{createBuffer, sent, sendBuffer, received, receiveBuffer}
+use Rattle.machine.specs.Blackboards.{createBlackboard, show, readBlackboard, clear}
+use Rattle.machine.specs.Channels.{channelChecks, write, read}
+use Rattle.machine.specs.Services.{callDecision}
+use Rattle.machine.specs.Valid.{Between, contains, ListedIn, Valid, SoundContext, SoundChange}
+use Rattle.machine.specs.Queues.{queueNumber}
+use Rattle.machine.proofs.Tests.{by-test, by-checks, Passed, not-both, and-left, and-right}
+use Rattle.machine.proofs.Bounds.{either, same-or-not, or-false-parts, known-id, within-out, named-same, named-other, created-in, created-out, buffer-in, buffer-out}
+use Rattle.machine.specs.Ids.{members}
+use Rattle.machine.proofs.Tracking.{contains-kept}
+use Rattle.machine.proofs.Keeping.{Rest, stored-rest, changed-rest, each-rest, process-stored, process-other, process-created, each-process, each-listed, rest-count}
+use Rattle.machine.proofs.Sound.{ready-off, for-nothing}
+use Rattle.machine.proofs.Dispatch.{by-call}
+use Rattle.machine.proofs.Kept.{normal-caller, in-normal, change-valid}
+use Rattle.machine.proofs.Queues.{ended-process, normal-off, start-object, ticked-object, expired-wait}
+
+-- 0..3 and not 3
+below-three : (f : Field) → between 0 modeLimit f ≡ true → isNumber 3 f ≡ false → between 0 2 f ≡ true
+below-three (Number n) h e = let r = leb-true n modeLimit (and-right (leb 0 n) (leb n modeLimit) h) in let ne = eqb-false n 3 e in rw (le-leb 0 n (omega arith), le-leb n 2 (omega arith))
+below-three MinusOne h e = not-both _ h refl
+below-three Other h e = not-both _ h refl
+
+-- one of a queue waits on its object
+pub on-queue : (p : Partition) (o id : ℕ) → contains id (waiters o p) ≡ true → object (process id p .wait) ≡ o
+unfolding waiters
+on-queue p o id c = eqb-true _ o (and-left (waitsOn o p id) _ (sym (contains-kept (waitsOn o p) id (members (p .waiting))) ∙ c))
+
+module _ (j : ℕ) (low : j ≤ 8) where
+  -- the senders of buffer j
+  abbrev pub senders : ℕ
+  senders = queueNumber 3 j
+
+  senders-some : senders ≡ 0 → ⊥
+  senders-some z = omega arith
+
+  -- a process with the wait w gets the wait w′: it waits to send only where it did so with the same wait, and ceases only by call 5
+  abbrev pub KeepsSending : ℕ → Wait → Wait → Type 0
+  KeepsSending n w w′ = (object w′ ≡ senders → w′ ≡ w) × (object w ≡ senders → (object w′ ≡ senders) ⊎ (n ≡ 5))
+
+  keeps-same : (n : ℕ) (w : Wait) → KeepsSending n w w
+  keeps-same n w = (λ _. refl, λ e. inl e)
+
+  -- it waits to send neither before nor after
+  keeps-off : (n : ℕ) (w w′ : Wait) → (object w ≡ senders → ⊥) → (object w′ ≡ senders → ⊥) → KeepsSending n w w′
+  keeps-off n w w′ a b = (λ e. absurd (b e), λ e. absurd (a e))
+
+  no-sender : (n : ℕ) → n ≡ 0 → n ≡ senders → ⊥
+  no-sender n z e = senders-some (sym e ∙ z)
+
+  -- what stays: buffer j with its messages, and each wait to send, but for call 5
+  pub record Stays (n : ℕ) (p q : Partition) : Type 0 where
+    pub same : buffer j q ≡ buffer j p
+    pub count : p .bufferCount ≤ q .bufferCount
+    pub waits : (id : ℕ) → KeepsSending n (process id p .wait) (process id q .wait)
+
+  pub stays-same : (n : ℕ) (p : Partition) → Stays n p p
+  stays-same n p = record { same = refl; count = omega arith; waits = λ id. keeps-same n (process id p .wait) }
+
+  pub stays-along : (n : ℕ) (p q r : Partition) → Stays n p q → Stays n q r → Stays n p r
+  stays-along n p q r a b = record {
+    same = b .same ∙ a .same;
+    count = omega (arith, a .count, b .count);
+    waits = λ id.
+        let f = a .waits id in
+        let g = b .waits id in
+        (λ e. let s = g .0 e in s ∙ f .0 (ap object (sym s) ∙ e), λ e. ⊎-elim (g .1) inr (f .1 e));
+  }
+
+  -- a change that leaves them
+  abbrev pub CalmChange : ℕ → Partition → Change → Type 0
+  CalmChange n p Nothing = Unit {0}
+  CalmChange n p (Stored id x) = KeepsSending n (process id p .wait) (x .wait)
+  CalmChange n p (Created id x) = Unit {0}
+  CalmChange n p (Last id) = Unit {0}
+  CalmChange n p (StoredSemaphore k s) = Unit {0}
+  CalmChange n p (StoredEvent k e) = Unit {0}
+  CalmChange n p (CreatedBuffer k name limit) = k ≡ j → ⊥
+  CalmChange n p (Moved k a) = k ≡ j → ⊥
+  CalmChange n p (StoredBlackboard k b) = Unit {0}
+  CalmChange n p (Ended o) = o ≡ senders → ⊥
+  CalmChange n p (Handed o m) = o ≡ senders → ⊥
+  CalmChange n p (Entered c) = Unit {0}
+
+  -- processes that change, and nothing else
+  rest-stays : (n : ℕ) (p q : Partition) → Rest p q → ((id : ℕ) → KeepsSending n (process id p .wait) (process id q .wait)) → Stays n p q
+  rest-stays n p q e w = record { same = ap (λ (r : Partition). buffer j r) e; count = let f : q .bufferCount ≡ p .bufferCount = ap (λ (r : Partition). r .bufferCount) e in omega arith; waits = w }
+
+  -- a process that is as it was
+  same-process : (n id : ℕ) (p q : Partition) → process id q ≡ process id p → KeepsSending n (process id p .wait) (process id q .wait)
+  same-process n id p q e = rw e (keeps-same n (process id p .wait))
+
+  -- one process stored
+  stored-stays : (n : ℕ) (p : Partition) → ListedIn p → (id : ℕ) → Between 1 (p .processCount) id → (x : Process) → KeepsSending n (process id p .wait) (x .wait) → Stays n p (stored id x p)
+  stored-stays n p v id b x g = rest-stays n p _ (stored-rest p id x) (λ y. ⊎-elim
+      (λ (s : y ≡ id). rw (s, process-stored p id x v b) g)
+      (λ (ne : y ≡ id → ⊥). same-process n y p (stored id x p) (process-other p id x y ne))
+      (same-or-not y id))
+
+  -- another buffer stored
+  other-stays : (n k : ℕ) (b : Buffer) (p : Partition) → (k ≡ j → ⊥) → Stays n p (storedBuffer k b p)
+  other-stays n k b p ne = either (within bufferLimit k)
+      (λ e. rw (buffer-in k b p e) (record { same = named-other bufferLimit noBuffer k b (p .buffers) (within-out bufferLimit k e .0) j (λ s. ne (sym s)); count = omega arith; waits = λ id. keeps-same n (process id p .wait) }))
+      (λ e. rw (buffer-out k b p e) (stays-same n p))
+
+  -- the waits on another object end
+  ended-stays : (n : ℕ) (f : Process → Process) → ((x : Process) → object (f x .wait) ≡ 0) → (o : ℕ) (p : Partition) → ListedIn p → (o ≡ senders → ⊥) → Stays n p (changedAll f (waiters o p) p)
+  ended-stays n f ends o p v ne =
+      let q = changedAll f (waiters o p) p in
+      rest-stays n p q (changed-rest f (waiters o p) p) (λ id.
+      let is = ended-process p v senders senders-some f ends o id in
+      either (contains id (waiters o p))
+      (λ c. rw (is, c) (keeps-off n (process id p .wait) (f (process id p) .wait) (λ e. ne (sym (on-queue p o id c) ∙ e)) (no-sender _ (ends (process id p)))))
+      (λ c. same-process n id p q (is ∙ rw c)))
+
+  -- a process as NORMAL is entered
+  entered-keeps : (n : ℕ) (c : Context) (x : Process) → KeepsSending n (x .wait) (entered c x .wait)
+  unfolding entered
+  entered-keeps n c x = by-test (λ (y : Process). KeepsSending n (x .wait) (y .wait)) (waitsForNormal (x .wait))
+      (λ e. keeps-off n (x .wait) _ (no-sender _ (normal-off (classOf (x .wait)) e)) (no-sender _ (start-object c (x .times .delay) x)))
+      (λ _. keeps-same n (x .wait))
+
+  -- every process changed
+  each-stays : (n : ℕ) (f : Process → Process) (p : Partition) → ListedIn p → ((x : Process) → KeepsSending n (x .wait) (f x .wait)) → Stays n p (each f p)
+  each-stays n f p v k = rest-stays n p _ (each-rest f p v) (λ id. either (leb 1 id && leb id (p .processCount))
+      (λ e. rw (each-process f p v id (leb-true 1 id (and-left (leb 1 id) _ e), leb-true id (p .processCount) (and-right (leb 1 id) _ e))) (k (process id p)))
+      (λ e. keeps-off n (process id p .wait) (process id (each f p) .wait)
+      (λ s. not-both _ (inside id (process-created onObject refl p v id (on (process id p .wait) s))) e)
+      (λ s. not-both _ (inside id (rw (rest-count p _ (each-rest f p v)) at (process-created onObject refl (each f p) (each-listed f p v) id (on (process id (each f p) .wait) s)))) e)))
+    where
+      on : (w : Wait) → object w ≡ senders → not (eqb (object w) 0) ≡ true
+      on w s = rw (s, ne-eqb senders 0 senders-some)
+
+      inside : (id : ℕ) → Between 1 (p .processCount) id → (leb 1 id && leb id (p .processCount)) ≡ true
+      inside id b = rw (le-leb 1 id (b .0), le-leb id (p .processCount) (b .1))
+
+  -- one change
+  change-stays : (n : ℕ) (c : Context) (p : Partition) → Valid (c .frame) (c .time) p → (a : Change) → SoundChange c p a → CalmChange n p a → Stays n p (applied a p)
+  unfolding arrivedLast storedSemaphore storedEvent storedBlackboard enteredNormal
+  change-stays n c p v Nothing h g = stays-same n p
+  change-stays n c p v (Stored id x) h g = stored-stays n p (v .lists) id (h .0) x g
+  change-stays n c p v (Created id x) h g = either (within processLimit id)
+      (λ e. rw (created-in id x p e) (record {
+        same = refl;
+        count = omega arith;
+        waits = λ y. ⊎-elim
+            (λ (s : y ≡ id).
+            let hi = within-out processLimit id e .1 in
+            let off : object (process id p .wait) ≡ 0 = ap (λ (z : Process). object (z .wait)) (v .lists .numbered .past id (omega (arith, h .next))) in
+            rw (s, named-same processLimit blankProcess id x (p .processes) (within-out processLimit id e .0) hi (omega (arith, hi, v .lists .numbered .size)))
+            (keeps-off n (process id p .wait) (x .wait) (no-sender _ off) (no-sender _ (ap (λ (z : Process). object (z .wait)) (h .dormant)))))
+            (λ (ne : y ≡ id → ⊥). rw (named-other processLimit blankProcess id x (p .processes) (within-out processLimit id e .0) y ne) (keeps-same n (process y p .wait)))
+            (same-or-not y id);
+      }))
+      (λ e. rw (created-out id x p e) (stays-same n p))
+  change-stays n c p v (Last id) h g = record { same = refl; count = omega arith; waits = λ id. keeps-same n (process id p .wait) }
+  change-stays n c p v (StoredSemaphore k s) h g = by-test (Stays n p) (within semaphoreLimit k) (λ _. record { same = refl; count = omega arith; waits = λ id. keeps-same n (process id p .wait) }) (λ _. stays-same n p)
+  change-stays n c p v (StoredEvent k e) h g = by-test (Stays n p) (within eventLimit k) (λ _. record { same = refl; count = omega arith; waits = λ id. keeps-same n (process id p .wait) }) (λ _. stays-same n p)
+  change-stays n c p v (CreatedBuffer k name limit) h g = other-stays n k (emptyBuffer name limit) p g
+  change-stays n c p v (Moved k a) h g = other-stays n k (movedIn a (buffer k p)) p g
+  change-stays n c p v (StoredBlackboard k b) h g = by-test (Stays n p) (within blackboardLimit k) (λ _. record { same = refl; count = omega arith; waits = λ id. keeps-same n (process id p .wait) }) (λ _. stays-same n p)
+  change-stays n c p v (Ended o) h g = ended-stays n served (λ _. refl) o p (v .lists) g
+  change-stays n c p v (Handed o m) h g = ended-stays n (handed m) (λ _. refl) o p (v .lists) g
+  change-stays n c p v (Entered d) h g = stays-along n p (withMode 3 p) _ (record { same = refl; count = omega arith; waits = λ id. keeps-same n (process id p .wait) }) (each-stays n (entered d) (withMode 3 p) (v .lists) (entered-keeps n d))
+
+  -- ---------------------------------------------------------------- decisions
+  -- a decides for call 1
+  abbrev pub Calm : ℕ → Field → Partition → Decision → Type 0
+  Calm n f p (Refused code) = Unit {0}
+  Calm n f p (Unchanged value extra) = Unit {0}
+  Calm n f p Ticked = Unit {0}
+  Calm n f p (Blocked id x) = object (x .wait) ≡ senders → ⊥
+  Calm n f p (Changed a b value) = CalmChange n p a × CalmChange n (applied a p) b
+  Calm n f p (Restarted mode) = (n ≡ 1) × (between 0 2 f ≡ true)
+  Calm n f p (Written i x) = Unit {0}
+
+  pub record IsCalm (n : ℕ) (f : Field) (p : Partition) (d : Decision) : Type 0 where
+    pub is : Calm n f p d
+
+  -- two changes
+  pub changed-stays : (n : ℕ) (c : Context) {o : Partition} → SoundContext c o → (p : Partition) → Valid (c .frame) (c .time) p → (a b : Change) → SoundChange c p a → SoundChange c (applied a p) b → CalmChange n p a → CalmChange n (applied a p) b → Stays n p (applied b (applied a p))
+  changed-stays n c s p v a b f g h k = stays-along n p (applied a p) _ (change-stays n c p v a f h) (change-stays n c (applied a p) (change-valid c s p v a f) b g k)
+
+  -- the caller, which is READY, begins to wait, and not to send
+  pub blocked-stays : (n : ℕ) (p : Partition) → ListedIn p → (id : ℕ) → Between 1 (p .processCount) id → (x : Process) → ready (process id p) ≡ true → (object (x .wait) ≡ senders → ⊥) → Stays n p (stored id x p)
+  blocked-stays n p v id b x h ne = stored-stays n p v id b x (keeps-off n (process id p .wait) (x .wait) (no-sender _ (ready-off (process id p) h)) ne)
+
+  -- ---------------------------------------------------------------- every other call
+  module _ (n : ℕ) (f : Field) (c : Context) (p : Partition) (v : Valid (c .frame) (c .time) p) (s : SoundContext c p) (there : j ≤ p .bufferCount) where
+    calm : {d : Decision} → Calm n f p d → IsCalm n f p d
+    calm h = record { is = h }
+
+    calm-checks : (l : List (Bool × ℕ)) (d : Decision) → (Passed l → IsCalm n f p d) → IsCalm n f p (checked Refused l d)
+    calm-checks l d g = by-checks (IsCalm n f p) Refused l d (λ m. record { is = tt }) g
+
+    -- a process on another object, whose wait ends; one on no object
+    elsewhere : (id : ℕ) (w : Wait) (o : ℕ) → object (process id p .wait) ≡ o → (o ≡ senders → ⊥) → object w ≡ 0 → KeepsSending n (process id p .wait) w
+    elsewhere id w o is ne off = keeps-off n (process id p .wait) w (λ e. ne (sym is ∙ e)) (no-sender _ off)
+
+    idle : (id : ℕ) (w : Wait) → object (process id p .wait) ≡ 0 → object w ≡ 0 → KeepsSending n (process id p .wait) w
+    idle id w z off = elsewhere id w 0 z (λ e. senders-some (sym e)) off
+
+    caller-off : normalMode p ≡ true → object (process (c .caller) p .wait) ≡ 0
+    caller-off h = ready-off (process (c .caller) p) (normal-caller c p v s h .isReady)
+
+    await-calm : (count k : ℕ) (beside : Bool) (a : Field) (b : Bool) (success : Decision) (w : Wait)
+        → (Between 1 count k → object w ≡ senders → ⊥) → (Between 1 count k → IsCalm n f p success) → IsCalm n f p (awaiting c ((unknown k count, 3) ∷ []) beside [] a b success w p)
+    unfolding awaiting queued blocked Passed
+    await-calm count k beside a b success w ne g = calm-checks _ _ (λ h.
+        let r = known-id k count (h .0) in
+        by-test (IsCalm n f p) b (λ _. g r) (λ _. calm-checks _ _ (λ _. calm (ne r))))
+
+    -- the first of a queue
+    first-of-queue : (o : ℕ) (l : List ℕ) (id : ℕ) → waiters o p ≡ id ∷ l → object (process id p .wait) ≡ o
+    unfolding contains
+    first-of-queue o l id e = on-queue p o id (rw (e, eq-eqb id id refl))
+
+    signalled-calm : (l : List ℕ) (k : ℕ) → k ≤ 8 → waiters (queueNumber 1 k) p ≡ l → CalmChange n p (signalled l k p)
+    unfolding signalled
+    signalled-calm [] k few e = tt
+    signalled-calm (id ∷ l) k few e = elsewhere id None (queueNumber 1 k) (first-of-queue (queueNumber 1 k) l id e) (λ z. omega arith) refl
+
+    sent-calm : (l : List ℕ) (k m : ℕ) → (k ≡ j → ⊥) → k ≤ 8 → waiters (queueNumber 4 k) p ≡ l → CalmChange n p (sent l k m p)
+    unfolding sent
+    sent-calm [] k m ne few e = ne
+    sent-calm (id ∷ l) k m ne few e = elsewhere id None (queueNumber 4 k) (first-of-queue (queueNumber 4 k) l id e) (λ z. omega arith) refl
+
+    received-calm : (l : List ℕ) (k : ℕ) → (k ≡ j → ⊥) → k ≤ 8 → waiters (queueNumber 3 k) p ≡ l → IsCalm n f p (received l k p)
+    unfolding received storedBuffer
+    received-calm [] k ne few e = calm (ne, tt)
+    received-calm (id ∷ l) k ne few e =
+        let out = elsewhere id None (queueNumber 3 k) (first-of-queue (queueNumber 3 k) l id e) (λ z. ne (omega arith)) refl in
+        calm (ne, by-test (λ (q : Partition). KeepsSending n (process id q .wait) None) (within bufferLimit k) (λ _. out) (λ _. out))
+
+    self-calm : (a : Field) → IsCalm n f p (suspendSelf c a p)
+    unfolding suspendSelf blocked Passed
+    self-calm a = calm-checks _ _ (λ h. by-test (IsCalm n f p) (isNumber 0 a) (λ _. calm tt) (λ _.
+        calm (λ e. senders-some (sym e ∙ caller-off (in-normal c p v s (or-false-parts (startMode p) _ (h .0) .0))))))
+
+    start-calm : (id : ℕ) (delay : Field) → IsCalm n f p (start c id delay p)
+    unfolding start Passed
+    start-calm id delay = calm-checks _ _ (λ h.
+        let b = known-id id (p .processCount) (h .0) in
+        let off = ap object (v .eachProcess id b .dormant (not-true _ (not-false _ (h .1 .1 .0))) .wait) in
+        calm (
+          by-test (λ (x : Process). KeepsSending n (process id p .wait) (x .wait)) (normalMode p)
+              (λ _. idle id (startRule c (numberOf delay) (process id p) .wait) off (start-object c (numberOf delay) (process id p)))
+              (λ _. idle id Normal off refl),
+          tt,
+        ))
+
+    resume-calm : (id : ℕ) → IsCalm n f p (resume c id p)
+    unfolding resume
+    resume-calm id = calm-checks _ _ (λ _. calm (
+      by-test (λ (x : Process). KeepsSending n (process id p .wait) (x .wait)) (waitsForNothing (process id p .wait))
+          (λ e. idle id None (ap objectIn (for-nothing (classOf (process id p .wait)) e)) refl)
+          (λ _. keeps-same n (process id p .wait)),
+      tt,
+    ))
+
+    mode-calm : n ≡ 1 → IsCalm n f p (setMode c f p)
+    unfolding setMode Passed
+    mode-calm one = calm-checks _ _ (λ h. by-test (IsCalm n f p) (isNumber 3 f) (λ _. calm (tt, tt)) (λ e. calm (one, below-three f (not-false _ (h .0)) e)))
+
+    pub call-calm : (x : Port) (r : Request) → r .a ≡ f → (n ≡ 24 → numberOf (r .a) ≡ j → ⊥) → (n ≡ 25 → numberOf (r .a) ≡ j → ⊥) → IsCalm n f p (callDecision c x n r p)
+    unfolding createProcess stop stopSelf suspend timedWait periodicWait setPriority getStatus createSemaphore createEvent blocked waitSemaphore waitEvent signal setEvent resetEvent write read channelChecks createBuffer sendBuffer receiveBuffer createBlackboard show readBlackboard clear Passed
+    call-calm x r is no-send no-receive =
+        by-call c x n r p (IsCalm n f p)
+        (λ one. rw is (mode-calm one))
+        (λ _. calm-checks _ _ (λ _. calm (tt, tt)))
+        start-calm
+        (λ five id. calm-checks _ _ (λ _. calm ((λ e. absurd (senders-some (sym e)), λ _. inr five), tt)))
+        (calm-checks _ _ (λ h. calm (idle (c .caller) None (caller-off (in-normal c p v s (h .0))) refl, tt)))
+        (λ id. calm-checks _ _ (λ _. calm (keeps-same n (process id p .wait), tt)))
+        self-calm
+        (λ a. calm-checks _ _ (λ h. by-test (IsCalm n f p) (isNumber 0 a) (λ _. calm (tt, tt)) (λ _. calm (λ e. senders-some (sym e)))))
+        (calm-checks _ _ (λ _. calm (λ e. senders-some (sym e))))
+        resume-calm
+        (λ id _. calm-checks _ _ (λ _. calm (keeps-same n (process id p .wait), by-test (CalmChange n _) (ready (process id p)) (λ _. tt) (λ _. tt))))
+        (λ _. calm-checks _ _ (λ _. calm tt))
+        (λ _. calm-checks _ _ (λ _. calm (tt, tt)))
+        (λ k _. await-calm (p .semaphoreCount) k _ _ _ _ _ (λ b e. omega (arith, b .1, v .objects .semaphores .numbered .few)) (λ _. calm (tt, tt)))
+        (λ k. calm-checks _ _ (λ h. let b = known-id k (p .semaphoreCount) (h .0) in calm (signalled-calm (waiters (queueNumber 1 k) p) k (omega (arith, b .1, v .objects .semaphores .numbered .few)) refl, tt)))
+        (λ _. calm-checks _ _ (λ _. calm (tt, tt)))
+        (λ k. calm-checks _ _ (λ h. let b = known-id k (p .eventCount) (h .0) in calm (tt, λ e. omega (arith, b .1, v .objects .events .numbered .few))))
+        (λ _. calm-checks _ _ (λ _. calm (tt, tt)))
+        (λ k _. await-calm (p .eventCount) k _ _ _ _ _ (λ b e. omega (arith, b .1, v .objects .events .numbered .few)) (λ _. calm tt))
+        (λ _ _. calm-checks _ _ (λ _. calm-checks _ _ (λ _. calm tt)))
+        (calm-checks _ _ (λ _. calm-checks _ _ (λ _. calm tt)))
+        (λ _ _. calm-checks _ _ (λ _. calm (λ e. omega arith, tt)))
+        (λ e. await-calm (p .bufferCount) (numberOf (r .a)) _ _ _ _ _ (λ b o. no-send e (omega (arith, b .1, few))) (λ b. calm (sent-calm (waiters (queueNumber 4 (numberOf (r .a))) p) (numberOf (r .a)) _ (no-send e) (omega (arith, b .1, few)) refl, tt)))
+        (λ e. await-calm (p .bufferCount) (numberOf (r .a)) _ _ _ _ _ (λ b o. omega (arith, b .1, few)) (λ b. received-calm (waiters (queueNumber 3 (numberOf (r .a))) p) (numberOf (r .a)) (no-receive e) (omega (arith, b .1, few)) refl))
+        (λ _. calm-checks _ _ (λ _. calm (tt, tt)))
+        (λ k _. calm-checks _ _ (λ h. let b = known-id k (p .blackboardCount) (h .0) in calm (tt, λ e. omega (arith, b .1, v .objects .blackboards .numbered .few))))
+        (λ k _. await-calm (p .blackboardCount) k _ _ _ _ _ (λ b e. omega (arith, b .1, v .objects .blackboards .numbered .few)) (λ _. calm tt))
+        (λ _. calm-checks _ _ (λ _. calm (tt, tt)))
+        (λ _. calm tt)
+      where
+        few : p .bufferCount ≤ 8
+        few = v .objects .buffers .numbered .few
+
+  -- ---------------------------------------------------------------- the tick
+  -- a tick ends waits; who still waits to send keeps its wait
+  pub tick-keeps : (t : ℕ) (x : Process) → object (ticked t x .wait) ≡ senders → ticked t x .wait ≡ x .wait
+  unfolding woken
+  tick-keeps t x e = expired-wait t (woken t x) ∙ either (due t (x .times .wake))
+      (λ d. absurd (senders-some (sym e ∙ ticked-object t x ∙ rw d)))
+      (λ d. rw d)
+
+  tick-each : (n t : ℕ) (x : Process) → n ≡ 5 → KeepsSending n (x .wait) (ticked t x .wait)
+  tick-each n t x five = (tick-keeps t x, λ _. inr five)
+
+  -- as STOP does
+  pub tick-stays : (t : ℕ) (p : Partition) → ListedIn p → Stays 5 p (tickPartition t p)
+  unfolding tickPartition
+  tick-stays t p v = by-test (Stays 5 p) (normalMode p) (λ _. each-stays 5 (ticked t) p v (λ x. tick-each 5 t x refl)) (λ _. stays-same 5 p)

@@ -1,8 +1,7 @@
 // Blackboards of a partition: calls 26 to 29. Beside each call: how many of the fields a, b, c, e it uses.
 ghost use mathlib.Core.Path.{_≡_};
 ghost use lib.ListN.{take};
-ghost use mathlib.Core.Bool.{false};
-ghost use Rattle.machine.specs.Partition.{blackboard};
+ghost use Rattle.machine.specs.Partition.{emptyBlackboard, blackboard};
 ghost use Rattle.machine.specs.Blackboards.{blackboardNamed, createBlackboard, show, readBlackboard, clear};
 use machine::Blackboard;
 use machine::Change;
@@ -16,7 +15,7 @@ use machine::Wait;
 
 // A blackboard that shows nothing.
 fn empty_blackboard(name: u16) -> Blackboard
-    ensures { λ r. ⌜ r ≡ record { name = name; shown = false; message = 0 } ⌝ }
+    ensures { λ r. ⌜ r ≡ emptyBlackboard name ⌝ }
 {
     Blackboard {
         name,

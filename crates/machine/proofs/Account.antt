@@ -48,7 +48,7 @@ use Rattle.machine.specs.Ticks.{tickModule}
 use Rattle.machine.specs.Places.{malformed, oneZero, ticks}
 use Rattle.machine.specs.Step.{contextOf, decision, moduleAfter, step}
 use Rattle.machine.specs.Starred.{own, callBy}
-use Rattle.machine.specs.Valid.{Between, contains, Distinct, SoundMove, ListedIn, Valid, SoundContext, SoundDecision, SoundModule, Reached, plainTick}
+use Rattle.machine.specs.Valid.{Between, contains, SoundMove, ListedIn, Valid, SoundContext, SoundDecision, SoundModule, Reached, plainTick}
 use Rattle.machine.specs.Plain.{plainNumber, plainMoved}
 use Rattle.machine.specs.Queues.{queueNumber, NoneWaits}
 use Rattle.machine.specs.Account.{isCall, codeAt, erases, erased, sends, receives, isSend, isReceive, givesUp, givenUp, messageIn, sentAt, allSent, receivedAt, allReceived, heldIn, keptWithSenders, Account}
@@ -61,10 +61,10 @@ use Rattle.machine.proofs.Messages.{queue-first}
 use Rattle.machine.proofs.Moves as Mo
 use Rattle.machine.proofs.Available.{part-none, unknown-unwaited, none-waits}
 use Rattle.machine.proofs.Tracking.{contains-kept, kept-same, kept-kept, kept-all, kept-no}
-use Rattle.machine.proofs.Queues.{Part, part-whole, part-waits, part-trans, queue-of, same-queue, tick-part, change-part, stored-part, buffer-queue, joins-last, first-served, Orderly, call-order}
+use Rattle.machine.proofs.Queues.{Part, part-whole, part-waits, part-trans, queue-of, same-queue, tick-part, change-part, stored-part, buffer-queue, joins-last, first-created, others-apart, first-served, Orderly, call-order}
 use Rattle.machine.proofs.Dispatch.{placeCode, Calls, by-event}
 use Rattle.machine.proofs.Bodies.{Bodily, bodyRefusal}
-use Rattle.machine.proofs.Kept.{Caller, tick-valid, change-valid, normal-caller, in-normal, waiters-created, waiters-distinct, waiters-exact}
+use Rattle.machine.proofs.Kept.{Caller, tick-valid, change-valid, normal-caller, in-normal, waiters-exact}
 use Rattle.machine.proofs.Keeping.{stored-listed, stored-rest, process-stored, process-other}
 use Rattle.machine.proofs.Refusals.{call-in-range}
 use Rattle.machine.proofs.Plain.{lossless, empty-refused}
@@ -462,27 +462,22 @@ module _ (j : ℕ) (m : Module) (s : SoundModule m) (e : EventT) (es : List Even
         in-queue : (y : ℕ) → contains y (id ∷ l) ≡ true → contains y (waiters receivers p) ≡ true
         in-queue y g = rw h g
 
-        first-created : Between 1 (p .processCount) id
-        unfolding contains
-        first-created = waiters-created p (own-valid .lists) receivers id (in-queue id (rw (eq-eqb id id refl)))
-
-        others-apart : (y : ℕ) → contains y l ≡ true → y ≡ id → ⊥
-        unfolding Distinct
-        others-apart y g z = let dis : Distinct (id ∷ l) = rw h at (waiters-distinct p (own-valid .lists) receivers) in not-both _ (rw z at g) (dis .0)
+        receiver-created : Between 1 (p .processCount) id
+        receiver-created = first-created receivers (λ z. omega arith) p (own-valid .lists) id l h
 
         first-gone : not (waitsOn receivers given id) ≡ true
-        first-gone = rw (process-stored p id (handed x (process id p)) (own-valid .lists) first-created, ne-eqb 0 receivers (λ z. omega arith))
+        first-gone = rw (process-stored p id (handed x (process id p)) (own-valid .lists) receiver-created, ne-eqb 0 receivers (λ z. omega arith))
 
         others-wait : (y : ℕ) → contains y l ≡ true → not (waitsOn receivers given y) ≡ false
         unfolding contains
         others-wait y g =
             let w : waitsOn receivers p y ≡ true = sym (waiters-exact p (own-valid .lists) receivers (λ z. omega arith) y) ∙ in-queue y (rw g (or-true (eqb id y))) in
-            rw (process-other p id (handed x (process id p)) y (others-apart y g), w)
+            rw (process-other p id (handed x (process id p)) y (others-apart receivers (λ z. omega arith) p (own-valid .lists) id l h y g), w)
 
         handed-one : map (λ y. process y given .message) (kept (λ y. not (waitsOn receivers given y)) (id ∷ l)) ≡ x ∷ []
         handed-one =
             ap (map (λ y. process y given .message)) (first-alone (λ y. not (waitsOn receivers given y)) id l first-gone others-wait)
-            ∙ ap (λ (z : Process). z .message ∷ []) (process-stored p id (handed x (process id p)) (own-valid .lists) first-created)
+            ∙ ap (λ (z : Process). z .message ∷ []) (process-stored p id (handed x (process id p)) (own-valid .lists) receiver-created)
 
       -- to a buffer with room
       sent-even : (l : List ℕ) → waiters (queueNumber 4 j) p ≡ l → hasRoom now ≡ true → x ≤ durationLimit → EvenAfter (changed (sent l j x p))
@@ -505,7 +500,7 @@ module _ (j : ℕ) (m : Module) (s : SoundModule m) (e : EventT) (es : List Even
           let y = handed x (process id p) in
           let q = stored id y p in
           let free = none 3 j room in
-          let b = first-created id l h in
+          let b = receiver-created id l h in
           let empty : now .queue .len ≡ 0 = either (holds now) (λ t. absurd (cons-not id l (sym h ∙ none 4 j t))) (λ t. omega (arith, ltb-false 0 (now .queue .len) t)) in
           let nothing : messages ≡ [] = empty-of messages (size ∙ empty) in
           record {
@@ -613,12 +608,8 @@ module _ (j : ℕ) (m : Module) (s : SoundModule m) (e : EventT) (es : List Even
         moving-process : (y : ℕ) → process y (moving a) ≡ process y p
         moving-process y = Mo.moving-process (m .table .frame) (m .t) p own-valid j known a y
 
-        first-is : contains id (waiters senders p) ≡ true
-        unfolding contains
-        first-is = rw (h, eq-eqb id id refl)
-
         sender-created : Between 1 (p .processCount) id
-        sender-created = waiters-created p (own-valid .lists) senders id first-is
+        sender-created = first-created senders is-some p (own-valid .lists) id l h
 
         moving-created : Between 1 (moving a .processCount) id
         moving-created = Mo.moving-created (m .table .frame) (m .t) p own-valid j known a id sender-created
@@ -629,12 +620,8 @@ module _ (j : ℕ) (m : Module) (s : SoundModule m) (e : EventT) (es : List Even
         gone : waitsOn senders let-in id ≡ false
         gone = rw (process-stored (moving a) id (served sender) moving-listed moving-created) (ne-eqb 0 senders (λ z. is-some (sym z)))
 
-        distinct : (y : ℕ) → contains y l ≡ true → y ≡ id → ⊥
-        unfolding Distinct
-        distinct y g z = let dis : Distinct (id ∷ l) = rw h at (waiters-distinct p (own-valid .lists) senders) in not-both _ (rw z at g) (dis .0)
-
         same-process : (y : ℕ) → contains y l ≡ true → process y let-in ≡ process y p
-        same-process y g = process-other (moving a) id (served sender) y (distinct y g) ∙ moving-process y
+        same-process y g = process-other (moving a) id (served sender) y (others-apart senders is-some p (own-valid .lists) id l h y g) ∙ moving-process y
 
         wait-on : (y : ℕ) → contains y l ≡ true → waitsOn senders let-in y ≡ true
         unfolding contains

@@ -622,6 +622,10 @@ module _ (o : ℕ) (some : o ≡ 0 → ⊥) (p : Partition) (v : ListedIn p) (id
   pub first-created : Between 1 (p .processCount) id
   first-created = waiters-created p v o id first-in
 
+  pub others-apart : (y : ℕ) → contains y rest ≡ true → y ≡ id → ⊥
+  unfolding Distinct
+  others-apart y g z = let d : Distinct (id ∷ rest) = rw e at (waiters-distinct p v o) in not-both _ (rw z at g) (d .0)
+
   pub served-queue : (x : Process) → object (x .wait) ≡ 0 → waiters o (stored id x p) ≡ rest
   unfolding kept Distinct
   served-queue x off =

@@ -1,6 +1,6 @@
 -- Calls 26 to 29, on blackboards: functions of what the call sees (Context), of the request's fields and of the partition's own record.
 use Prim.Native.Nat.{ℕ, _+_}
-use mathlib.Core.Bool.{Bool, true, false, not}
+use mathlib.Core.Bool.{Bool, true, not}
 use mathlib.Core.List.{List, [], _∷_}
 use lib.ListN.{take}
 use lib.Dec.{leb}
@@ -17,7 +17,7 @@ use Rattle.machine.specs.declared.Field.{Field}
 use Rattle.machine.specs.Limits.{blackboardLimit}
 use Rattle.machine.specs.Fields.{isName, isMessage, numberOf}
 use Rattle.machine.specs.Process.{object}
-use Rattle.machine.specs.Partition.{normalMode, blackboard}
+use Rattle.machine.specs.Partition.{normalMode, emptyBlackboard, blackboard}
 use Rattle.machine.specs.Decisions.{checked, changed, unknown, nameTaken, creationChecks, awaiting}
 
 abbrev pub blackboardNamed : Field → List BlackboardT → Bool
@@ -28,14 +28,14 @@ unfoldable pub createBlackboard : Field → Partition → Decision
 createBlackboard name p =
     checked Refused
     (creationChecks (leb blackboardLimit (p .blackboardCount)) (blackboardNamed name (take (p .blackboardCount) (p .blackboards))) (isName name) (normalMode p))
-    (Changed (StoredBlackboard (p .blackboardCount + 1) (record { name = numberOf name; shown = false; message = 0 })) Nothing (p .blackboardCount + 1))
+    (Changed (StoredBlackboard (p .blackboardCount + 1) (emptyBlackboard (numberOf name))) Nothing (p .blackboardCount + 1))
 
 -- blackboard k shows this message, or none
 abbrev pub showing : ℕ → ℕ → Partition → Change
 showing k m p = StoredBlackboard k (record { name = blackboard k p .name; shown = true; message = m })
 
 abbrev pub cleared : ℕ → Partition → Change
-cleared k p = StoredBlackboard k (record { name = blackboard k p .name; shown = false; message = 0 })
+cleared k p = StoredBlackboard k (emptyBlackboard (blackboard k p .name))
 
 -- 27 SHOW id, message. It shows the message until cleared; showing one ends all its waits in queue order, the message kept in each waiter's
 -- record.

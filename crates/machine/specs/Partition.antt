@@ -38,11 +38,18 @@ noSemaphore = record { name = 0; value = 0; max = 0 }
 abbrev pub noEvent : EventState
 noEvent = record { name = 0; up = false }
 
+-- a buffer with nothing in it, a blackboard that shows nothing
+abbrev pub emptyBuffer : ℕ → ℕ → Buffer
+emptyBuffer name limit = record { name = name; limit = limit; queue = queueOf [] }
+
+abbrev pub emptyBlackboard : ℕ → BlackboardT
+emptyBlackboard name = record { name = name; shown = false; message = 0 }
+
 abbrev pub noBuffer : Buffer
-noBuffer = record { name = 0; limit = 0; queue = queueOf [] }
+noBuffer = emptyBuffer 0 0
 
 abbrev pub noBlackboard : BlackboardT
-noBlackboard = record { name = 0; shown = false; message = 0 }
+noBlackboard = emptyBlackboard 0
 
 -- a partition in this mode with nothing created
 abbrev pub nothingCreated : ℕ → Partition
@@ -241,10 +248,6 @@ storedBuffer k b p = cond (within bufferLimit k) (withBuffers (replaced bufferLi
 
 unfoldable pub storedBlackboard : ℕ → BlackboardT → Partition → Partition
 storedBlackboard k b p = cond (within blackboardLimit k) (withBlackboards (replaced blackboardLimit k b (p .blackboards)) (max (p .blackboardCount) k) p) p
-
--- a buffer with nothing in it
-abbrev pub emptyBuffer : ℕ → ℕ → Buffer
-emptyBuffer name limit = record { name = name; limit = limit; queue = queueOf [] }
 
 -- a buffer whose messages moved
 abbrev pub movedIn : QueueChange → Buffer → Buffer

@@ -136,9 +136,13 @@ withDelay n s = record { release = s .release; deadline = s .deadline; wake = s 
 abbrev pub releasedAt : Time → Time → Times → Times
 releasedAt r capacity s = record { release = r; deadline = later r capacity; wake = r; delay = s .delay }
 
--- the wait ends (w −1) with this wake code; a suspended mark stays
+-- the wait ends (w −1) with this wake code, and this message is in the process record then; a suspended mark stays
+abbrev pub endedWith : ℕ → ℕ → Process → Process
+endedWith code m x = record { given = x .given; times = withWake Never (x .times); current = x .current; suspended = x .suspended; missed = x .missed; code = code; message = m; started = x .started; wait = None }
+
+-- the same, and the message stays
 abbrev pub waitEnded : ℕ → Process → Process
-waitEnded code x = record { given = x .given; times = withWake Never (x .times); current = x .current; suspended = x .suspended; missed = x .missed; code = code; message = x .message; started = x .started; wait = None }
+waitEnded code x = endedWith code (x .message) x
 
 abbrev pub withSuspended : Bool → Process → Process
 withSuspended b x = record { given = x .given; times = x .times; current = x .current; suspended = b; missed = x .missed; code = x .code; message = x .message; started = x .started; wait = x .wait }
@@ -152,7 +156,7 @@ served x = waitEnded 0 x
 
 -- the same where a message is handed over: it goes straight into its process record, beside the wake code, and stays till the next
 abbrev pub handed : ℕ → Process → Process
-handed m x = record { given = x .given; times = withWake Never (x .times); current = x .current; suspended = x .suspended; missed = x .missed; code = 0; message = m; started = x .started; wait = None }
+handed m x = endedWith 0 m x
 
 -- it waits, until this time
 abbrev pub waitingFor : Wait → Time → Process → Process

@@ -68,24 +68,39 @@ fn set_up<'a, W: Write>(numbers: &[line::Six], out: &'a mut W) -> io::Result<Set
     })
 }
 
-/// Many processes in several partitions, then busy lines. Process 1 of each
-/// partition never waits, so that its partition always has a caller.
-pub(crate) fn print_busy(seed: u64, count: u64, out: &mut impl Write) -> io::Result<()> {
+/// Every partition gets what `begin` makes and enters NORMAL, then the lines.
+fn print_lines<W: Write>(
+    (seed, count, partitions): (u64, u64, Id),
+    out: &mut W,
+    begin: fn(&mut SetUp<W>, &mut Rng, Id) -> io::Result<()>,
+    event: fn(&mut Rng, &Module) -> Event,
+) -> io::Result<()> {
     let mut rng = Rng::new(seed);
-    let numbers = full_table(&mut rng, 4);
+    let numbers = full_table(&mut rng, partitions as i64);
     let mut set_up = set_up(&numbers, out)?;
-    for own in 1..=4 {
+    for own in 1..=partitions {
         set_up.reach(own)?;
-        start_processes(&mut set_up, &mut rng, own)?;
-        for name in 1..=4 {
-            set_up.call(own, 14, [name, 1, 3, 0])?;
-            set_up.call(own, 17, [name, 0, 0, 0])?;
-        }
+        begin(&mut set_up, &mut rng, own)?;
         set_up.call(own, 1, [3, 0, 0, 0])?;
     }
     for _ in 0..count {
-        let event = busy_event(&mut rng, &set_up.module);
+        let event = event(&mut rng, &set_up.module);
         set_up.event(event)?;
+    }
+    Ok(())
+}
+
+/// Many processes in several partitions, then busy lines. Process 1 of each
+/// partition never waits, so that its partition always has a caller.
+pub(crate) fn print_busy(seed: u64, count: u64, out: &mut impl Write) -> io::Result<()> {
+    print_lines((seed, count, 4), out, begin_busy, busy_event)
+}
+
+fn begin_busy<W: Write>(set_up: &mut SetUp<W>, rng: &mut Rng, own: Id) -> io::Result<()> {
+    start_processes(set_up, rng, own)?;
+    for name in 1..=4 {
+        set_up.call(own, 14, [name, 1, 3, 0])?;
+        set_up.call(own, 17, [name, 0, 0, 0])?;
     }
     Ok(())
 }
@@ -103,14 +118,33 @@ fn start_processes<W: Write>(set_up: &mut SetUp<W>, rng: &mut Rng, own: Id) -> i
     Ok(())
 }
 
-/// A tick or a call that mostly gets 0 or 7.
-fn busy_event(rng: &mut Rng, module: &Module) -> Event {
+/// A tick, in so many of a hundred events, or a call of the process that runs.
+fn tick_or_call(
+    rng: &mut Rng,
+    module: &Module,
+    ticks: usize,
+    call: fn(&mut Rng, &Module, Id) -> (i64, [i64; 4]),
+) -> Event {
     let own = module.current();
-    let partition = module.partition(own);
-    let caller = partition.running();
-    if rng.percent(20) || caller == 0 {
+    let caller = module.partition(own).running();
+    if rng.percent(ticks) || caller == 0 {
         return Event::TICK;
     }
+    let (call, fields) = call(rng, module, caller);
+    Event {
+        partition: own as i64,
+        call,
+        fields,
+    }
+}
+
+fn busy_event(rng: &mut Rng, module: &Module) -> Event {
+    tick_or_call(rng, module, 20, busy_call)
+}
+
+/// A call that mostly gets 0 or 7.
+fn busy_call(rng: &mut Rng, module: &Module, caller: Id) -> (i64, [i64; 4]) {
+    let partition = module.partition(module.current());
     let may_wait = caller != 1;
     let periodic = partition.process(caller).periodic();
     let call = match rng.below(16) {
@@ -132,12 +166,7 @@ fn busy_event(rng: &mut Rng, module: &Module) -> Event {
     } else {
         16
     };
-    let fields = busy_fields(rng, module, partition, call);
-    Event {
-        partition: own as i64,
-        call,
-        fields,
-    }
+    (call, busy_fields(rng, module, partition, call))
 }
 
 fn busy_fields(rng: &mut Rng, module: &Module, partition: &Partition, call: i64) -> [i64; 4] {
@@ -159,35 +188,27 @@ fn busy_fields(rng: &mut Rng, module: &Module, partition: &Partition, call: i64)
 /// As the busy lines, but most calls pass messages, over four buffers and two
 /// blackboards of each partition.
 pub(crate) fn print_passing(seed: u64, count: u64, out: &mut impl Write) -> io::Result<()> {
-    let mut rng = Rng::new(seed);
-    let numbers = full_table(&mut rng, 4);
-    let mut set_up = set_up(&numbers, out)?;
-    for own in 1..=4 {
-        set_up.reach(own)?;
-        start_processes(&mut set_up, &mut rng, own)?;
-        for (name, limit) in [(1, 1), (2, 2), (3, 4), (4, 16)] {
-            set_up.call(own, 23, [name, limit, 0, 0])?;
-        }
-        for name in 1..=2 {
-            set_up.call(own, 26, [name, 0, 0, 0])?;
-        }
-        set_up.call(own, 1, [3, 0, 0, 0])?;
+    print_lines((seed, count, 4), out, begin_passing, passing_event)
+}
+
+fn begin_passing<W: Write>(set_up: &mut SetUp<W>, rng: &mut Rng, own: Id) -> io::Result<()> {
+    start_processes(set_up, rng, own)?;
+    for (name, limit) in [(1, 1), (2, 2), (3, 4), (4, 16)] {
+        set_up.call(own, 23, [name, limit, 0, 0])?;
     }
-    for _ in 0..count {
-        let event = passing_event(&mut rng, &set_up.module);
-        set_up.event(event)?;
+    for name in 1..=2 {
+        set_up.call(own, 26, [name, 0, 0, 0])?;
     }
     Ok(())
 }
 
-/// A tick or a call that mostly passes a message and gets 0 or 7.
 fn passing_event(rng: &mut Rng, module: &Module) -> Event {
-    let own = module.current();
-    let partition = module.partition(own);
-    let caller = partition.running();
-    if rng.percent(10) || caller == 0 {
-        return Event::TICK;
-    }
+    tick_or_call(rng, module, 10, passing_call)
+}
+
+/// A call that mostly passes a message and gets 0 or 7.
+fn passing_call(rng: &mut Rng, module: &Module, caller: Id) -> (i64, [i64; 4]) {
+    let partition = module.partition(module.current());
     let id = rng.range(1, 4);
     let held = !partition.buffers[id as usize - 1].messages.is_empty();
     let call = match rng.below(16) {
@@ -203,11 +224,7 @@ fn passing_event(rng: &mut Rng, module: &Module) -> Event {
         14 => 13,
         _ => 29,
     };
-    Event {
-        partition: own as i64,
-        call,
-        fields: passing_fields(rng, id, call),
-    }
+    (call, passing_fields(rng, id, call))
 }
 
 fn passing_fields(rng: &mut Rng, buffer: i64, call: i64) -> [i64; 4] {
@@ -227,19 +244,13 @@ fn passing_fields(rng: &mut Rng, buffer: i64, call: i64) -> [i64; 4] {
 
 /// Every partition in NORMAL with processes that wait long, then ticks.
 pub(crate) fn print_ticks(seed: u64, count: u64, out: &mut impl Write) -> io::Result<()> {
-    let mut rng = Rng::new(seed);
-    let numbers = full_table(&mut rng, 8);
-    let mut set_up = set_up(&numbers, out)?;
-    for own in 1..=8 {
-        set_up.reach(own)?;
-        for id in 1..=16 {
-            set_up.call(own, 2, [id, rng.range(1, 9), -1, MOST_TIME])?;
-            set_up.call(own, 4, [id, MOST_TIME - rng.range(0, 1000), 0, 0])?;
-        }
-        set_up.call(own, 1, [3, 0, 0, 0])?;
-    }
-    for _ in 0..count {
-        set_up.event(Event::TICK)?;
+    print_lines((seed, count, 8), out, begin_waiting, |_, _| Event::TICK)
+}
+
+fn begin_waiting<W: Write>(set_up: &mut SetUp<W>, rng: &mut Rng, own: Id) -> io::Result<()> {
+    for id in 1..=16 {
+        set_up.call(own, 2, [id, rng.range(1, 9), -1, MOST_TIME])?;
+        set_up.call(own, 4, [id, MOST_TIME - rng.range(0, 1000), 0, 0])?;
     }
     Ok(())
 }

@@ -3,7 +3,7 @@
 
 mod common;
 
-use common::{line, World, CHANNELS, TWO};
+use common::{creation_by_name_is_checked, line, World, CHANNELS, TWO};
 use separate::record::{Message, Mode, Wait};
 
 /// One partition in NORMAL; process 1 runs at priority 9, and process 2,
@@ -1033,26 +1033,7 @@ fn create_semaphore_checks_each_field() {
 
 #[test]
 fn create_event_checks_run_4_then_1_then_3_then_5() {
-    let mut world = World::one();
-    world.refused(3, 17, &[0]);
-    world.refused(3, 17, &[256]);
-    for _ in 0..8 {
-        world.flag();
-    }
-    world.refused(4, 17, &[8]);
-    world.refused(4, 17, &[0]);
-    world.started(5);
-    world.normal();
-    world.refused(4, 17, &[100]);
-
-    let mut world = World::one();
-    world.flag();
-    world.refused(1, 17, &[1]);
-    world.started(5);
-    world.normal();
-    world.refused(1, 17, &[1]);
-    world.refused(3, 17, &[256]);
-    world.refused(5, 17, &[255]);
+    creation_by_name_is_checked(17, World::flag);
 }
 
 #[test]

@@ -142,25 +142,32 @@ fn check(module: &Module) {
     );
 }
 
+/// Generated events, each with its answer and the records before and after it.
+fn run(seed: u64, count: usize, mut take: impl FnMut(&Event, &Answer, &Module, &Module)) {
+    let (_, mut events) = Events::with_table(seed);
+    let mut before = events.module.clone();
+    for _ in 0..count {
+        let (event, answer) = events.next_event();
+        take(&event, &answer, &before, &events.module);
+        before.clone_from(&events.module);
+    }
+}
+
 #[test]
 fn the_record_stays_whole_and_refusals_leave_it_the_same() {
     for seed in 1000..1200 {
-        let (_, mut events) = Events::with_table(seed);
-        let mut before = events.module.clone();
-        for _ in 0..500 {
-            let (event, answer) = events.next_event();
+        run(seed, 500, |event, answer, before, after| {
             assert!(line::write(&answer.six(), &mut [0; 61]).is_ok());
             if answer.code == 0 || answer.code == 7 {
-                check(&events.module);
-                before.clone_from(&events.module);
+                check(after);
             } else {
-                assert!(events.module == before, "seed {seed} event {event:?}");
+                assert!(after == before, "seed {seed} event {event:?}");
                 assert_eq!((answer.value, answer.extra), (0, 0));
             }
             if answer.code == 7 {
                 assert_eq!((answer.value, answer.extra), (0, 0));
             }
-        }
+        });
     }
 }
 
@@ -267,20 +274,16 @@ impl Accounts {
 fn what_was_sent_to_a_buffer_is_received_held_or_kept_in_order() {
     let mut received = 0;
     for seed in 2000..2200 {
-        let (_, mut events) = Events::with_table(seed);
-        let mut before = events.module.clone();
-        let mut accounts = vec![Accounts::default(); before.partitions().len()];
-        for _ in 0..800 {
-            let (event, answer) = events.next_event();
-            let after = &events.module;
+        let mut accounts = vec![];
+        run(seed, 800, |event, answer, before, after| {
+            accounts.resize_with(after.partitions().len(), Accounts::default);
             let records = before.partitions().iter().zip(after.partitions());
             for (k, (accounts, (old, new))) in (1..).zip(accounts.iter_mut().zip(records)) {
                 if event.partition == 0 || event.partition == k {
-                    accounts.take(&event, &answer, old, new);
+                    accounts.take(event, answer, old, new);
                 }
             }
-            before.clone_from(after);
-        }
+        });
         let all = accounts.iter().flat_map(|accounts| &accounts.0);
         received += all.map(|account| account.received.len()).sum::<usize>();
     }
@@ -301,20 +304,16 @@ fn handed_over(event: &Event, old: &Process, new: &Process) -> bool {
 fn only_a_hand_over_writes_the_message_of_a_process_record() {
     let mut written = 0;
     for seed in 3000..3200 {
-        let (_, mut events) = Events::with_table(seed);
-        let mut before = events.module.clone();
-        for _ in 0..500 {
-            let (event, _) = events.next_event();
-            for (old, new) in before.partitions().iter().zip(events.module.partitions()) {
+        run(seed, 500, |event, _, before, after| {
+            for (old, new) in before.partitions().iter().zip(after.partitions()) {
                 for (old, new) in old.processes.iter().zip(&new.processes) {
-                    let given = handed_over(&event, old, new);
+                    let given = handed_over(event, old, new);
                     let expected = if given { event.fields[1] } else { old.message };
                     assert_eq!(new.message, expected, "seed {seed} event {event:?}");
                     written += usize::from(given);
                 }
             }
-            before.clone_from(&events.module);
-        }
+        });
     }
     assert!(written > 200, "{written} messages handed over");
 }

@@ -3,7 +3,7 @@
 
 mod common;
 
-use common::{World, TWO};
+use common::{creation_by_name_is_checked, World, TWO};
 use separate::record::{Buffer, Wait};
 
 /// One partition with a buffer and a blackboard; after NORMAL process 1 runs
@@ -100,27 +100,7 @@ fn a_created_buffer_is_empty() {
 
 #[test]
 fn create_blackboard_checks_run_4_then_1_then_3_then_5() {
-    let mut world = World::one();
-    world.refused(3, 26, &[0]);
-    world.refused(3, 26, &[-1]);
-    world.refused(3, 26, &[256]);
-    for _ in 0..8 {
-        world.blackboard();
-    }
-    world.refused(4, 26, &[8]);
-    world.refused(4, 26, &[0]);
-    world.started(5);
-    world.normal();
-    world.refused(4, 26, &[100]);
-
-    let mut world = World::one();
-    world.blackboard();
-    world.refused(1, 26, &[1]);
-    world.started(5);
-    world.normal();
-    world.refused(1, 26, &[1]);
-    world.refused(3, 26, &[256]);
-    world.refused(5, 26, &[255]);
+    creation_by_name_is_checked(26, World::blackboard);
 }
 
 #[test]

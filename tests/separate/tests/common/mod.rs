@@ -216,3 +216,28 @@ pub fn line(partition: i64, call: i64, fields: &[i64]) -> Six {
 pub fn text(lines: &[Six]) -> Vec<u8> {
     lines.iter().flat_map(separate::line::text).collect()
 }
+
+/// Creation by a name alone: 4, then 1, then 3, then 5.
+pub fn creation_by_name_is_checked(call: i64, create: fn(&mut World) -> i64) {
+    let mut world = World::one();
+    for name in [0, -1, 256] {
+        world.refused(3, call, &[name]);
+    }
+    for _ in 0..8 {
+        create(&mut world);
+    }
+    world.refused(4, call, &[8]);
+    world.refused(4, call, &[0]);
+    world.started(5);
+    world.normal();
+    world.refused(4, call, &[100]);
+
+    let mut world = World::one();
+    create(&mut world);
+    world.refused(1, call, &[1]);
+    world.started(5);
+    world.normal();
+    world.refused(1, call, &[1]);
+    world.refused(3, call, &[256]);
+    world.refused(5, call, &[255]);
+}

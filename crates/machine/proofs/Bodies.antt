@@ -1,29 +1,34 @@
--- The bodies of calls answer 0, 7 or a code 1 to 5, and a message is left by its channel's source alone: for every record and every event.
+-- The bodies of calls answer 0, 7 or a code 1 to 5, a message is left by its channel's source alone, and a transfer is made at the ends of a queuing
+-- channel alone: for every record and every event.
 -- Assumes nothing.
-use Prim.Native.Nat.{ℕ, _≤_}
+use Prim.Native.Nat.{ℕ, _≤_, _<_}
 use mathlib.Core.Path.{_≡_, refl}
-use mathlib.Core.Bool.{Bool, true, _&&_, _||_}
+use mathlib.Core.Bool.{Bool, true, not, _&&_, _||_}
+use mathlib.Core.Logic.{_⊎_, inl, inr}
 use mathlib.Core.List.{List, [], _∷_}
 use lib.Dec.{eqb, leb}
-use borrow.Author.Tests.{eqb-true, not-false}
+use borrow.Author.Tests.{eqb-true, ltb-true, not-false}
 use Rattle.machine.specs.declared.Partition.{Partition}
 use Rattle.machine.specs.declared.Context.{Context}
 use Rattle.machine.specs.declared.Port.{Port}
 use Rattle.machine.specs.declared.Request.{Request}
 use Rattle.machine.specs.declared.Field.{Field}
 use Rattle.machine.specs.declared.Wait.{Wait}
+use Rattle.machine.specs.declared.Transfer.{Transfer}
 use Rattle.machine.specs.declared.Decision.{Decision}
-use Rattle.machine.specs.declared.Decision.the-variants.{Refused, Unchanged, Ticked, Blocked, Changed, Restarted, Written}
-use Rattle.machine.specs.Fields.{isNumber, isTimeout}
+use Rattle.machine.specs.declared.Decision.the-variants.{Refused, Unchanged, Ticked, Blocked, Changed, Restarted, Written, Passed as PassedOn}
+use Rattle.machine.specs.Fields.{isNumber, isTimeout, numberOf}
+use Rattle.machine.specs.Messages.{sent, received}
 use Rattle.machine.specs.Decisions.{checked, replyOf, blocked, startMode, waitChecks, queued, awaiting}
 use Rattle.machine.specs.Calls.{setMode, createProcess, start, stop, stopSelf, suspend, suspendSelf, timedWait, periodicWait, resume, setPriority, getStatus}
 use Rattle.machine.specs.Objects.{createSemaphore, waitSemaphore, signal, createEvent, setEvent, resetEvent, waitEvent}
-use Rattle.machine.specs.Channels.{channelChecks, write, read}
-use Rattle.machine.specs.Buffers.{createBuffer, sendBuffer, received, receiveBuffer}
+use Rattle.machine.specs.Channels.{queuing, channelChecks, write, read, send, receive}
+use Rattle.machine.specs.Buffers.{createBuffer, sendBuffer, receiveBuffer}
 use Rattle.machine.specs.Blackboards.{createBlackboard, show, readBlackboard, clear}
 use Rattle.machine.specs.Services.{callDecision}
-use Rattle.machine.specs.Limits.{callLimit}
-use Rattle.machine.proofs.Tests.{by-test, by-codes, codesIn, Passed}
+use Rattle.machine.specs.Limits.{callLimit, durationLimit}
+use Rattle.machine.proofs.Tests.{by-test, by-codes, codesIn, Passed, passed-parts, and-left}
+use Rattle.machine.proofs.Fields.{in-limits}
 use Rattle.machine.proofs.Dispatch.{by-call}
 
 -- a code 1 to 5
@@ -41,6 +46,30 @@ pub record FromSource (x : Port) (n i : ℕ) : Type 0 where
   pub there : x .exists ≡ true
   pub source : x .channel .source ≡ x .own
 
+-- 30 sends at the source, where there is room; 31 receives at the destination, where there is a message
+pub record Sends (x : Port) (n : ℕ) (a : Transfer) (value : ℕ) : Type 0 where
+  pub call : n ≡ 30
+  pub source : x .channel .source ≡ x .own
+  pub room : x .traffic .len < x .channel .size
+  pub message : ℕ
+  pub few : message ≤ durationLimit
+  pub transfer : a ≡ sent (x .traffic .waiter) message
+  pub none : value ≡ 0
+
+pub record Receives (x : Port) (n : ℕ) (a : Transfer) (value : ℕ) : Type 0 where
+  pub call : n ≡ 31
+  pub destination : x .channel .destination ≡ x .own
+  pub some : 0 < x .traffic .len
+  pub transfer : a ≡ received (x .traffic .waiter) (x .traffic .carried)
+  pub first : value ≡ x .traffic .first
+
+-- calls 30 and 31 alone make a transfer, on a queuing channel of the table
+pub record OnQueue (x : Port) (n i : ℕ) (a : Transfer) (value : ℕ) : Type 0 where
+  pub place : i ≡ x .place
+  pub there : x .exists ≡ true
+  pub kind : queuing (x .channel) ≡ true
+  pub end : Sends x n a value ⊎ Receives x n a value
+
 -- what the body of a call decides
 abbrev pub Bodily : Port → ℕ → Decision → Type 0
 Bodily x n (Refused code) = bodyRefusal code ≡ true
@@ -50,6 +79,7 @@ Bodily x n (Blocked id y) = Unit {0}
 Bodily x n (Changed a b value) = Unit {0}
 Bodily x n (Restarted mode) = Unit {0}
 Bodily x n (Written i y) = FromSource x n i
+Bodily x n (PassedOn i a value) = OnQueue x n i a value
 
 pub record Body (x : Port) (n : ℕ) (d : Decision) : Type 0 where
   pub is : Bodily x n d
@@ -63,20 +93,18 @@ module _ (x : Port) (n : ℕ) where
 
   -- a call that waits: its checks, then success or the queue
   in-wait : (c : Context) (before : List (Bool × ℕ)) (beside : Bool) (after : List (Bool × ℕ)) (a : Field) (b : Bool) (success : Decision) (w : Wait) (p : Partition)
-      → codesIn bodyRefusal (waitChecks before (startMode p) (beside && isTimeout a) after) ≡ true → Body x n success → Body x n (awaiting c before beside after a b success w p)
-  unfolding awaiting queued blocked
+      → codesIn bodyRefusal (waitChecks before (startMode p) (beside && isTimeout a) after) ≡ true
+      → (Passed before → beside ≡ true → b ≡ true → Body x n success)
+      → Body x n (awaiting c before beside after a b success w p)
+  unfolding awaiting queued blocked Passed
   in-wait c before beside after a b success w p h f =
-      in-body _ _ h (λ _. by-test (Body x n) b (λ _. f) (λ _. in-body _ _ refl (λ _. fine tt)))
-
-  -- a receive, whoever waits to send
-  takes : (l : List ℕ) (k : ℕ) (p : Partition) → Body x n (received l k p)
-  unfolding received
-  takes [] k p = fine tt
-  takes (id ∷ l) k p = fine tt
+      in-body _ _ h (λ g.
+      let u = passed-parts before _ g in
+      by-test (Body x n) b (λ e. f (u .0) (and-left beside _ (not-false _ (u .1 .1 .0))) e) (λ _. in-body _ _ refl (λ _. fine tt)))
 
   -- the body of each call
   pub call-body : (c : Context) (r : Request) (p : Partition) → 1 ≤ n → n ≤ callLimit → Body x n (callDecision c x n r p)
-  unfolding setMode createProcess start stop stopSelf suspend suspendSelf timedWait periodicWait resume setPriority getStatus createSemaphore createEvent blocked waitSemaphore waitEvent signal setEvent resetEvent write read channelChecks createBuffer sendBuffer receiveBuffer createBlackboard show readBlackboard clear Passed
+  unfolding setMode createProcess start stop stopSelf suspend suspendSelf timedWait periodicWait resume setPriority getStatus createSemaphore createEvent blocked waitSemaphore waitEvent signal setEvent resetEvent write read channelChecks createBuffer sendBuffer receiveBuffer createBlackboard show readBlackboard clear send receive Passed
   call-body c r p lo hi =
       by-call c x n r p (Body x n)
       (λ _. in-body _ _ refl (λ _. by-test (Body x n) (isNumber 3 (r .a)) (λ _. fine tt) (λ _. fine tt)))
@@ -92,22 +120,30 @@ module _ (x : Port) (n : ℕ) where
       (λ _ _. in-body _ _ refl (λ _. fine tt))
       (λ _. in-body _ _ refl (λ _. fine tt))
       (λ _. in-body _ _ refl (λ _. fine tt))
-      (λ _ _. in-wait c _ _ _ _ _ _ _ p refl (fine tt))
+      (λ _ _. in-wait c _ _ _ _ _ _ _ p refl (λ _ _ _. fine tt))
       (λ _. in-body _ _ refl (λ _. fine tt))
       (λ _. in-body _ _ refl (λ _. fine tt))
       (λ _. in-body _ _ refl (λ _. fine tt))
       (λ _. in-body _ _ refl (λ _. fine tt))
-      (λ _ _. in-wait c _ _ _ _ _ _ _ p refl (fine tt))
-      (λ e _. in-body _ _ refl (λ h. in-body _ _ refl (λ _. fine (record { call = e; place = refl; there = not-false _ (h .0); source = eqb-true _ _ (not-false _ (h .1 .1 .0)) }))))
+      (λ _ _. in-wait c _ _ _ _ _ _ _ p refl (λ _ _ _. fine tt))
+      (λ e _. in-body _ _ refl (λ h. in-body _ _ refl (λ _. fine (record { call = e; place = refl; there = not-false _ (h .0); source = eqb-true _ _ (not-false _ (h .1 .1 .1 .0)) }))))
       (in-body _ _ refl (λ _. in-body _ _ refl (λ _. fine tt)))
       (λ _ _. in-body _ _ refl (λ _. fine tt))
-      (λ _. in-wait c _ _ _ _ _ _ _ p refl (fine tt))
-      (λ _. in-wait c _ _ _ _ _ _ _ p refl (takes _ _ p))
+      (λ _. in-wait c _ _ _ _ _ _ _ p refl (λ _ _ _. fine tt))
+      (λ _. in-wait c _ _ _ _ _ _ _ p refl (λ _ _ _. fine tt))
       (λ _. in-body _ _ refl (λ _. fine tt))
       (λ _ _. in-body _ _ refl (λ _. fine tt))
-      (λ _ _. in-wait c _ _ _ _ _ _ _ p refl (fine tt))
+      (λ _ _. in-wait c _ _ _ _ _ _ _ p refl (λ _ _ _. fine tt))
       (λ _. in-body _ _ refl (λ _. fine tt))
+      (λ e. in-wait c _ _ _ _ _ _ _ p refl (λ h g b. fine (on-queue (x .channel .source) h (inl (record { call = e; source = at-end (x .channel .source) h; room = ltb-true _ _ b; message = numberOf (r .b); few = in-limits 0 durationLimit (r .b) g .1; transfer = refl; none = refl })))))
+      (λ e. in-wait c _ _ _ _ _ _ _ p refl (λ h _ b. fine (on-queue (x .channel .destination) h (inr (record { call = e; destination = at-end (x .channel .destination) h; some = ltb-true _ _ b; transfer = refl; first = refl })))))
       (λ out. absurd (out lo hi))
+    where
+      at-end : (wanted : ℕ) → Passed (channelChecks x (not (queuing (x .channel))) wanted) → wanted ≡ x .own
+      at-end wanted h = eqb-true _ _ (not-false _ (h .1 .1 .1 .0))
+
+      on-queue : (wanted : ℕ) {a : Transfer} {value : ℕ} → Passed (channelChecks x (not (queuing (x .channel))) wanted) → Sends x n a value ⊎ Receives x n a value → OnQueue x n (x .place) a value
+      on-queue wanted h end = record { place = refl; there = not-false _ (h .0); kind = not-false _ (h .1 .0); end = end }
 
 -- the code of what a body decides
 pub body-code : (x : Port) (n : ℕ) (d : Decision) → Bodily x n d → bodyCode (replyOf d .code) ≡ true
@@ -118,3 +154,4 @@ body-code x n (Blocked id y) h = refl
 body-code x n (Changed a b v) h = refl
 body-code x n (Restarted mode) h = refl
 body-code x n (Written i y) h = refl
+body-code x n (PassedOn i a v) h = refl

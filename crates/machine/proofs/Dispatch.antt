@@ -14,14 +14,15 @@ use Rattle.machine.specs.declared.Message.{Message}
 use Rattle.machine.specs.declared.Field.{Field}
 use Rattle.machine.specs.declared.Request.{Request}
 use Rattle.machine.specs.declared.Decision.{Decision}
-use Rattle.machine.specs.declared.Decision.the-variants.{Refused, Unchanged, Ticked, Blocked, Changed, Restarted, Written}
+use Rattle.machine.specs.declared.Decision.the-variants.{Refused, Unchanged, Ticked, Blocked, Changed, Restarted, Written, Passed as PassedOn}
+use Rattle.machine.specs.declared.Transfer.{Transfer}
 use Rattle.machine.specs.declared.Module.{Module}
 use Rattle.machine.specs.Fields.{numberOf}
-use Rattle.machine.specs.Limits.{channelLimit, timeLimit, callLimit}
+use Rattle.machine.specs.Limits.{timeLimit, callLimit}
 use Rattle.machine.specs.Partition.{partitionAfter}
 use Rattle.machine.specs.Module.{part, current, withPart, withMessage}
 use Rattle.machine.specs.Ticks.{tickModule}
-use Rattle.machine.specs.Channels.{erasedTo, portOf, write, read}
+use Rattle.machine.specs.Channels.{portOf, write, read, send, receive, passed}
 use Rattle.machine.specs.Calls.{setMode, createProcess, start, stop, stopSelf, suspend, suspendSelf, timedWait, periodicWait, resume, setPriority, getStatus}
 use Rattle.machine.specs.Objects.{createSemaphore, createEvent, waitSemaphore, waitEvent, signal, setEvent, resetEvent}
 use Rattle.machine.specs.Buffers.{createBuffer, sendBuffer, receiveBuffer}
@@ -29,7 +30,7 @@ use Rattle.machine.specs.Blackboards.{createBlackboard, show, readBlackb
 use Rattle.machine.specs.Decisions.{checked}
 use Rattle.machine.specs.Services.{Service, services, noService, callDecision}
 use Rattle.machine.specs.Places.{malformed, noCaller, ticks}
-use Rattle.machine.specs.Step.{contextOf, decision, moduleAfter}
+use Rattle.machine.specs.Step.{contextOf, decision, restarted, moduleAfter}
 use Rattle.machine.proofs.Tests.{by-test, by-codes, Passed}
 
 -- a law of each of a list by its number, counted from k on, and of what stands past its end
@@ -44,7 +45,7 @@ by-place P (x ∷ l) d k f zero n e g = let h : n ≡ k = omega arith in rw h (f
 by-place P (x ∷ l) d k f (suc i) n e g = by-place P l d (suc k) (f .1) i n (omega arith) (λ h. g (omega arith))
 
 -- ---------------------------------------------------------------- calls
--- what is shown of each call, whatever fields it is given but for 1, 24 and 25; 3 and 4 are one
+-- what is shown of each call, whatever fields it is given but for 1, 24, 25, 30 and 31; 3 and 4 are one
 module _ (c : Context) (x : Port) (n : ℕ) (r : Request) (p : Partition) (P : Decision → Type 0)
     (f1 : n ≡ 1 → P (setMode c (r .a) p))
     (f2 : (r : Request) → P (createProcess c r p))
@@ -74,10 +75,12 @@ module _ (c : Context) (x : Port) (n : ℕ) (r : Request) (p : Partition) (P : D
     (f27 : (k : ℕ) (m : Field) → P (show k m p))
     (f28 : (k : ℕ) (a : Field) → P (readBlackboard c k a p))
     (f29 : (k : ℕ) → P (clear k p))
+    (f30 : n ≡ 30 → P (send c x (r .b) (r .c) p))
+    (f31 : n ≡ 31 → P (receive c x (r .b) p))
     (other : (1 ≤ n → n ≤ callLimit → ⊥) → P (Refused 13)) where
   each : Each (λ j (s : Service). n ≡ j → P (s .decides c x r p)) 1 services
   unfolding Each services
-  each = (λ e. f1 e, (λ _. f2 _, (λ _. f3 _ _, (λ _. f3 _ _, (λ e. f5 e _, (λ _. f6, (λ _. f7 _, (λ _. f8 _, (λ _. f9 _, (λ _. f10, (λ _. f11 _, (λ _. f12 _ _, (λ _. f13 _, (λ _. f14 _, (λ _. f15 _ _, (λ _. f16 _, (λ _. f17 _, (λ _. f18 _, (λ _. f19 _, (λ _. f20 _ _, (λ e. f21 e _, (λ _. f22, (λ _. f23 _ _, (λ e. f24 e, (λ e. f25 e, (λ _. f26 _, (λ _. f27 _ _, (λ _. f28 _ _, (λ _. f29 _, tt)))))))))))))))))))))))))))))
+  each = (λ e. f1 e, (λ _. f2 _, (λ _. f3 _ _, (λ _. f3 _ _, (λ e. f5 e _, (λ _. f6, (λ _. f7 _, (λ _. f8 _, (λ _. f9 _, (λ _. f10, (λ _. f11 _, (λ _. f12 _ _, (λ _. f13 _, (λ _. f14 _, (λ _. f15 _ _, (λ _. f16 _, (λ _. f17 _, (λ _. f18 _, (λ _. f19 _, (λ _. f20 _ _, (λ e. f21 e _, (λ _. f22, (λ _. f23 _ _, (λ e. f24 e, (λ e. f25 e, (λ _. f26 _, (λ _. f27 _ _, (λ _. f28 _ _, (λ _. f29 _, (λ e. f30 e, (λ e. f31 e, tt)))))))))))))))))))))))))))))))
 
   all : length services ≡ callLimit
   unfolding services
@@ -121,18 +124,20 @@ unfolding decision checked
 ticks-decided m r f z l = rw (f, z, lt-leb timeLimit (m .t) l)
 
 -- ---------------------------------------------------------------- decisions
--- a decision leaves the module, ticks it, stores the caller's partition, stores it with the messages into it erased, or stores a message
+-- a decision leaves the module, ticks it, stores the caller's partition, restarts it, stores a message, or makes a transfer
 pub by-decision : (m : Module) (k : ℕ) (d : Decision) (P : Module → Type 0)
     → P m
     → P (tickModule m)
     → P (withPart (k - 1) (partitionAfter d (part m (k - 1))) m)
-    → P (withPart (k - 1) (partitionAfter d (part m (k - 1))) (erasedTo k channelLimit m))
+    → P (restarted k (partitionAfter d (part m (k - 1))) m)
     → ((i : ℕ) (x : Message) → d ≡ Written i x → P (withMessage i x m))
+    → ((i : ℕ) (a : Transfer) (v : ℕ) → d ≡ PassedOn i a v → P (passed k i a m))
     → P (moduleAfter m k d)
-by-decision m k (Refused n) P same tick one all put = same
-by-decision m k (Unchanged v e) P same tick one all put = same
-by-decision m k Ticked P same tick one all put = tick
-by-decision m k (Blocked id x) P same tick one all put = one
-by-decision m k (Changed a b v) P same tick one all put = one
-by-decision m k (Restarted mode) P same tick one all put = all
-by-decision m k (Written i x) P same tick one all put = put i x refl
+by-decision m k (Refused n) P same tick one all put pass = same
+by-decision m k (Unchanged v e) P same tick one all put pass = same
+by-decision m k Ticked P same tick one all put pass = tick
+by-decision m k (Blocked id x) P same tick one all put pass = one
+by-decision m k (Changed a b v) P same tick one all put pass = one
+by-decision m k (Restarted mode) P same tick one all put pass = all
+by-decision m k (Written i x) P same tick one all put pass = put i x refl
+by-decision m k (PassedOn i a v) P same tick one all put pass = pass i a v refl

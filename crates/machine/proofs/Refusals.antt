@@ -14,7 +14,7 @@ use Rattle.machine.specs.declared.Field.the-variants.{Number, MinusOne, 
 use Rattle.machine.specs.declared.Event.{Event}
 use Rattle.machine.specs.declared.Request.{Request}
 use Rattle.machine.specs.declared.Decision.{Decision}
-use Rattle.machine.specs.declared.Decision.the-variants.{Refused, Unchanged, Ticked, Blocked, Changed, Restarted, Written}
+use Rattle.machine.specs.declared.Decision.the-variants.{Refused, Unchanged, Ticked, Blocked, Changed, Restarted, Written, Passed}
 use Rattle.machine.specs.Limits.{timeLimit, callLimit}
 use Rattle.machine.specs.Fields.{requestOf, isNumber, between, numberOf}
 use Rattle.machine.specs.Decisions.{checked, replyOf}
@@ -37,6 +37,7 @@ refused-stays m k (Blocked id x) h = absurd (true≢false (sym h))
 refused-stays m k (Changed a b v) h = absurd (true≢false (sym h))
 refused-stays m k (Restarted mode) h = absurd (true≢false (sym h))
 refused-stays m k (Written i x) h = absurd (true≢false (sym h))
+refused-stays m k (Passed i a v) h = absurd (true≢false (sym h))
 
 -- Law 1. A refused event (1..5, 8, 9, 10, 13) leaves the whole record unchanged.
 pub refused-same : (m : Module) (e : Event) → St.refusal (St.step m e .answer .code) ≡ true → St.step m e .state ≡ m
@@ -72,7 +73,7 @@ places-of false false e true false y h =
     let l = h refl refl in
     record { thirteen = above-seven (replyOf y .code) 13 l refl; ten = above-seven (replyOf y .code) 10 l refl; eight = above-seven (replyOf y .code) 8 l refl; nine = above-seven (replyOf y .code) 9 l refl }
 
--- an event that is not malformed and whose partition is not 0 names a call 1 to 29
+-- an event that is not malformed and whose partition is not 0 names a call 1 to 31
 named-call : (size : ℕ) (p c : Field) → between 0 size p ≡ true → between 0 callLimit c ≡ true → eqb (numberOf p) 0 ≡ false → cond (isNumber 0 p) (not (isNumber 0 c)) (isNumber 0 c) ≡ false → (1 ≤ numberOf c) × (numberOf c ≤ callLimit)
 named-call size (Number k) (Number n) hp hc z o =
     let d = eqb-false n 0 (rw z at o) in

@@ -20,7 +20,8 @@ use Rattle.machine.specs.declared.Line.{Line}
 use Rattle.machine.specs.declared.Line.the-variants.{Six, Bad}
 use Rattle.machine.specs.declared.Module.{Module}
 use Rattle.machine.specs.declared.Field.{Field}
-use Rattle.machine.specs.Limits.{frameLimit, partitionLimit, windowLimit, channelLimit, durationLimit}
+use Rattle.machine.specs.declared.Field.the-variants.{Number, MinusOne, Other}
+use Rattle.machine.specs.Limits.{frameLimit, partitionLimit, windowLimit, channelLimit, sizeLimit, durationLimit}
 use Rattle.machine.specs.Fields.{rowOf, between, isNumber, numberOf}
 use Rattle.machine.specs.Windows.{windows, noWindow}
 use Rattle.machine.specs.Module.{channel, noChannel, emptyModule, freshModule}
@@ -70,6 +71,16 @@ window-sound d r h =
       owner = in-limits _ _ (r .f3) (and-left (between 1 (d .table .size) (r .f3)) _ h₄);
     }
 
+-- the size of a channel, queuing or not
+size-few : (queuing : Bool) (f : Field) (kind : Bool) → cond queuing (between 1 sizeLimit f) (kind && isNumber 0 f) ≡ true → numberOf f ≤ sizeLimit
+size-few true f kind h = in-limits 1 sizeLimit f h .1
+size-few false f kind h = omega (arith, number-zero f (and-right kind (isNumber 0 f) h))
+  where
+    number-zero : (f : Field) → isNumber 0 f ≡ true → numberOf f ≡ 0
+    number-zero (Number n) h = eqb-true n 0 h
+    number-zero MinusOne h = refl
+    number-zero Other h = refl
+
 pub channel-sound : (d : Draft) (r : Row) → T.channelGood d r ≡ true → SoundChannel (d .table .size) (T.channelOf r)
 channel-sound d r h =
     let h₂ = and-right (between 1 (d .table .size) (r .f1)) _ h in
@@ -80,6 +91,7 @@ channel-sound d r h =
       destination = in-limits _ _ (r .f2) (and-left (between 1 (d .table .size) (r .f2)) _ h₂);
       apart = eqb-false _ _ (not-true _ (and-left (not (eqb (numberOf (r .f1)) (numberOf (r .f2)))) _ h₃));
       refresh = in-limits _ _ (r .f3) (and-left (between 1 durationLimit (r .f3)) _ h₄);
+      room = size-few (isNumber 1 (r .f4)) (r .f5) (isNumber 0 (r .f4)) (and-left (cond (isNumber 1 (r .f4)) (between 1 sizeLimit (r .f5)) (isNumber 0 (r .f4) && isNumber 0 (r .f5))) _ (and-right (between 1 durationLimit (r .f3)) _ h₄));
     }
 
 -- one more window

@@ -7,18 +7,16 @@ use lib.Dec.{leb, ltb}
 use Rattle.machine.specs.declared.Buffer.{Buffer}
 use Rattle.machine.specs.declared.Partition.{Partition}
 use Rattle.machine.specs.declared.Context.{Context}
-use Rattle.machine.specs.declared.QueueChange.the-variants.{Put, Taken, Exchanged}
-use Rattle.machine.specs.declared.Change.{Change}
-use Rattle.machine.specs.declared.Change.the-variants.{Nothing, Stored, CreatedBuffer, Moved}
+use Rattle.machine.specs.declared.Change.the-variants.{Nothing, CreatedBuffer, Moved}
 use Rattle.machine.specs.declared.Decision.{Decision}
 use Rattle.machine.specs.declared.Decision.the-variants.{Refused, Changed}
 use Rattle.machine.specs.declared.Wait.the-variants.{Sending, Receiving}
 use Rattle.machine.specs.declared.Field.{Field}
 use Rattle.machine.specs.Limits.{bufferLimit, messageLimit}
 use Rattle.machine.specs.Fields.{between, isName, isMessage, numberOf}
-use Rattle.machine.specs.Messages.{first}
-use Rattle.machine.specs.Process.{object, carried, served, handed}
-use Rattle.machine.specs.Partition.{normalMode, process, buffer, waiters}
+use Rattle.machine.specs.Messages.{first, sent, received}
+use Rattle.machine.specs.Process.{object, carried}
+use Rattle.machine.specs.Partition.{normalMode, process, buffer, firstWaiter}
 use Rattle.machine.specs.Decisions.{checked, changed, unknown, nameTaken, creationChecks, awaiting}
 
 abbrev pub bufferNamed : Field → List Buffer → Bool
@@ -39,24 +37,18 @@ hasRoom b = ltb (b .queue .len) (b .limit)
 abbrev pub holds : Buffer → Bool
 holds b = ltb 0 (b .queue .len)
 
--- A message sent to a waiting receiver goes straight into its process record: the first of these. None: it joins the buffer's messages last.
-unfoldable pub sent : List ℕ → ℕ → ℕ → Partition → Change
-sent [] k m p = Moved k (Put m)
-sent (id ∷ l) k m p = Stored id (handed m (process id p))
-
 -- 24 SEND_BUFFER id, message, time-out. A bad message is 3 beside the time-out's 3. Its senders wait when it is full.
 unfoldable pub sendBuffer : Context → ℕ → Field → Field → Partition → Decision
 sendBuffer c k m a p =
     awaiting c ((unknown k (p .bufferCount), 3) ∷ []) (isMessage m) [] a
-    (hasRoom (buffer k p)) (changed (sent (waiters (object (Receiving k)) p) k (numberOf m) p)) (Sending k (numberOf m)) p
+    (hasRoom (buffer k p)) (changed (Moved k (sent (firstWaiter (object (Receiving k)) p) (numberOf m)))) (Sending k (numberOf m)) p
 
--- A message received is the value. A receive from a full buffer lets the first waiting sender's message in: of these senders.
-unfoldable pub received : List ℕ → ℕ → Partition → Decision
-received [] k p = Changed (Moved k Taken) Nothing (first (buffer k p .queue))
-received (id ∷ l) k p = Changed (Moved k (Exchanged (carried (process id p)))) (Stored id (served (process id p))) (first (buffer k p .queue))
+-- the first waiting sender's message is let in; a message received is the value
+abbrev pub receives : ℕ → ℕ → Partition → Decision
+receives sender k p = Changed (Moved k (received sender (carried (process sender p)))) Nothing (first (buffer k p .queue))
 
 -- 25 RECEIVE_BUFFER id, time-out. Its receivers wait when it is empty.
 unfoldable pub receiveBuffer : Context → ℕ → Field → Partition → Decision
 receiveBuffer c k a p =
     awaiting c ((unknown k (p .bufferCount), 3) ∷ []) true [] a
-    (holds (buffer k p)) (received (waiters (object (Sending k 0)) p) k p) (Receiving k) p
+    (holds (buffer k p)) (receives (firstWaiter (object (Sending k 0)) p) k p) (Receiving k) p

@@ -1,5 +1,5 @@
 -- "Left and Right" of document 01, demand 3: one claim about two whole lists of events.
-use Prim.Native.Nat.{ℕ, _-_, _≤_, _<_}
+use Prim.Native.Nat.{ℕ, _+_, _-_, _≤_, _<_}
 use mathlib.Core.Path.{_≡_}
 use mathlib.Core.Bool.{Bool, true, false, cond, not, _&&_, _||_}
 use mathlib.Core.List.{List, map}
@@ -10,8 +10,12 @@ use Rattle.machine.specs.declared.Module.{Module}
 use Rattle.machine.specs.declared.Event.{Event}
 use Rattle.machine.specs.declared.Answer.{Answer}
 use Rattle.machine.specs.declared.EventRecord.{EventRecord}
+use Rattle.machine.specs.declared.Wait.the-variants.{Source, Destination}
+use Rattle.machine.specs.Process.{object, carried}
+use Rattle.machine.specs.Partition.{process, waiters}
 use Rattle.machine.specs.Step.{step}
-use Rattle.machine.specs.Module.{current, runningIn, part, message, channel}
+use Rattle.machine.specs.Module.{current, runningIn, part, message, queue, channel}
+use Rattle.machine.specs.Channels.{queuing}
 use Rattle.machine.specs.TwoRuns.{keep, final, replies}
 
 abbrev pub next : Module → Event → Module
@@ -68,17 +72,35 @@ commonAnswers S m es = map (shown S) (keep (λ (r : EventRecord). common S (r .e
 abbrev pub Within : Table → (ℕ → Bool) → Type 0
 Within T S = (k : ℕ) → S k ≡ true → (1 ≤ k) × (k ≤ T .size)
 
--- Closed, document 01's term: each channel with its destination in S has its source in S.
+-- Closed, document 01's term: a queuing channel has both ends in S or neither; each sampling channel with its destination in S has its source in
+-- S.
 abbrev pub Closed : Table → (ℕ → Bool) → Type 0
-Closed T S = (i : ℕ) → i < T .channelCount → S (channel T i .destination) ≡ true → S (channel T i .source) ≡ true
+Closed T S =
+    (i : ℕ) → i < T .channelCount
+    → cond (queuing (channel T i))
+    (S (channel T i .source) ≡ S (channel T i .destination))
+    (S (channel T i .destination) ≡ true → S (channel T i .source) ≡ true)
+
+-- the waiters at both ends of channel number i + 1, with the messages of the senders
+abbrev pub sendersAt : ℕ → Module → List (ℕ × ℕ)
+sendersAt i m =
+    let p = part m (channel (m .table) i .source - 1) in
+    map (λ id. (id, carried (process id p))) (waiters (object (Source (i + 1) 0)) p)
+
+abbrev pub receiversAt : ℕ → Module → List ℕ
+receiversAt i m = waiters (object (Destination (i + 1))) (part m (channel (m .table) i .destination - 1))
 
 -- At the end these are equal: t, the current partition, the whole record of each partition in S, on each channel into S the message and
--- its time, or none, and the running process where the current partition is in S.
+-- its time, or none, of each queuing channel of S the queue and the waiters at both ends, and the running process where the current partition
+-- is in S.
 pub record EqualIn (T : Table) (S : ℕ → Bool) (m n : Module) : Type 0 where
   pub time : m .t ≡ n .t
   pub owner : current m ≡ current n
   pub records : (k : ℕ) → S k ≡ true → part m (k - 1) ≡ part n (k - 1)
   pub messages : (i : ℕ) → i < T .channelCount → S (channel T i .destination) ≡ true → message m i ≡ message n i
+  pub queues : (i : ℕ) → i < T .channelCount → queuing (channel T i) ≡ true → S (channel T i .destination) ≡ true → queue m i ≡ queue n i
+  pub senders : (i : ℕ) → i < T .channelCount → queuing (channel T i) ≡ true → S (channel T i .destination) ≡ true → sendersAt i m ≡ sendersAt i n
+  pub receivers : (i : ℕ) → i < T .channelCount → queuing (channel T i) ≡ true → S (channel T i .destination) ≡ true → receiversAt i m ≡ receiversAt i n
   pub process : S (current m) ≡ true → runningIn (current m) m ≡ runningIn (current n) n
 
 -- the claim for a record that both runs start from: without their free events both lists are equal; then the common answers are the

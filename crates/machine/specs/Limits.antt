@@ -43,7 +43,7 @@ modeLimit = 3
 
 -- Module::CALL
 abbrev pub callLimit : ℕ
-callLimit = 29
+callLimit = 31
 
 -- Module::DURATION
 abbrev pub durationLimit : ℕ
@@ -68,6 +68,10 @@ windowLimit = 32
 -- Module::CHANNELS
 abbrev pub channelLimit : ℕ
 channelLimit = 16
+
+-- Module::SIZE
+abbrev pub sizeLimit : ℕ
+sizeLimit = 8
 
 -- Module::NUMBER
 abbrev pub numberLimit : ℕ

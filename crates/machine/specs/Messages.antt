@@ -1,12 +1,12 @@
 -- Queues of messages, first in first out.
 use Prim.Native.Nat.{ℕ, _+_, _-_}
-use mathlib.Core.Bool.{cond}
-use mathlib.Core.List.{List, _++_}
+use mathlib.Core.Bool.{Bool, true, false, cond}
+use mathlib.Core.List.{List, [], _++_}
 use lib.ListN.{length, getD, set, take, drop, replicate}
-use lib.Dec.{ltb}
+use lib.Dec.{ltb, eqb}
 use Rattle.machine.specs.declared.Queue.{Queue}
-use Rattle.machine.specs.declared.QueueChange.{QueueChange}
-use Rattle.machine.specs.declared.QueueChange.the-variants.{Put, Taken, Exchanged}
+use Rattle.machine.specs.declared.Transfer.{Transfer}
+use Rattle.machine.specs.declared.Transfer.the-variants.{Put, HandedTo, Taken, LetIn}
 use Rattle.machine.specs.Limits.{messageLimit}
 
 -- the messages, the first to leave first
@@ -16,6 +16,9 @@ held q = take (q .len) (q .items)
 -- the queue that holds these; what lies past them is 0
 abbrev pub queueOf : List ℕ → Queue
 queueOf l = record { items = l ++ replicate (messageLimit - length l) 0; len = length l }
+
+abbrev pub noQueue : Queue
+noQueue = queueOf []
 
 -- one joins last. Bound: a full array stays as it is
 unfoldable pub put : ℕ → Queue → Queue
@@ -29,7 +32,25 @@ taken q = queueOf (drop 1 (held q))
 abbrev pub first : Queue → ℕ
 first q = getD (q .items) 0 0
 
-abbrev pub moved : QueueChange → Queue → Queue
+-- ---------------------------------------------------------------- sends and receives, of a buffer and of a queuing channel
+-- A message sent to a waiting receiver goes straight into its process record: to the first, 0 for none. None: it joins the messages last.
+unfoldable pub sent : ℕ → ℕ → Transfer
+sent receiver m = cond (eqb receiver 0) (Put m) (HandedTo receiver m)
+
+-- A receive lets the first waiting sender's message in; 0 for none.
+unfoldable pub received : ℕ → ℕ → Transfer
+received sender m = cond (eqb sender 0) Taken (LetIn sender m)
+
+-- what a transfer makes of the messages
+abbrev pub moved : Transfer → Queue → Queue
 moved (Put m) q = put m q
+moved (HandedTo id m) q = q
 moved Taken q = taken q
-moved (Exchanged m) q = put m (taken q)
+moved (LetIn id m) q = put m (taken q)
+
+-- it ends a wait
+abbrev pub endsWait : Transfer → Bool
+endsWait (Put m) = false
+endsWait (HandedTo id m) = true
+endsWait Taken = false
+endsWait (LetIn id m) = true

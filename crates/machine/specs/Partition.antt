@@ -10,19 +10,20 @@ use Rattle.machine.specs.declared.Semaphore.{Semaphore as SemaphoreT}
 use Rattle.machine.specs.declared.EventState.{EventState}
 use Rattle.machine.specs.declared.Buffer.{Buffer}
 use Rattle.machine.specs.declared.Blackboard.{Blackboard as BlackboardT}
-use Rattle.machine.specs.declared.QueueChange.{QueueChange}
+use Rattle.machine.specs.declared.Transfer.{Transfer}
+use Rattle.machine.specs.declared.Transfer.the-variants.{Put, HandedTo, Taken, LetIn}
 use Rattle.machine.specs.declared.Partition.{Partition}
 use Rattle.machine.specs.declared.Choice.{Choice}
 use Rattle.machine.specs.declared.Context.{Context}
 use Rattle.machine.specs.declared.Change.{Change}
 use Rattle.machine.specs.declared.Change.the-variants.{Nothing, Stored, Created, Last, StoredSemaphore, StoredEvent, CreatedBuffer, Moved, StoredBlackboard, Ended, Handed, Entered}
 use Rattle.machine.specs.declared.Decision.{Decision}
-use Rattle.machine.specs.declared.Decision.the-variants.{Refused, Unchanged, Ticked, Blocked, Changed, Restarted, Written}
+use Rattle.machine.specs.declared.Decision.the-variants.{Refused, Unchanged, Ticked, Blocked, Changed, Restarted, Written, Passed}
 use Rattle.machine.specs.declared.Time.{Time}
 use Rattle.machine.specs.declared.Time.the-variants.{Never, At}
 use Rattle.machine.specs.Limits.{processLimit, semaphoreLimit, eventLimit, bufferLimit, blackboardLimit, greatestTime}
 use Rattle.machine.specs.Ids.{members, idsOf, kept, appended, removed, follow}
-use Rattle.machine.specs.Messages.{queueOf, moved}
+use Rattle.machine.specs.Messages.{noQueue, moved}
 use Rattle.machine.specs.Process.{blankProcess, ready, object, onObject, ticked, served, handed, entered}
 
 -- IDLE 0, COLD_START 1, WARM_START 2, NORMAL 3
@@ -40,7 +41,7 @@ noEvent = record { name = 0; up = false }
 
 -- a buffer with nothing in it, a blackboard that shows nothing
 abbrev pub emptyBuffer : ℕ → ℕ → Buffer
-emptyBuffer name limit = record { name = name; limit = limit; queue = queueOf [] }
+emptyBuffer name limit = record { name = name; limit = limit; queue = noQueue }
 
 abbrev pub emptyBlackboard : ℕ → BlackboardT
 emptyBlackboard name = record { name = name; shown = false; message = 0 }
@@ -250,8 +251,15 @@ unfoldable pub storedBlackboard : ℕ → BlackboardT → Partition → Partitio
 storedBlackboard k b p = cond (within blackboardLimit k) (withBlackboards (replaced blackboardLimit k b (p .blackboards)) (max (p .blackboardCount) k) p) p
 
 -- a buffer whose messages moved
-abbrev pub movedIn : QueueChange → Buffer → Buffer
+abbrev pub movedIn : Transfer → Buffer → Buffer
 movedIn a b = record { name = b .name; limit = b .limit; queue = moved a (b .queue) }
+
+-- what a transfer makes of those who wait: the receiver's wait ends and it has the message, the sender's wait ends
+abbrev pub endedBy : Transfer → Partition → Partition
+endedBy (Put m) p = p
+endedBy (HandedTo id m) p = stored id (handed m (process id p)) p
+endedBy Taken p = p
+endedBy (LetIn id m) p = stored id (served (process id p)) p
 
 -- process id is created with this record, which neither is READY nor waits
 unfoldable pub created : ℕ → Process → Partition → Partition
@@ -280,6 +288,10 @@ waitsOn o p id = eqb (object (process id p .wait)) o
 
 unfoldable pub waiters : ℕ → Partition → List ℕ
 waiters o p = kept (waitsOn o p) (members (p .waiting))
+
+-- the first of them; 0 for none
+abbrev pub firstWaiter : ℕ → Partition → ℕ
+firstWaiter o p = getD (waiters o p) 0 0
 
 -- a change of these processes, one after the other
 unfoldable pub changedAll : (Process → Process) → List ℕ → Partition → Partition
@@ -311,7 +323,7 @@ applied (Last id) p = arrivedLast id p
 applied (StoredSemaphore k s) p = storedSemaphore k s p
 applied (StoredEvent k e) p = storedEvent k e p
 applied (CreatedBuffer k name limit) p = storedBuffer k (emptyBuffer name limit) p
-applied (Moved k a) p = storedBuffer k (movedIn a (buffer k p)) p
+applied (Moved k a) p = endedBy a (storedBuffer k (movedIn a (buffer k p)) p)
 applied (StoredBlackboard k b) p = storedBlackboard k b p
 applied (Ended o) p = changedAll served (waiters o p) p
 applied (Handed o m) p = changedAll (handed m) (waiters o p) p
@@ -326,6 +338,7 @@ partitionAfter (Blocked id x) p = stored id x p
 partitionAfter (Changed a b value) p = applied b (applied a p)
 partitionAfter (Restarted mode) p = nothingCreated mode
 partitionAfter (Written i x) p = p
+partitionAfter (Passed i a value) p = p
 
 -- the least of a time and a number; −1 is no bound
 abbrev pub sooner : Time → ℕ → ℕ

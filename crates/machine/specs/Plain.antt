@@ -1,11 +1,11 @@
 -- The machine with no bound. So as to be total, the definitions carry bounds: an id outside its limit names the default and stores nothing,
--- a full list or queue stays as it is, sums of times and a semaphore's value stop at the greatest, at most 8 partitions are ticked, M = 0 gives 0, and
+-- a full list or queue stays as it is, a channel is queuing between partitions 1 to 8 only, sums of times and a semaphore's value stop at the greatest, at most 8 partitions are ticked, M = 0 gives 0, and
 -- a number past the greatest time is no number. Here the same is said without them, and what it means that none of them acts at an event:
 -- `no-bound-acts` proves it of every event at every record that a run reaches. Nothing of the machine rests on it.
 use Prim.Native.Nat.{ℕ, zero, suc, _+_, _-_, _*_, _/_, _%_, _≤_, _<_}
 use mathlib.Core.Path.{_≡_}
 use mathlib.Core.Bool.{Bool, true, false, cond, _&&_}
-use mathlib.Core.List.{List, [], _∷_, _++_}
+use mathlib.Core.List.{List, [], _∷_, _++_, map}
 use mathlib.Core.Logic.{_⊎_}
 use lib.ListN.{length, getD, set, drop}
 use lib.Dec.{eqb, leb, ltb}
@@ -17,15 +17,15 @@ use Rattle.machine.specs.declared.Times.{Times}
 use Rattle.machine.specs.declared.Process.{Process}
 use Rattle.machine.specs.declared.Semaphore.{Semaphore as SemaphoreT}
 use Rattle.machine.specs.declared.EventState.{EventState}
-use Rattle.machine.specs.declared.QueueChange.{QueueChange}
-use Rattle.machine.specs.declared.QueueChange.the-variants.{Put, Taken, Exchanged}
+use Rattle.machine.specs.declared.Transfer.{Transfer}
+use Rattle.machine.specs.declared.Transfer.the-variants.{Put, HandedTo, Taken, LetIn}
 use Rattle.machine.specs.declared.Buffer.{Buffer}
 use Rattle.machine.specs.declared.Blackboard.{Blackboard as BlackboardT}
 use Rattle.machine.specs.declared.Partition.{Partition}
 use Rattle.machine.specs.declared.Change.{Change}
 use Rattle.machine.specs.declared.Change.the-variants.{Nothing, Stored, Created, Last, StoredSemaphore, StoredEvent, CreatedBuffer, Moved, StoredBlackboard, Ended, Handed, Entered}
 use Rattle.machine.specs.declared.Decision.{Decision}
-use Rattle.machine.specs.declared.Decision.the-variants.{Refused, Unchanged, Ticked, Blocked, Changed, Restarted, Written}
+use Rattle.machine.specs.declared.Decision.the-variants.{Refused, Unchanged, Ticked, Blocked, Changed, Restarted, Written, Passed}
 use Rattle.machine.specs.declared.Event.{Event as EventT}
 use Rattle.machine.specs.declared.Request.{Request}
 use Rattle.machine.specs.declared.Module.{Module}
@@ -34,16 +34,16 @@ use Rattle.machine.specs.declared.Stepped.{Stepped}
 use Rattle.machine.specs.Limits.{channelLimit, greatestTime, greatestValue}
 use Rattle.machine.specs.Fields.{field, requestOf, isNumber, between, isMinusOne, numberOf}
 use Rattle.machine.specs.Ids.{members, idsOf, kept, other}
-use Rattle.machine.specs.Messages.{held, queueOf}
-use Rattle.machine.specs.Process.{blankProcess, later, ready, onObject, served, handed, ticked, entered}
+use Rattle.machine.specs.Messages.{held, queueOf, endsWait}
+use Rattle.machine.specs.Process.{blankProcess, later, carried, ready, onObject, served, handed, ticked, entered}
 use Rattle.machine.specs.Partition.{normalMode, nothingCreated, noSemaphore, noEvent, noBuffer, noBlackboard, process, semaphore, event, buffer, blackboard, emptyBuffer, withMode, withProcesses, withSemaphores, withEvents, withBuffers, withBlackboards, waiters, noted}
 use Rattle.machine.specs.Decisions.{replyOf, unknown}
 use Rattle.machine.specs.Objects.{oneMore}
 use Rattle.machine.specs.Windows.{windows, owner, lookup, firstFlagged, releasePoint, startsFrom, firstStart, aheadOf, nextStart}
 use Rattle.machine.specs.Table.{hasFlagged}
-use Rattle.machine.specs.Module.{emptyModule, part, withPart, withMessage}
+use Rattle.machine.specs.Module.{emptyModule, channel, part, queue, withPart, withMessage, withQueue}
 use Rattle.machine.specs.Ticks.{partitionCount}
-use Rattle.machine.specs.Channels.{erasedTo}
+use Rattle.machine.specs.Channels.{queuing, otherEnd, leadsInto, erasedTo, admitted}
 use Rattle.machine.specs.Step.{decision, answerTo, step}
 use Rattle.machine.specs.Valid.{Between, plainLater}
 
@@ -105,12 +105,20 @@ unfoldable pub plainBlackboard : ℕ → BlackboardT → Partition → Partition
 plainBlackboard k b p = withBlackboards (set (p .blackboards) (k - 1) b) (countWith k (p .blackboardCount)) p
 
 -- a queue's messages after they moved
-abbrev pub plainMoved : QueueChange → List ℕ → List ℕ
+abbrev pub plainMoved : Transfer → List ℕ → List ℕ
 plainMoved (Put m) l = l ++ (m ∷ [])
+plainMoved (HandedTo id m) l = l
 plainMoved Taken l = drop 1 l
-plainMoved (Exchanged m) l = drop 1 l ++ (m ∷ [])
+plainMoved (LetIn id m) l = drop 1 l ++ (m ∷ [])
 
-abbrev pub plainMovedIn : QueueChange → Buffer → Buffer
+-- a wait that a transfer ends
+abbrev pub plainEnded : Transfer → Partition → Partition
+plainEnded (Put m) p = p
+plainEnded (HandedTo id m) p = plainStored id (handed m (plainById blankProcess id (p .processes))) p
+plainEnded Taken p = p
+plainEnded (LetIn id m) p = plainStored id (served (plainById blankProcess id (p .processes))) p
+
+abbrev pub plainMovedIn : Transfer → Buffer → Buffer
 plainMovedIn a b = record { name = b .name; limit = b .limit; queue = queueOf (plainMoved a (held (b .queue))) }
 
 -- a change of these processes, one after the other
@@ -130,11 +138,18 @@ plainApplied (Last id) p = plainLast id p
 plainApplied (StoredSemaphore k s) p = plainSemaphore k s p
 plainApplied (StoredEvent k e) p = plainEvent k e p
 plainApplied (CreatedBuffer k name limit) p = plainBuffer k (emptyBuffer name limit) p
-plainApplied (Moved k a) p = plainBuffer k (plainMovedIn a (plainById noBuffer k (p .buffers))) p
+plainApplied (Moved k a) p = plainEnded a (plainBuffer k (plainMovedIn a (plainById noBuffer k (p .buffers))) p)
 plainApplied (StoredBlackboard k b) p = plainBlackboard k b p
 plainApplied (Ended o) p = plainAll served (waiters o p) p
 plainApplied (Handed o m) p = plainAll (handed m) (waiters o p) p
 plainApplied (Entered c) p = plainEach (entered c) (withMode 3 p)
+
+-- a process whose wait ends has its place
+abbrev pub EndInPlace : Transfer → Partition → Type 0
+EndInPlace (Put m) p = Unit {0}
+EndInPlace (HandedTo id m) p = Between 1 (length (p .processes)) id
+EndInPlace Taken p = Unit {0}
+EndInPlace (LetIn id m) p = Between 1 (length (p .processes)) id
 
 -- what is stored has its place in its list
 abbrev pub InPlace : Change → Partition → Type 0
@@ -145,7 +160,7 @@ InPlace (Last id) p = Between 1 (length (p .processes)) id
 InPlace (StoredSemaphore k s) p = Between 1 (length (p .semaphores)) k
 InPlace (StoredEvent k e) p = Between 1 (length (p .events)) k
 InPlace (CreatedBuffer k name limit) p = Between 1 (length (p .buffers)) k
-InPlace (Moved k a) p = Between 1 (length (p .buffers)) k
+InPlace (Moved k a) p = Between 1 (length (p .buffers)) k × EndInPlace a p
 InPlace (StoredBlackboard k b) p = Between 1 (length (p .blackboards)) k
 InPlace (Ended o) p = Unit {0}
 InPlace (Handed o m) p = Unit {0}
@@ -161,8 +176,32 @@ plainTicked m = record {
   table = m .table;
   t = m .t + 1;
   messages = m .messages;
+  queues = m .queues;
   partitions = changedFirst (m .table .size) (λ p. noted (plainTickPartition (m .t + 1) p)) (m .partitions);
 }
+
+-- a transfer by partition k on channel number i + 1
+abbrev pub plainPassed : ℕ → ℕ → Transfer → Module → Module
+plainPassed k i a m =
+    let e = otherEnd k (channel (m .table) i) - 1 in
+    let q = withQueue i (queueOf (plainMoved a (held (queue m i)))) m in
+    cond (endsWait a) (withPart e (plainEnded a (part m e)) q) q
+
+-- channel number i + 1 emptied, and its waiting senders let in until it is full
+abbrev pub plainRefilledAt : ℕ → Module → Module
+plainRefilledAt i m =
+    let c = channel (m .table) i in
+    let p = part m (c .source - 1) in
+    let ids = admitted i c p in
+    withPart (c .source - 1) (plainAll served ids p) (withQueue i (queueOf (map (λ id. carried (plainById blankProcess id (p .processes))) ids)) m)
+
+-- the first n channels, those that are queuing and lead into partition k
+unfoldable pub plainRefilledTo : ℕ → ℕ → Module → Module
+plainRefilledTo k zero m = m
+plainRefilledTo k (suc n) m =
+    let h = plainRefilledTo k n m in
+    let c = channel (h .table) n in
+    cond (ltb 0 (c .size) && leadsInto k c) (plainRefilledAt n h) h
 
 -- what a decision of partition k leaves of the module
 abbrev pub plainAfter : Module → ℕ → Decision → Module
@@ -171,8 +210,9 @@ plainAfter m k (Unchanged value extra) = m
 plainAfter m k Ticked = plainTicked m
 plainAfter m k (Blocked id x) = withPart (k - 1) (plainStored id x (part m (k - 1))) m
 plainAfter m k (Changed a b value) = withPart (k - 1) (plainApplied b (plainApplied a (part m (k - 1)))) m
-plainAfter m k (Restarted mode) = withPart (k - 1) (nothingCreated mode) (erasedTo k channelLimit m)
+plainAfter m k (Restarted mode) = plainRefilledTo k (m .table .channelCount) (withPart (k - 1) (nothingCreated mode) (erasedTo k channelLimit m))
 plainAfter m k (Written i x) = withMessage i x m
+plainAfter m k (Passed i a value) = plainPassed k i a m
 
 -- what it stores has its place: in the partition's lists, and a message on a channel of the table
 abbrev pub AllInPlace : Module → ℕ → Decision → Type 0
@@ -181,8 +221,11 @@ AllInPlace m k (Unchanged value extra) = Unit {0}
 AllInPlace m k Ticked = (i : ℕ) → i < m .table .size → part m i .processCount ≤ length (part m i .processes)
 AllInPlace m k (Blocked id x) = InPlace (Stored id x) (part m (k - 1))
 AllInPlace m k (Changed a b value) = InPlace a (part m (k - 1)) × InPlace b (plainApplied a (part m (k - 1)))
-AllInPlace m k (Restarted mode) = Unit {0}
+AllInPlace m k (Restarted mode) = (i : ℕ) → i < m .table .channelCount → (i < length (m .queues)) × Between 1 (m .table .size) (channel (m .table) i .source)
 AllInPlace m k (Written i x) = (i < m .table .channelCount) × (i < length (m .messages))
+AllInPlace m k (Passed i a value) =
+    let e = otherEnd k (channel (m .table) i) in
+    (i < m .table .channelCount) × (i < length (m .queues)) × Between 1 (m .table .size) e × EndInPlace a (part m (e - 1))
 
 -- the decision, applied so, and the answer read off the record then
 abbrev pub plainStepped : Module → Request → Decision → Stepped
@@ -242,14 +285,16 @@ pub record PlainNumbers (p : Partition) : Type 0 where
   pub times : (id : ℕ) → Between 1 (p .processCount) id → UncappedTimes (process id p .times)
   pub values : (k : ℕ) → Between 1 (p .semaphoreCount) k → semaphore k p .value < greatestValue
 
--- M is not 0: the current partition and the next start of a window are the plain ones at every time; P is at most 8; every partition has a
--- window with flag 1, and its release point is (t div M + 1) × M + start of the first of them
+-- M is not 0: the current partition and the next start of a window are the plain ones at every time; P is at most 8, there are at most 16 channels, and a
+-- channel is queuing by its size alone; every partition has a window with flag 1, and its release point is (t div M + 1) × M + start of the first of them
 pub record PlainTable (T : Table) (t : ℕ) : Type 0 where
   pub frame : 1 ≤ T .frame
   pub current : (t : ℕ) → lookup T t .partition ≡ owner (windows T) (t % T .frame)
   pub starts : (t k : ℕ) (flagged : Bool) → let x = t % T .frame in
       nextStart T t k flagged ≡ aheadOf (T .frame) x (firstStart (startsFrom k flagged (x + 1)) (windows T)) (firstStart (startsFrom k flagged 0) (windows T))
   pub count : partitionCount T ≡ T .size
+  pub queuing : (i : ℕ) → i < T .channelCount → queuing (channel T i) ≡ ltb 0 (channel T i .size)
+  pub channels : T .channelCount ≤ channelLimit
   pub flagged : (k : ℕ) → Between 1 (T .size) k → hasFlagged k (windows T) ≡ true
   pub release : (k : ℕ) → releasePoint T t k ≡ (t / T .frame + 1) * T .frame + firstFlagged k (windows T)
 

@@ -7,7 +7,7 @@ use Rattle.machine.specs.declared.Times.{Times}
 use Rattle.machine.specs.declared.Process.{Process}
 use Rattle.machine.specs.declared.Context.{Context}
 use Rattle.machine.specs.declared.Wait.{Wait}
-use Rattle.machine.specs.declared.Wait.the-variants.{None, Normal, Delay, Timed, Period, Semaphore, Event, Sending, Receiving, Blackboard}
+use Rattle.machine.specs.declared.Wait.the-variants.{None, Normal, Delay, Timed, Period, Semaphore, Event, Sending, Receiving, Blackboard, Source, Destination}
 use Rattle.machine.specs.declared.Time.{Time}
 use Rattle.machine.specs.declared.Time.the-variants.{Never, At}
 use Rattle.machine.specs.Limits.{greatestTime}
@@ -73,6 +73,8 @@ classOf (Event k) = Class.onto 2 k 0
 classOf (Sending k m) = Class.onto 3 k m
 classOf (Receiving k) = Class.onto 4 k 0
 classOf (Blackboard k) = Class.onto 5 k 0
+classOf (Source k m) = Class.onto 6 k m
+classOf (Destination k) = Class.onto 7 k 0
 
 -- the object that a wait names, as a number; 0 for none
 abbrev pub objectIn : Class → ℕ

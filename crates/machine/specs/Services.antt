@@ -1,4 +1,4 @@
--- Calls 1 to 29 by number: for each how many of the fields a, b, c, e it uses, and what it decides.
+-- Calls 1 to 31 by number: for each how many of the fields a, b, c, e it uses, and what it decides.
 use Prim.Native.Nat.{ℕ, _-_}
 use mathlib.Core.Bool.{cond}
 use mathlib.Core.List.{List, [], _∷_}
@@ -15,7 +15,7 @@ use Rattle.machine.specs.Fields.{numberOf}
 use Rattle.machine.specs.Decisions.{checked, noCallerAs}
 use Rattle.machine.specs.Calls.{setMode, createProcess, start, stop, stopSelf, suspend, suspendSelf, timedWait, periodicWait, resume, setPriority, getStatus}
 use Rattle.machine.specs.Objects.{createSemaphore, createEvent, waitSemaphore, waitEvent, signal, setEvent, resetEvent}
-use Rattle.machine.specs.Channels.{write, read}
+use Rattle.machine.specs.Channels.{write, read, send, receive}
 use Rattle.machine.specs.Buffers.{createBuffer, sendBuffer, receiveBuffer}
 use Rattle.machine.specs.Blackboards.{createBlackboard, show, readBlackboard, clear}
 
@@ -59,6 +59,8 @@ services =
     ∷ service 2 (λ c x r p. show (numberOf (r .a)) (r .b) p)
     ∷ service 2 (λ c x r p. readBlackboard c (numberOf (r .a)) (r .b) p)
     ∷ service 1 (λ c x r p. clear (numberOf (r .a)) p)
+    ∷ service 3 (λ c x r p. send c x (r .b) (r .c) p)
+    ∷ service 2 (λ c x r p. receive c x (r .b) p)
     ∷ []
 
 -- another number, which 13 refuses before, decides nothing

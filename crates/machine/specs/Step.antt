@@ -3,9 +3,10 @@ use Prim.Native.Nat.{ℕ, _-_}
 use mathlib.Core.Bool.{Bool, true, cond, not, _&&_, _||_}
 use lib.Dec.{leb, eqb}
 use Rattle.machine.specs.declared.Module.{Module}
+use Rattle.machine.specs.declared.Partition.{Partition}
 use Rattle.machine.specs.declared.Context.{Context}
 use Rattle.machine.specs.declared.Decision.{Decision}
-use Rattle.machine.specs.declared.Decision.the-variants.{Refused, Unchanged, Ticked, Blocked, Changed, Restarted, Written}
+use Rattle.machine.specs.declared.Decision.the-variants.{Refused, Unchanged, Ticked, Blocked, Changed, Restarted, Written, Passed}
 use Rattle.machine.specs.declared.Event.{Event}
 use Rattle.machine.specs.declared.Request.{Request}
 use Rattle.machine.specs.declared.Reply.{Reply}
@@ -18,7 +19,7 @@ use Rattle.machine.specs.Decisions.{checked, replyOf}
 use Rattle.machine.specs.Windows.{releasePoint}
 use Rattle.machine.specs.Module.{part, current, runningIn, withPart, withMessage}
 use Rattle.machine.specs.Ticks.{tickModule}
-use Rattle.machine.specs.Channels.{portOf, erasedTo}
+use Rattle.machine.specs.Channels.{portOf, passed, erasedTo, refilledTo}
 use Rattle.machine.specs.Services.{called}
 use Rattle.machine.specs.Places.{ticks, firstChecks}
 
@@ -35,16 +36,21 @@ decision m r =
     Ticked
     (called (contextOf m k) (portOf m k r) (numberOf (r .call)) r (part m (k - 1))))
 
+-- partition k is p from now on, with nothing in it
+abbrev pub restarted : ℕ → Partition → Module → Module
+restarted k p m = refilledTo k channelLimit (withPart (k - 1) p (erasedTo k channelLimit m))
+
 -- what a decision of partition k leaves of the module: a refusal and what changes nothing leave it same. Modes 0, 1, 2: messages on channels
--- into the partition erased.
+-- into the partition erased, and queues into it filled anew.
 abbrev pub moduleAfter : Module → ℕ → Decision → Module
 moduleAfter m k (Refused code) = m
 moduleAfter m k (Unchanged value extra) = m
 moduleAfter m k Ticked = tickModule m
 moduleAfter m k (Blocked id x) = withPart (k - 1) (partitionAfter (Blocked id x) (part m (k - 1))) m
 moduleAfter m k (Changed a b value) = withPart (k - 1) (partitionAfter (Changed a b value) (part m (k - 1))) m
-moduleAfter m k (Restarted mode) = withPart (k - 1) (partitionAfter (Restarted mode) (part m (k - 1))) (erasedTo k channelLimit m)
+moduleAfter m k (Restarted mode) = restarted k (partitionAfter (Restarted mode) (part m (k - 1))) m
 moduleAfter m k (Written i x) = withMessage i x m
+moduleAfter m k (Passed i a value) = passed k i a m
 
 -- The last reads 0 where the event's partition is neither 0 nor current, whichever code it gets.
 abbrev pub sees : Request → ℕ → Bool

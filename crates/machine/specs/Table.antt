@@ -12,7 +12,7 @@ use Rattle.machine.specs.declared.Reading.{Reading}
 use Rattle.machine.specs.declared.Row.{Row}
 use Rattle.machine.specs.declared.Line.{Line}
 use Rattle.machine.specs.declared.Line.the-variants.{Six, Bad}
-use Rattle.machine.specs.Limits.{frameLimit, partitionLimit, windowLimit, channelLimit, durationLimit}
+use Rattle.machine.specs.Limits.{frameLimit, partitionLimit, windowLimit, channelLimit, sizeLimit, durationLimit}
 use Rattle.machine.specs.Fields.{rowOf, isNumber, between, numberOf}
 use Rattle.machine.specs.Windows.{noWindow, windows, flaggedFor}
 use Rattle.machine.specs.Module.{noChannel, freshModule, emptyModule}
@@ -74,18 +74,19 @@ withWindow d r = record {
   channels = d .channels;
 }
 
--- Channel: source, other destination (both 1..P), refresh 1..9,999,999, three 0.
+-- Channel: source, other destination (both 1..P), refresh 1..9,999,999, then a kind in its fourth field: 0 sampling, 1 queuing with 1..8 messages
+-- in the fifth (0 for sampling), 0.
 abbrev pub channelGood : Draft → Row → Bool
 channelGood d r =
     between 1 (d .table .size) (r .f1)
     && (between 1 (d .table .size) (r .f2)
     && (not (eqb (numberOf (r .f1)) (numberOf (r .f2)))
     && (between 1 durationLimit (r .f3)
-    && (isNumber 0 (r .f4)
-    && lastTwoZero r))))
+    && (cond (isNumber 1 (r .f4)) (between 1 sizeLimit (r .f5)) (isNumber 0 (r .f4) && isNumber 0 (r .f5))
+    && isNumber 0 (r .f6)))))
 
 abbrev pub channelOf : Row → Channel
-channelOf r = record { source = numberOf (r .f1); destination = numberOf (r .f2); refresh = numberOf (r .f3) }
+channelOf r = record { source = numberOf (r .f1); destination = numberOf (r .f2); refresh = numberOf (r .f3); size = numberOf (r .f5) }
 
 abbrev pub withChannel : Draft → Row → Draft
 withChannel d r = record {

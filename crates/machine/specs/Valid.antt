@@ -18,8 +18,8 @@ use Rattle.machine.specs.declared.Process.{Process}
 use Rattle.machine.specs.declared.Semaphore.{Semaphore as SemaphoreT}
 use Rattle.machine.specs.declared.EventState.{EventState}
 use Rattle.machine.specs.declared.Queue.{Queue}
-use Rattle.machine.specs.declared.QueueChange.{QueueChange}
-use Rattle.machine.specs.declared.QueueChange.the-variants.{Put, Taken, Exchanged}
+use Rattle.machine.specs.declared.Transfer.{Transfer}
+use Rattle.machine.specs.declared.Transfer.the-variants.{Put, HandedTo, Taken, LetIn}
 use Rattle.machine.specs.declared.Buffer.{Buffer}
 use Rattle.machine.specs.declared.Blackboard.{Blackboard as BlackboardT}
 use Rattle.machine.specs.declared.Partition.{Partition}
@@ -27,7 +27,7 @@ use Rattle.machine.specs.declared.Context.{Context}
 use Rattle.machine.specs.declared.Change.{Change}
 use Rattle.machine.specs.declared.Change.the-variants.{Nothing, Stored, Created, Last, StoredSemaphore, StoredEvent, CreatedBuffer, Moved, StoredBlackboard, Ended, Handed, Entered}
 use Rattle.machine.specs.declared.Decision.{Decision}
-use Rattle.machine.specs.declared.Decision.the-variants.{Refused, Unchanged, Ticked, Blocked, Changed, Restarted, Written}
+use Rattle.machine.specs.declared.Decision.the-variants.{Refused, Unchanged, Ticked, Blocked, Changed, Restarted, Written, Passed}
 use Rattle.machine.specs.declared.Reply.{Reply}
 use Rattle.machine.specs.declared.Window.{Window}
 use Rattle.machine.specs.declared.Channel.{Channel}
@@ -36,14 +36,14 @@ use Rattle.machine.specs.declared.Message.{Message}
 use Rattle.machine.specs.declared.Module.{Module}
 use Rattle.machine.specs.declared.Event.{Event as EventT}
 use Rattle.machine.specs.declared.Answer.{Answer}
-use Rattle.machine.specs.Limits.{processLimit, semaphoreLimit, eventLimit, bufferLimit, messageLimit, blackboardLimit, nameLimit, priorityLimit, valueLimit, modeLimit, durationLimit, timeLimit, frameLimit, partitionLimit, windowLimit, channelLimit, numberLimit}
+use Rattle.machine.specs.Limits.{processLimit, semaphoreLimit, eventLimit, bufferLimit, messageLimit, blackboardLimit, nameLimit, priorityLimit, valueLimit, modeLimit, durationLimit, timeLimit, frameLimit, partitionLimit, windowLimit, channelLimit, sizeLimit, numberLimit}
 use Rattle.machine.specs.Ids.{members, idsOf}
 use Rattle.machine.specs.Messages.{held, queueOf}
 use Rattle.machine.specs.Process.{Class, classOf, blankProcess, createdProcess, isNever, periodic, ready, onObject}
 use Rattle.machine.specs.Partition.{normalMode, byId, noSemaphore, noEvent, noBuffer, noBlackboard, process, buffer, emptyBuffer, running, tickPartition, applied, soonestOf}
 use Rattle.machine.specs.Table.{hasFlagged, readTable}
 use Rattle.machine.specs.Windows.{windows}
-use Rattle.machine.specs.Module.{channel, part, message, withPart, withTime, emptyModule}
+use Rattle.machine.specs.Module.{channel, part, message, queue, withPart, withTime, emptyModule}
 use Rattle.machine.specs.Places.{noCaller}
 use Rattle.machine.specs.Step.{step}
 
@@ -284,9 +284,9 @@ pub record Objects (s : List SemaphoreT) (n : ℕ) (e : List EventState) (n′ :
 abbrev pub ObjectsIn : Partition → Type 0
 ObjectsIn p = Objects (p .semaphores) (p .semaphoreCount) (p .events) (p .eventCount) (p .buffers) (p .bufferCount) (p .blackboards) (p .blackboardCount)
 
--- how many objects of a kind there are, by the kinds of classOf
+-- how many objects of a kind there are, by the kinds of classOf; as many ends of channels as a table can have
 abbrev pub counted : ℕ → ℕ → ℕ → ℕ → ℕ → ℕ
-counted s e b w kind = cond (eqb kind 1) s (cond (eqb kind 2) e (cond (eqb kind 3) b (cond (eqb kind 4) b (cond (eqb kind 5) w 0))))
+counted s e b w kind = cond (eqb kind 1) s (cond (eqb kind 2) e (cond (eqb kind 3) b (cond (eqb kind 4) b (cond (eqb kind 5) w (cond (eqb kind 6) channelLimit (cond (eqb kind 7) channelLimit 0))))))
 
 abbrev pub settingOf : ℕ → ℕ → Partition → Setting
 settingOf frame t p = setting frame t (normalMode p) (counted (p .semaphoreCount) (p .eventCount) (p .bufferCount) (p .blackboardCount))
@@ -322,11 +322,19 @@ pub record SoundCreated (frame : ℕ) (p : Partition) (id : ℕ) (x : Process) :
 abbrev pub KnownOrNext : ℕ → ℕ → ℕ → Type 0
 KnownOrNext limit count k = Between 1 (count + 1) k × (k ≤ limit)
 
--- messages of a buffer that may move so: one joins where there is room, the first leaves where there is one
-abbrev pub SoundMove : Buffer → QueueChange → Type 0
-SoundMove b (Put m) = (b .queue .len < b .limit) × (m ≤ durationLimit)
-SoundMove b Taken = 1 ≤ b .queue .len
-SoundMove b (Exchanged m) = (1 ≤ b .queue .len) × (m ≤ durationLimit)
+-- messages that may move so: one joins where there is room, the first leaves where there is one
+abbrev pub SoundMove : ℕ → Queue → Transfer → Type 0
+SoundMove limit q (Put m) = (q .len < limit) × (m ≤ durationLimit)
+SoundMove limit q (HandedTo id m) = m ≤ durationLimit
+SoundMove limit q Taken = 1 ≤ q .len
+SoundMove limit q (LetIn id m) = (1 ≤ q .len) × (m ≤ durationLimit)
+
+-- a process whose wait may end: it has been created, and waits on an object
+abbrev pub SoundEnd : Partition → Transfer → Type 0
+SoundEnd p (Put m) = Unit {0}
+SoundEnd p (HandedTo id m) = Between 1 (p .processCount) id × (onObject (process id p) ≡ true)
+SoundEnd p Taken = Unit {0}
+SoundEnd p (LetIn id m) = Between 1 (p .processCount) id × (onObject (process id p) ≡ true)
 
 -- a change that keeps a valid partition valid
 abbrev pub SoundChange : Context → Partition → Change → Type 0
@@ -337,7 +345,7 @@ SoundChange c p (Last id) = ready (process id p) ≡ true
 SoundChange c p (StoredSemaphore k s) = KnownOrNext semaphoreLimit (p .semaphoreCount) k × SoundSemaphore s
 SoundChange c p (StoredEvent k e) = KnownOrNext eventLimit (p .eventCount) k × SoundEvent e
 SoundChange c p (CreatedBuffer k name limit) = KnownOrNext bufferLimit (p .bufferCount) k × SoundBuffer (emptyBuffer name limit)
-SoundChange c p (Moved k a) = Between 1 (p .bufferCount) k × SoundMove (buffer k p) a
+SoundChange c p (Moved k a) = Between 1 (p .bufferCount) k × SoundMove (buffer k p .limit) (buffer k p .queue) a × SoundEnd p a
 SoundChange c p (StoredBlackboard k b) = KnownOrNext blackboardLimit (p .blackboardCount) k × SoundBlackboard b
 SoundChange c p (Ended o) = Unit {0}
 SoundChange c p (Handed o m) = m ≤ durationLimit
@@ -356,6 +364,7 @@ SoundDecision c p (Blocked id x) = SoundChange c p (Stored id x)
 SoundDecision c p (Changed a b value) = SoundChange c p a × SoundChange c (applied a p) b × (value ≤ numberLimit)
 SoundDecision c p (Restarted mode) = mode ≤ modeLimit
 SoundDecision c p (Written i x) = SoundMessage (c .time) x
+SoundDecision c p (Passed i a value) = value ≤ numberLimit
 
 -- the running process id: READY, every member of the arrival list before it of smaller current priority, every one after it of none greater
 pub record Runs (p : Partition) (id : ℕ) : Type 0 where
@@ -383,6 +392,7 @@ pub record SoundChannel (size : ℕ) (c : Channel) : Type 0 where
   pub destination : Between 1 size (c .destination)
   pub apart : c .source ≡ c .destination → ⊥
   pub refresh : Between 1 durationLimit (c .refresh)
+  pub room : c .size ≤ sizeLimit
 
 pub record SoundTable (T : Table) : Type 0 where
   pub frame : Between 1 frameLimit (T .frame)
@@ -404,10 +414,12 @@ pub record SoundModule (m : Module) : Type 0 where
   pub table : SoundTable (m .table)
   pub partitionsSize : length (m .partitions) ≡ partitionLimit
   pub messagesSize : length (m .messages) ≡ channelLimit
+  pub queuesSize : length (m .queues) ≡ channelLimit
   pub time : m .t ≤ timeLimit
   pub eachPartition : (i : ℕ) → i < m .table .size → Valid (m .table .frame) (m .t) (part m i)
   pub noted : (i : ℕ) → i < m .table .size → Noted (part m i)
   pub eachMessage : (i : ℕ) → SoundMessage (m .t) (message m i)
+  pub eachQueue : (i : ℕ) → SoundQueue (channel (m .table) i .size) (queue m i)
 
 -- the record of a refused table, or one with a sound table
 abbrev pub ValidModule : Module → Type 0

@@ -1,5 +1,6 @@
 // The record of the executive, by value, and every limit, named once with the module.
 ghost use mathlib.Core.Path.{_≡_};
+ghost use Rattle.machine.specs.Messages.{noQueue};
 ghost use Rattle.machine.specs.Process.{blankProcess};
 ghost use Rattle.machine.specs.Partition.{noBuffer, freshPartition, emptyPartition};
 ghost use Rattle.machine.specs.Module.{emptyTable, freshModule, emptyModule};
@@ -10,7 +11,8 @@ pub enum Time {
     At(u32),
 }
 
-// What a process waits for, with the id of the object. Sending and Receiving are on a buffer; a sender's message is kept with its wait.
+// What a process waits for, with the id of the object. Sending and Receiving are on a buffer, Source and Destination at that end of a queuing
+// channel; a sender's message is kept with its wait.
 pub enum Wait {
     None,
     Normal,
@@ -22,6 +24,8 @@ pub enum Wait {
     Sending(u8, u32),
     Receiving(u8),
     Blackboard(u8),
+    Source(u8, u32),
+    Destination(u8),
 }
 
 // What CREATE_PROCESS gives; it never changes.
@@ -115,10 +119,12 @@ pub struct Window {
     pub flag: bool,
 }
 
+// size: how many messages a queuing channel holds at most; 0 for a sampling one.
 pub struct Channel {
     pub source: u8,
     pub destination: u8,
     pub refresh: u32,
+    pub size: u8,
 }
 
 // What reading a table gives; no event changes it. frame: M; size: P.
@@ -131,7 +137,7 @@ pub struct Table {
     pub channelCount: u8,
 }
 
-// What a channel holds.
+// What a sampling channel holds.
 pub struct Message {
     pub present: bool,
     pub value: u32,
@@ -142,6 +148,7 @@ pub struct Module {
     pub table: Table,
     pub t: u32,
     pub messages: [Message; Module::CHANNELS],
+    pub queues: [Queue; Module::CHANNELS],
     pub partitions: [Partition; Module::PARTITIONS],
 }
 
@@ -233,21 +240,33 @@ pub struct Context {
     pub caller: u8,
 }
 
-// What a call sees of the channel that field a names: its place, whether there is such a channel, its ends and refresh; the message
-// is seen at its destination alone.
+// What a call sees of a queuing channel: how many messages it holds, and the first; the first process that waits at the other end, 0 for
+// none, and the message that is kept with its wait.
+pub struct Traffic {
+    pub len: u8,
+    pub first: u32,
+    pub waiter: u8,
+    pub carried: u32,
+}
+
+// What a call sees of the channel that field a names: its place, whether there is such a channel, its ends, refresh and size; the message
+// of a sampling channel is seen at its destination alone, the traffic of a queuing one at both ends.
 pub struct Port {
     pub own: u32,
     pub place: u32,
     pub exists: bool,
     pub channel: Channel,
     pub message: Message,
+    pub traffic: Traffic,
 }
 
-// What happens to the messages of a queue: one joins last, the first leaves, or the first leaves and then one joins last.
-pub enum QueueChange {
+// What a send or a receive does to a queue of messages and to those who wait for it: the message joins last; it is handed over to this waiting
+// receiver; the first leaves; the first leaves, and the message of this waiting sender is let in.
+pub enum Transfer {
     Put(u32),
+    HandedTo(u8, u32),
     Taken,
-    Exchanged(u32),
+    LetIn(u8, u32),
 }
 
 // One change of a partition's record. An object with the next id is created by storing it; a buffer, which holds an array, by its name and
@@ -260,7 +279,7 @@ pub enum Change {
     StoredSemaphore(u32, Semaphore),
     StoredEvent(u32, EventState),
     CreatedBuffer(u32, u16, u8),
-    Moved(u32, QueueChange),
+    Moved(u32, Transfer),
     StoredBlackboard(u32, Blackboard),
     Ended(u16),
     Handed(u16, u32),
@@ -268,7 +287,8 @@ pub enum Change {
 }
 
 // What an event decides: the code of a refusal; code 0 with value and extra; a tick, code 0; code 7 with the caller's record, in which
-// it waits; code 0 with two changes in order and a value; a mode 0, 1 or 2, code 0; a message on the channel at this place, code 0.
+// it waits; code 0 with two changes in order and a value; a mode 0, 1 or 2, code 0; a message on the sampling channel at this place, code 0; a
+// transfer on the queuing channel at this place, code 0 with a value.
 pub enum Decision {
     Refused(u8),
     Unchanged(u32, Time),
@@ -277,6 +297,7 @@ pub enum Decision {
     Changed(Change, Change, u32),
     Restarted(u8),
     Written(u32, Message),
+    Passed(u32, Transfer, u32),
 }
 
 pub struct Stepped {
@@ -333,7 +354,7 @@ impl Module {
     // Modes are 0 to this.
     pub const MODE: u32 = 3;
     // Calls are 1 to this.
-    pub const CALL: u32 = 29;
+    pub const CALL: u32 = 31;
     // D: 0 to this.
     pub const DURATION: u32 = 9999999;
     // Time ends here.
@@ -346,6 +367,8 @@ impl Module {
     pub const WINDOWS: usize = 32;
 
     pub const CHANNELS: usize = 16;
+    // A queuing channel's size is 1 to this.
+    pub const SIZE: u32 = 8;
     // The greatest number of a line.
     pub const NUMBER: i64 = 999999999;
     // The bytes of a line.
@@ -359,6 +382,7 @@ impl Module {
         ensures { λ r. ⌜ r ≡ freshModule table ⌝ }
     {
         let p = Partition::fresh();
+        let q = Queue::empty();
         Module {
             table,
             t: 0,
@@ -367,6 +391,7 @@ impl Module {
                 value: 0,
                 written: 0,
             }; Module::CHANNELS],
+            queues: [q; Module::CHANNELS],
             partitions: [p; Module::PARTITIONS],
         }
     }
@@ -377,6 +402,7 @@ impl Module {
     {
         let t = Table::empty();
         let p = Partition::empty();
+        let q = Queue::empty();
         Module {
             table: t,
             t: 0,
@@ -385,6 +411,7 @@ impl Module {
                 value: 0,
                 written: 0,
             }; Module::CHANNELS],
+            queues: [q; Module::CHANNELS],
             partitions: [p; Module::PARTITIONS],
         }
     }
@@ -408,6 +435,7 @@ impl Table {
                 source: 0,
                 destination: 0,
                 refresh: 0,
+                size: 0,
             }; Module::CHANNELS],
             channelCount: 0,
         }
@@ -442,17 +470,26 @@ impl Process {
     }
 }
 
+impl Queue {
+    pub fn empty() -> Queue
+        ensures { λ r. ⌜ r ≡ noQueue ⌝ }
+    {
+        Queue {
+            items: [0; Module::MESSAGES],
+            len: 0,
+        }
+    }
+}
+
 impl Buffer {
     pub fn blank() -> Buffer
         ensures { λ r. ⌜ r ≡ noBuffer ⌝ }
     {
+        let queue = Queue::empty();
         Buffer {
             name: 0,
             limit: 0,
-            queue: Queue {
-                items: [0; Module::MESSAGES],
-                len: 0,
-            },
+            queue,
         }
     }
 }

@@ -4,7 +4,7 @@ use Rattle.machine.proofs.Module.empty.Tie as tie
 
 returns : tie.Need-returns
 unfolding emptyModule
-returns c = rw (c .empty2 .ensures, c .before .empty .ensures)
+returns c = rw (c .before .empty2 .ensures, c .before .before .empty .ensures, c .empty3 .ensures)
 
 pub empty-spec : {M : Type 1} → statement M
-empty-spec = tie.close (tie.spec (λ _ _. tt) (λ _ _. tt) returns)
+empty-spec = tie.close (tie.spec (λ _ _. tt) (λ _ _. tt) (λ _ _. tt) returns)

@@ -4,7 +4,7 @@ use Rattle.machine.proofs.Module.fresh.Tie as tie
 
 returns : tie.Need-returns
 unfolding freshModule
-returns c = rw (c .fresh .ensures)
+returns c = rw (c .before .fresh .ensures, c .empty .ensures)
 
 pub fresh-spec : {M : Type 1} → statement M
-fresh-spec = tie.close (tie.spec (λ _ _. tt) returns)
+fresh-spec = tie.close (tie.spec (λ _ _. tt) (λ _ _. tt) returns)

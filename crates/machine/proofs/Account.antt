@@ -12,14 +12,14 @@ use lib.IntN.{ℤ, pos, negsuc}
 use borrow.Author.Tests.{eq-eqb, ne-eqb, eqb-true, leb-true, ltb-true, ltb-false, leb-false, not-false}
 use Rattle.machine.specs.declared.Process.{Process}
 use Rattle.machine.specs.declared.Buffer.{Buffer}
-use Rattle.machine.specs.declared.QueueChange.{QueueChange}
-use Rattle.machine.specs.declared.QueueChange.the-variants.{Put, Taken, Exchanged}
+use Rattle.machine.specs.declared.Transfer.{Transfer}
+use Rattle.machine.specs.declared.Transfer.the-variants.{Put, HandedTo, Taken, LetIn}
 use Rattle.machine.specs.declared.Change.the-variants.{Moved}
 use Rattle.machine.specs.declared.Partition.{Partition}
 use Rattle.machine.specs.declared.Event.{Event as EventT}
 use Rattle.machine.specs.declared.Module.{Module}
 use Rattle.machine.specs.declared.Decision.{Decision}
-use Rattle.machine.specs.declared.Decision.the-variants.{Refused, Unchanged, Ticked, Blocked, Changed, Restarted, Written}
+use Rattle.machine.specs.declared.Decision.the-variants.{Refused, Unchanged, Ticked, Blocked, Changed, Restarted, Written, Passed as PassedOn}
 use Rattle.machine.specs.declared.Time.{Time}
 use Rattle.machine.specs.declared.Time.the-variants.{At}
 use Rattle.machine.specs.declared.Wait.{Wait}
@@ -27,7 +27,7 @@ use Rattle.machine.specs.declared.Wait.the-variants.{Sending, Receiving}
 use Rattle.machine.specs.declared.Request.{Request}
 use Rattle.machine.specs.declared.Port.{Port}
 use Rattle.machine.specs.declared.Context.{Context}
-use Rattle.machine.specs.Channels.{portOf}
+use Rattle.machine.specs.Channels.{otherQueue, portOf, passed}
 use Rattle.machine.specs.Services.{services, callDecision}
 use Rattle.machine.specs.Table.{readTable}
 use Rattle.machine.specs.declared.Stepped.{Stepped}
@@ -37,13 +37,14 @@ use Rattle.machine.specs.declared.Field.the-variants.{Number, MinusOne, 
 use Rattle.machine.specs.Limits.{callLimit, durationLimit, bufferLimit}
 use Rattle.machine.specs.Ids.{kept, keptIf}
 use Rattle.machine.specs.Fields.{field, requestOf, isNumber, between, isMessage, numberOf, timeOf}
-use Rattle.machine.specs.Messages.{held, first}
+use Rattle.machine.specs.Messages.{held, first, sent, received, moved, endsWait}
 use Rattle.machine.specs.Process.{classOf, carriedIn, carried, object, served, handed, waitingFor, later}
-use Rattle.machine.specs.Partition.{noBuffer, process, buffer, emptyBuffer, storedBuffer, normalMode, running, waitsOn, waiters, stored, applied, nothingCreated, tickPartition, noted}
+use Rattle.machine.specs.Partition.{noBuffer, process, buffer, emptyBuffer, storedBuffer, movedIn, endedBy, normalMode, running, waitsOn, waiters, stored, applied, nothingCreated, tickPartition, noted}
 use Rattle.machine.specs.LeftRight.{next, after, isTick, isZero}
 use Rattle.machine.specs.Decisions.{replyOf, changed, blocked, queued, awaiting}
-use Rattle.machine.specs.Buffers.{createBuffer, hasRoom, holds, sent, sendBuffer, received, receiveBuffer}
-use Rattle.machine.specs.Module.{noPartition, emptyModule, part, withPart, withMessage, withTime}
+use Rattle.machine.specs.Buffers.{createBuffer, hasRoom, holds, sendBuffer, receiveBuffer}
+use Rattle.machine.specs.Buffers as Bu
+use Rattle.machine.specs.Module.{noPartition, emptyModule, channel, part, withPart, withMessage, withTime}
 use Rattle.machine.specs.Ticks.{tickModule}
 use Rattle.machine.specs.Places.{malformed, oneZero, ticks}
 use Rattle.machine.specs.Step.{contextOf, decision, moduleAfter, step}
@@ -63,15 +64,15 @@ use Rattle.machine.proofs.Available.{part-none, unknown-unwaited, none-
 use Rattle.machine.proofs.Tracking.{contains-kept, kept-same, kept-kept, kept-all, kept-no}
 use Rattle.machine.proofs.Queues.{Part, part-whole, part-waits, part-trans, queue-of, same-queue, tick-part, change-part, stored-part, buffer-queue, joins-last, first-created, others-apart, first-served, Orderly, call-order}
 use Rattle.machine.proofs.Dispatch.{placeCode, Calls, by-event}
-use Rattle.machine.proofs.Bodies.{Bodily, bodyRefusal}
+use Rattle.machine.proofs.Bodies.{OnQueue, Bodily, bodyRefusal}
 use Rattle.machine.proofs.Kept.{Caller, tick-valid, change-valid, normal-caller, in-normal, waiters-exact}
 use Rattle.machine.proofs.Keeping.{stored-listed, stored-rest, process-stored, process-other}
 use Rattle.machine.proofs.Refusals.{call-in-range}
 use Rattle.machine.proofs.Plain.{lossless, empty-refused}
 use Rattle.machine.proofs.Answers.{decided-table}
 use Rattle.machine.proofs.Calling.{field-number, number-is, number-of}
-use Rattle.machine.proofs.Reached.{plain-part, tick-module-plain, place, context-sound, made, made-sound, made-body, reached-valid, valid-sound}
-use Rattle.machine.proofs.Senders.{Stays, stays-same, tick-stays, changed-stays, blocked-stays, Calm, call-calm, on-queue}
+use Rattle.machine.proofs.Reached.{on-queue, plain-part, tick-module-plain, place, context-sound, made, made-sound, made-body, port-sound, reached-valid, valid-sound}
+use Rattle.machine.proofs.Senders.{OfSenders, Leaves, leaves-same, passed-leaves, restart-leaves, Stays, stays-same, tick-stays, changed-stays, blocked-stays, Calm, call-calm, on-queue as waits-there}
 
 -- ---------------------------------------------------------------- lists
 map-same : (f g : ℕ → ℕ) (l : List ℕ) → ((x : ℕ) → contains x l ≡ true → f x ≡ g x) → map f l ≡ map g l
@@ -105,6 +106,9 @@ unfolding kept
 none-kept f g l e = rw e
 
 -- ---------------------------------------------------------------- one event
+of-buffers : OfSenders 3
+of-buffers = record { low = omega arith; receivers = λ z. omega arith; readers = λ z. omega arith; ends = λ z. omega arith }
+
 module _ (k j : ℕ) where
   abbrev o : ℕ
   o = queueNumber 3 j
@@ -155,21 +159,25 @@ module _ (k j : ℕ) where
       quiet more code value h s r = record { is = rw (s, r, h, append-nil (surviving q), survive-same); count = more }
 
     -- what stays of a buffer and its senders, where nothing is sent and nothing received
-    module _ (low : j ≤ 8) where
+    module _ (low : j ≤ 16) where
       some : o ≡ 0 → ⊥
       some z = omega arith
 
-      stays-quiet : (q : Module) (n : ℕ) → Stays j low n (own m k) (own q k) → ListedIn (own q k) → Part queue (waiters o (own q k)) → (n ≡ 5 → givesUp k e ≡ true)
+      stays-quiet : (q : Module) (n : ℕ) → Stays 3 j of-buffers low n (own m k) (own q k) → ListedIn (own q k) → Part queue (waiters o (own q k)) → (n ≡ 5 → givesUp k e ≡ true)
           → (code value : ℕ) → sentBy q code ≡ [] → receivedBy q code value ≡ [] → Even q code value
       stays-quiet q n s v a ends code value =
           quiet q (part-waits o (own q k) (queue-of (own q k) v o some) queue a)
           (λ id c h. ap (λ (w : Wait). carriedIn (classOf w)) (s .waits id .0 (eqb-true _ o h)))
-          (λ id c h. ⊎-elim (λ (z : object (process id (own q k) .wait) ≡ o). not-both _ (eq-eqb _ o z) h) ends (s .waits id .1 (on-queue (own m k) o id c)))
-          (s .count) code value (ap (λ (b : Buffer). held (b .queue)) (s .same))
+          (λ id c h. ⊎-elim (λ (z : object (process id (own q k) .wait) ≡ o). not-both _ (eq-eqb _ o z) h) ends (s .waits id .1 (waits-there (own m k) o id c)))
+          (s .count) code value (ap (λ (b : Buffer). held (b .queue)) (s .same refl))
+
+      -- a record in which the buffer and its senders are left
+      leaves-even : (q : Module) → Leaves 3 j of-buffers low (own m k) (own q k) → (code value : ℕ) → sentBy q code ≡ [] → receivedBy q code value ≡ [] → Even q code value
+      leaves-even q h = stays-quiet q 0 (h .stays) (h .lists) (h .part) (λ z. absurd (omega arith))
 
       -- a record in which the partition is as it was
       left-even : (q : Module) → own q k ≡ own m k → ListedIn (own m k) → (code value : ℕ) → sentBy q code ≡ [] → receivedBy q code value ≡ [] → Even q code value
-      left-even q is v = stays-quiet q 0 (rw is (stays-same j low 0 (own m k))) (rw is v) (rw is (part-whole queue)) (λ z. absurd (omega arith))
+      left-even q is v = stays-quiet q 0 (rw is (stays-same 3 j of-buffers low 0 (own m k))) (rw is v) (rw is (part-whole queue)) (λ z. absurd (omega arith))
 
     -- a code other than 0 and 7
     refused-sent : (q : Module) (code : ℕ) → eqb code 0 ≡ false → eqb code 7 ≡ false → sentBy q code ≡ []
@@ -245,12 +253,22 @@ message-is z h = go (field z) refl h
     go MinusOne e h = not-both _ h refl
     go Other e h = not-both _ h refl
 
+-- those at the ends of a channel do not wait for a buffer
+other-queue : (m : Module) → SoundModule m → (e : EventT) (c : Calls m (requestOf e)) → let r = requestOf e in
+    let i = numberOf (r .partition) in
+    (a : ℕ) (y : Transfer) (v : ℕ) → OnQueue (portOf m i r) (numberOf (r .call)) a y v → (j : ℕ) → j ≤ 16 → otherQueue i a (channel (m .table) a) ≡ queueNumber 3 j → ⊥
+other-queue m s e c a y v b j low =
+    let r = requestOf e in
+    let i = numberOf (r .partition) in
+    let there = on-queue m s r c a y v b .there in
+    by-test (λ (o : ℕ). o ≡ queueNumber 3 j → ⊥) (eqb (channel (m .table) a .source) i) (λ _ z. omega (arith, there, s .table .channelCount)) (λ _ z. omega (arith, there, s .table .channelCount))
+
 -- ---------------------------------------------------------------- an event that leaves the buffer
 module _ (k j : ℕ) (m : Module) (s : SoundModule m) (e : EventT) (es : List EventT) (some : 1 ≤ k) (inside : k - 1 < m .table .size) (known : Between 1 (own m k .bufferCount) j) where
   valid : Valid (m .table .frame) (m .t) (own m k)
   valid = s .eachPartition (k - 1) inside
 
-  low : j ≤ 8
+  low : j ≤ 16
   low = omega (arith, known .1, valid .objects .buffers .numbered .few)
 
   -- refused before its body
@@ -268,7 +286,7 @@ module _ (k j : ℕ) (m : Module) (s : SoundModule m) (e : EventT) (es : List Ev
       let q = tickPartition (m .t + 1) p in
       let long : m .table .size ≤ length (m .partitions) = omega (arith, s .partitionsSize, s .table .size .1) in
       let is : own (tickModule m) k ≡ noted q = rw (tick-module-plain m (inr s)) (plain-part (m .table .size) (withTime (m .t + 1) m) long (k - 1) inside) in
-      let st = tick-stays j low (m .t + 1) p (valid .lists) in
+      let st = tick-stays 3 j of-buffers low (m .t + 1) p (valid .lists) in
       let v = tick-valid (m .table .frame) (m .t) p valid .lists in
       let zero : e .partition ≡ pos 0 = is-zero (e .partition) (and-left (isZero (e .partition)) _ t) in
       let no-send : isSend k j e ≡ false = rw (zero, ne-eqb 0 k (λ z. omega arith)) in
@@ -286,24 +304,28 @@ module _ (k j : ℕ) (m : Module) (s : SoundModule m) (e : EventT) (es : List Ev
     abbrev i : ℕ
     i = numberOf (requestOf e .partition)
 
+    same-leaves : Leaves 3 j of-buffers low (own m k) (own m k)
+    same-leaves = leaves-same 3 j of-buffers low (own m k) (valid .lists)
+
     other-own : (p : Partition) → getD (set (m .partitions) (i - 1) (noted p)) (k - 1) noPartition ≡ own m k
     other-own p = let f = c .some in getD-set-other (m .partitions) (i - 1) (k - 1) (noted p) noPartition (λ z. ne (omega arith))
 
-    other-left : (x : Port) (n : ℕ) (d : Decision) → Bodily x n d → own (moduleAfter m i d) k ≡ own m k
-    other-left x n (Refused a) b = refl
-    other-left x n (Unchanged a y) b = refl
-    other-left x n Ticked b = absurd b
-    other-left x n (Blocked id y) b = other-own (stored id y (part m (i - 1)))
-    other-left x n (Changed a y v) b = other-own (applied y (applied a (part m (i - 1))))
-    other-left x n (Restarted mode) b = other-own (nothingCreated mode)
-    other-left x n (Written a y) b = refl
+    other-leaves : (d : Decision) → SoundDecision (contextOf m i) (part m (i - 1)) d → Bodily (portOf m i (requestOf e)) (numberOf (requestOf e .call)) d → Leaves 3 j of-buffers low (own m k) (own (moduleAfter m i d) k)
+    other-leaves (Refused a) h b = same-leaves
+    other-leaves (Unchanged a y) h b = same-leaves
+    other-leaves Ticked h b = absurd b
+    other-leaves (Blocked id y) h b = rw (other-own (stored id y (part m (i - 1)))) same-leaves
+    other-leaves (Changed a y v) h b = rw (other-own (applied y (applied a (part m (i - 1))))) same-leaves
+    other-leaves (Restarted mode) h b = restart-leaves 3 j of-buffers low m s (requestOf e) c k inside mode h ne some (λ _ _ z. omega (arith, low))
+    other-leaves (Written a y) h b = same-leaves
+    other-leaves (PassedOn a y v) h b = passed-leaves 3 j of-buffers low m s (requestOf e) c k inside a y v b (other-queue m s e c a y v b j low)
 
-    other-even : (x : Port) (n : ℕ) (d : Decision) → Bodily x n d → Even k j m e es (moduleAfter m i d) (replyOf d .code) (replyOf d .value)
-    other-even x n d b =
+    other-even : (d : Decision) → SoundDecision (contextOf m i) (part m (i - 1)) d → Bodily (portOf m i (requestOf e)) (numberOf (requestOf e .call)) d → Even k j m e es (moduleAfter m i d) (replyOf d .code) (replyOf d .value)
+    other-even d h b =
         let is = number-of (e .partition) (c .some) in
         let no-send : isSend k j e ≡ false = rw (is, ne-eqb i k ne) in
         let no-receive : isReceive k j e ≡ false = rw (is, ne-eqb i k ne) in
-        left-even k j m e es low (moduleAfter m i d) (other-left x n d b) (valid .lists) (replyOf d .code) (replyOf d .value) (no-sent k j m e es (moduleAfter m i d) (replyOf d .code) no-send) (no-received k j m e es (moduleAfter m i d) (replyOf d .code) (replyOf d .value) no-send no-receive)
+        leaves-even k j m e es low (moduleAfter m i d) (other-leaves d h b) (replyOf d .code) (replyOf d .value) (no-sent k j m e es (moduleAfter m i d) (replyOf d .code) no-send) (no-received k j m e es (moduleAfter m i d) (replyOf d .code) (replyOf d .value) no-send no-receive)
 
 -- ---------------------------------------------------------------- a call of the buffer's partition
 module _ (j : ℕ) (m : Module) (s : SoundModule m) (e : EventT) (es : List EventT) (c : Calls m (requestOf e)) where
@@ -344,7 +366,7 @@ module _ (j : ℕ) (m : Module) (s : SoundModule m) (e : EventT) (es : List Even
   put q = getD-set-same (m .partitions) (k - 1) (noted q) noPartition (omega (arith, here, s .partitionsSize, s .table .size .1))
 
   module _ (known : Between 1 (p .bufferCount) j) (none : NoneWaits p) where
-    few : j ≤ 8
+    few : j ≤ 16
     few = omega (arith, known .1, own-valid .objects .buffers .numbered .few)
 
     abbrev senders : ℕ
@@ -357,7 +379,7 @@ module _ (j : ℕ) (m : Module) (s : SoundModule m) (e : EventT) (es : List Even
       is : Even k j m e es (moduleAfter m k d) (replyOf d .code) (replyOf d .value)
 
     -- the partition has the record q then
-    stored-even : (q : Partition) (x : ℕ) → Stays j few x p q → ListedIn q → Part (waiters senders p) (waiters senders q) → (x ≡ 5 → givesUp k e ≡ true)
+    stored-even : (q : Partition) (x : ℕ) → Stays 3 j of-buffers few x p q → ListedIn q → Part (waiters senders p) (waiters senders q) → (x ≡ 5 → givesUp k e ≡ true)
         → (code value : ℕ) → sentBy k j m e es (withPart (k - 1) q m) code ≡ [] → receivedBy k j m e es (withPart (k - 1) q m) code value ≡ [] → Even k j m e es (withPart (k - 1) q m) code value
     stored-even q x st v a =
         stays-quiet k j m e es few (withPart (k - 1) q m) x (rw (put q) (record { same = st .same; count = st .count; waits = st .waits })) (rw (put q) v)
@@ -368,20 +390,20 @@ module _ (j : ℕ) (m : Module) (s : SoundModule m) (e : EventT) (es : List Even
     waits-even id x q ne =
         let v = own-valid .lists in
         let same : waiters senders (stored id x p) ≡ waiters senders p = joins-last senders is-some p v id (q .created) x (q .isReady) ∙ rw (ne-eqb (object (x .wait)) senders ne) (append-nil (waiters senders p)) in
-        stored-even (stored id x p) 0 (blocked-stays j few 0 p v id (q .created) x (q .isReady) ne) (stored-listed p id x v (q .created)) (rw same (part-whole (waiters senders p))) (λ z. absurd (omega arith))
+        stored-even (stored id x p) 0 (blocked-stays 3 j of-buffers few 0 p v id (q .created) x (q .isReady) ne) (stored-listed p id x v (q .created)) (rw same (part-whole (waiters senders p))) (λ z. absurd (omega arith))
 
     caller-in : normalMode p ≡ true → Caller (running p) p
     caller-in h = normal-caller ctx p own-valid sound-ctx h
 
     -- what leaves the buffer
-    calm-even : (d : Decision) → SoundDecision ctx p d → Bodily (portOf m k r) n d → Orderly ctx p d → Calm j few n (r .a) p d → erases k m e ≡ false → codeAt m e ≡ replyOf d .code
+    calm-even : (d : Decision) → SoundDecision ctx p d → Bodily (portOf m k r) n d → Orderly ctx p d → Calm 3 j of-buffers few n (r .a) p d → erases k m e ≡ false → codeAt m e ≡ replyOf d .code
         → isSend k j e ≡ false → isReceive k j e ≡ false → Even k j m e es (moduleAfter m k d) (replyOf d .code) (replyOf d .value)
     calm-even d h b g f lasts is no-send no-receive = go d h b g f is (λ q code. no-sent k j m e es q code no-send) (λ q code value. no-received k j m e es q code value no-send no-receive)
       where
         five : n ≡ 5 → givesUp k e ≡ true
         five z = rw (is-call 5, eq-eqb n 5 z) (or-true (isTick e))
 
-        go : (d : Decision) → SoundDecision ctx p d → Bodily (portOf m k r) n d → Orderly ctx p d → Calm j few n (r .a) p d → codeAt m e ≡ replyOf d .code
+        go : (d : Decision) → SoundDecision ctx p d → Bodily (portOf m k r) n d → Orderly ctx p d → Calm 3 j of-buffers few n (r .a) p d → codeAt m e ≡ replyOf d .code
             → ((q : Module) (code : ℕ) → sentBy k j m e es q code ≡ []) → ((q : Module) (code value : ℕ) → receivedBy k j m e es q code value ≡ []) → Even k j m e es (moduleAfter m k d) (replyOf d .code) (replyOf d .value)
         go (Refused a) h b g f is sn rc = left-even k j m e es few m refl (own-valid .lists) a 0 (sn m a) (rc m a 0)
         go (Unchanged a y) h b g f is sn rc = left-even k j m e es few m refl (own-valid .lists) 0 a (sn m 0) (rc m 0 a)
@@ -390,11 +412,12 @@ module _ (j : ℕ) (m : Module) (s : SoundModule m) (e : EventT) (es : List Even
         go (Changed x y v) h b g f is sn rc =
             let w = change-valid ctx sound-ctx p own-valid x (h .0) in
             let q = applied y (applied x p) in
-            stored-even q n (changed-stays j few n ctx sound-ctx p own-valid x y (h .0) (h .1) (f .0) (f .1)) (change-valid ctx sound-ctx (applied x p) w y (h .1) .lists)
+            stored-even q n (changed-stays 3 j of-buffers few n ctx sound-ctx p own-valid x y (h .0) (h .1) (f .0) (f .1)) (change-valid ctx sound-ctx (applied x p) w y (h .1) .lists)
             (part-trans (change-part senders is-some ctx p own-valid x (h .0) (g .0)) (change-part senders is-some ctx (applied x p) w y (h .1) (g .1)))
             five 0 v (sn (withPart (k - 1) q m) 0) (rc (withPart (k - 1) q m) 0 v)
         go (Restarted mode) h b g f is sn rc = not-both _ (rw (is-call 1, eq-eqb n 1 (f .0), ← lossless (e .a) .between 0 2 (omega arith), f .1, is)) lasts
         go (Written a y) h b g f is sn rc = left-even k j m e es few (withMessage a y m) refl (own-valid .lists) 0 0 (sn (withMessage a y m) 0) (rc (withMessage a y m) 0 0)
+        go (PassedOn a y v) h b g f is sn rc = leaves-even k j m e es few (passed k a y m) (passed-leaves 3 j of-buffers few m s r c k here a y v b (other-queue m s e c a y v b j few)) 0 v (sn (passed k a y m) 0) (rc (passed k a y m) 0 v)
 
     -- ------------------------------------------------------------ the buffer's messages and queues
     abbrev now : Buffer
@@ -406,17 +429,17 @@ module _ (j : ℕ) (m : Module) (s : SoundModule m) (e : EventT) (es : List Even
     abbrev size : length messages ≡ now .queue .len
     size = Mo.size (m .table .frame) (m .t) p own-valid j known
 
-    -- the record after the buffer's messages moved
-    abbrev moving : QueueChange → Partition
-    moving a = applied (Moved j a) p
+    -- the record after the buffer's messages moved, and then a wait ended
+    abbrev moving : Transfer → Partition
+    moving a = storedBuffer j (movedIn a now) p
 
-    moving-held : (a : QueueChange) → SoundMove now a → held (buffer j (moving a) .queue) ≡ plainMoved a messages
+    moving-held : (a : Transfer) → SoundMove (now .limit) (now .queue) a → held (buffer j (moving a) .queue) ≡ plainMoved a messages
     moving-held a = Mo.moving-held (m .table .frame) (m .t) p own-valid j known a
 
-    moving-queue : (a : QueueChange) → waiters senders (moving a) ≡ waiters senders p
+    moving-queue : (a : Transfer) → waiters senders (moving a) ≡ waiters senders p
     moving-queue a = Mo.moving-queue (m .table .frame) (m .t) p own-valid j known a senders is-some
 
-    moving-count : (a : QueueChange) → p .bufferCount ≤ moving a .bufferCount
+    moving-count : (a : Transfer) → p .bufferCount ≤ moving a .bufferCount
     moving-count a = Mo.moving-count (m .table .frame) (m .t) p own-valid j known a
 
     -- nobody waits to send: nothing survives
@@ -480,7 +503,7 @@ module _ (j : ℕ) (m : Module) (s : SoundModule m) (e : EventT) (es : List Even
             ∙ ap (λ (z : Process). z .message ∷ []) (process-stored p id (handed x (process id p)) (own-valid .lists) receiver-created)
 
       -- to a buffer with room
-      sent-even : (l : List ℕ) → waiters (queueNumber 4 j) p ≡ l → hasRoom now ≡ true → x ≤ durationLimit → EvenAfter (changed (sent l j x p))
+      sent-even : (l : List ℕ) → waiters (queueNumber 4 j) p ≡ l → hasRoom now ≡ true → x ≤ durationLimit → EvenAfter (changed (Moved j (sent (getD l 0 0) x)))
       unfolding sent
       sent-even [] h room ok =
           let q = moving (Put x) in
@@ -501,17 +524,18 @@ module _ (j : ℕ) (m : Module) (s : SoundModule m) (e : EventT) (es : List Even
           let q = stored id y p in
           let free = none 3 j room in
           let b = receiver-created id l h in
+          let same = Mo.handed-same (m .table .frame) (m .t) p own-valid j known id x in
           let empty : now .queue .len ≡ 0 = either (holds now) (λ t. absurd (cons-not id l (sym h ∙ none 4 j t))) (λ t. omega (arith, ltb-false 0 (now .queue .len) t)) in
           let nothing : messages ≡ [] = empty-of messages (size ∙ empty) in
           record {
-            is = even-of k j m e es (withPart (k - 1) q m) (count-after q (stored-count p id y (omega arith))) 0 0 [] [] (x ∷ []) (x ∷ []) [] []
+            is = rw (ne-eqb id 0 (λ z. omega (arith, b .0)), same) (even-of k j m e es (withPart (k - 1) q m) (count-after q (stored-count p id y (omega arith))) 0 0 [] [] (x ∷ []) (x ∷ []) [] []
                 nothing
                 (none-survive q free)
                 (sent-zero (withPart (k - 1) q m))
                 (rw (from, to, put q, h) (handed-one id l h))
                 (held-after q [] (ap (λ (z : Partition). held (buffer j z .queue)) (stored-rest p id y) ∙ nothing))
                 (none-left q (part-none _ _ free (stored-part senders is-some p v id b y (inl refl))))
-                refl;
+                refl);
           }
 
       -- to a full one
@@ -529,10 +553,10 @@ module _ (j : ℕ) (m : Module) (s : SoundModule m) (e : EventT) (es : List Even
         listed = own-valid .lists
 
         apart : (y : ℕ) → contains y (waiters senders p) ≡ true → y ≡ id → ⊥
-        apart y g z = is-some (sym (on-queue p senders y g) ∙ rw z (ready-off (process id p) (q .isReady)))
+        apart y g z = is-some (sym (waits-there p senders y g) ∙ rw z (ready-off (process id p) (q .isReady)))
 
         still : (y : ℕ) → contains y (waiters senders p) ≡ true → waitsOn senders joined y ≡ true
-        still y g = rw (process-other p id waiter y (apart y g)) (eq-eqb _ senders (on-queue p senders y g))
+        still y g = rw (process-other p id waiter y (apart y g)) (eq-eqb _ senders (waits-there p senders y g))
 
         queue-after : waiters senders joined ≡ waiters senders p ++ (id ∷ [])
         queue-after = joins-last senders is-some p listed id (q .created) waiter (q .isReady) ∙ rw (eq-eqb senders senders refl)
@@ -593,11 +617,11 @@ module _ (j : ℕ) (m : Module) (s : SoundModule m) (e : EventT) (es : List Even
         abbrev sender : Process
         sender = process id p
 
-        abbrev a : QueueChange
-        a = Exchanged (carried sender)
+        abbrev a : Transfer
+        a = LetIn id (carried sender)
 
         abbrev let-in : Partition
-        let-in = stored id (served sender) (moving a)
+        let-in = stored id (served (process id (moving a))) (moving a)
 
         abbrev served-module : Module
         served-module = withPart (k - 1) let-in m
@@ -615,17 +639,17 @@ module _ (j : ℕ) (m : Module) (s : SoundModule m) (e : EventT) (es : List Even
         moving-created = Mo.moving-created (m .table .frame) (m .t) p own-valid j known a id sender-created
 
         queue-is : waiters senders let-in ≡ l
-        queue-is = ap (λ (y : Process). waiters senders (stored id (served y) (moving a))) (sym (moving-process id)) ∙ first-served senders is-some (moving a) moving-listed id l (moving-queue a ∙ h)
+        queue-is = first-served senders is-some (moving a) moving-listed id l (moving-queue a ∙ h)
 
         gone : waitsOn senders let-in id ≡ false
-        gone = rw (process-stored (moving a) id (served sender) moving-listed moving-created) (ne-eqb 0 senders (λ z. is-some (sym z)))
+        gone = rw (process-stored (moving a) id (served (process id (moving a))) moving-listed moving-created) (ne-eqb 0 senders (λ z. is-some (sym z)))
 
         same-process : (y : ℕ) → contains y l ≡ true → process y let-in ≡ process y p
-        same-process y g = process-other (moving a) id (served sender) y (others-apart senders is-some p (own-valid .lists) id l h y g) ∙ moving-process y
+        same-process y g = process-other (moving a) id (served (process id (moving a))) y (others-apart senders is-some p (own-valid .lists) id l h y g) ∙ moving-process y
 
         wait-on : (y : ℕ) → contains y l ≡ true → waitsOn senders let-in y ≡ true
         unfolding contains
-        wait-on y g = rw (same-process y g) (eq-eqb _ senders (on-queue p senders y (rw (h, g) (or-true (eqb id y)))))
+        wait-on y g = rw (same-process y g) (eq-eqb _ senders (waits-there p senders y (rw (h, g) (or-true (eqb id y)))))
 
         abbrev others : List ℕ
         others = map (λ y. carried (process y let-in)) (kept (λ y. not (givenUp k j y served-module es)) l)
@@ -645,16 +669,16 @@ module _ (j : ℕ) (m : Module) (s : SoundModule m) (e : EventT) (es : List Even
         let-in-even some =
             let small = carried-sound _ sender (own-valid .eachProcess id sender-created) in
             let rest = drop 1 messages in
-            even-of k j m e es served-module (count-after let-in (stored-count (moving a) id (served sender) (moving-count a))) 0 value (value ∷ rest) (carried sender ∷ others) [] (value ∷ []) (rest ++ (carried sender ∷ [])) others
+            even-of k j m e es served-module (count-after let-in (stored-count (moving a) id (served (process id (moving a))) (moving-count a))) 0 value (value ∷ rest) (carried sender ∷ others) [] (value ∷ []) (rest ++ (carried sender ∷ [])) others
             (value-first some)
             survive-others
             (no-sent k j m e es served-module 0 to)
             (received-zero served-module)
-            (held-after let-in _ (Mo.moving-stored (m .table .frame) (m .t) p own-valid j known a id (served sender) (ltb-true 0 _ some, small)))
+            (held-after let-in _ (Mo.moving-stored (m .table .frame) (m .t) p own-valid j known a id (served (process id (moving a))) (ltb-true 0 _ some, small)))
             left-others
             (ap (λ b. value ∷ b) (ap (λ b. rest ++ b) (append-nil (carried sender ∷ others)) ∙ sym (append-assoc rest (carried sender ∷ []) others)))
 
-      received-even : (l : List ℕ) → waiters senders p ≡ l → holds now ≡ true → EvenAfter (received l j p)
+      received-even : (l : List ℕ) → waiters senders p ≡ l → holds now ≡ true → EvenAfter (Bu.receives (getD l 0 0) j p)
       unfolding received
       received-even [] h some =
           let q = moving Taken in
@@ -668,7 +692,7 @@ module _ (j : ℕ) (m : Module) (s : SoundModule m) (e : EventT) (es : List Even
                 (none-left q (moving-queue Taken ∙ h))
                 refl;
           }
-      received-even (id ∷ l) h some = record { is = let-in-even id l h some }
+      received-even (id ∷ l) h some = record { is = rw (ne-eqb id 0 (λ z. let b = sender-created id l h in omega (arith, b .0))) (let-in-even id l h some) }
 
       receive-even : EvenAfter (receiveBuffer ctx j (r .b) p)
       unfolding receiveBuffer awaiting queued blocked Passed
@@ -713,7 +737,7 @@ module _ (j : ℕ) (m : Module) (s : SoundModule m) (e : EventT) (es : List Even
         rw d (receive-even (no-call 24 not-send) from on .is))
         (λ (not-receive : n ≡ 25 → numberOf (r .a) ≡ j → ⊥).
         calm-even (made m s r c) (made-sound m s r c) (made-body m s r c) (call-order ctx p (portOf m k r) n r .is)
-        (call-calm j few n (r .a) ctx p own-valid sound-ctx (known .1) (portOf m k r) r refl not-send not-receive .is)
+        (call-calm 3 j of-buffers few n (r .a) ctx p own-valid sound-ctx (λ _ z. omega (arith, known .1)) (portOf m k r) (port-sound m s r c .placed) r refl (λ _. not-send) (λ _. not-receive) (λ z. absurd (omega arith)) .is)
         lasts code (no-call 24 not-send) (no-call 25 not-receive))
         (both n 25 (numberOf (r .a)) j))
         (both n 24 (numberOf (r .a)) j)
@@ -729,7 +753,7 @@ module _ (k j : ℕ) (m : Module) (s : SoundModule m) (e : EventT) (es : List Ev
       (λ f t _ _. tick-even k j m s e es some inside known (tick-is (m .table) e f t))
       (λ c is. ⊎-elim
       (λ (h : numberOf (r .partition) ≡ k). rw (← h) (calls-even j m s e es c (rw (← h) at known) (rw (← h) at none) (rw (← h) at lasts) is))
-      (λ (ne : numberOf (r .partition) ≡ k → ⊥). other-even k j m s e es some inside known c ne (portOf m (numberOf (r .partition)) r) (numberOf (r .call)) (made m s r c) (made-body m s r c))
+      (λ (ne : numberOf (r .partition) ≡ k → ⊥). other-even k j m s e es some inside known c ne (made m s r c) (made-sound m s r c) (made-body m s r c))
       (same-or-not (numberOf (r .partition)) k))
       refl
 

@@ -12,11 +12,12 @@ use Rattle.machine.specs.declared.Port.{Port}
 use Rattle.machine.specs.declared.Request.{Request}
 use Rattle.machine.specs.declared.Reply.{Reply}
 use Rattle.machine.specs.declared.Decision.{Decision}
-use Rattle.machine.specs.declared.Decision.the-variants.{Refused, Unchanged, Ticked, Blocked, Changed, Restarted, Written}
+use Rattle.machine.specs.declared.Decision.the-variants.{Refused, Unchanged, Ticked, Blocked, Changed, Restarted, Written, Passed}
 use Rattle.machine.specs.declared.Table.{Table}
 use Rattle.machine.specs.declared.Module.{Module}
 use Rattle.machine.specs.declared.Event.{Event as EventT}
-use Rattle.machine.specs.Limits.{processLimit}
+use Rattle.machine.specs.Limits.{processLimit, channelLimit}
+use Rattle.machine.specs.Messages.{endsWait}
 use Rattle.machine.specs.Fields.{requestOf, numberOf}
 use Rattle.machine.specs.Partition.{running}
 use Rattle.machine.specs.Decisions.{coded, checked, replyOf}
@@ -31,7 +32,7 @@ use Rattle.machine.proofs.Dispatch.{by-event, by-decision}
 use Rattle.machine.proofs.Bodies.{Bodily}
 use Rattle.machine.proofs.Bounds.{either}
 use Rattle.machine.proofs.Kept.{running-caller}
-use Rattle.machine.proofs.Reached.{current-known, made, made-sound, made-body, decided-sound, reached-valid}
+use Rattle.machine.proofs.Reached.{current-known, refilled-table, made, made-sound, made-body, decided-sound, reached-valid}
 
 -- ---------------------------------------------------------------- the table stays
 tick-table : (n : ℕ) (m : Module) → tickTo n m .table ≡ m .table
@@ -42,7 +43,8 @@ tick-table (suc n) m = by-test (λ (q : Module). q .table ≡ m .table) (dueAt n
 pub decided-table : (m : Module) (k : ℕ) (d : Decision) → moduleAfter m k d .table ≡ m .table
 decided-table m k d = by-decision m k d (λ (q : Module). q .table ≡ m .table) refl
     (tick-table (partitionCount (m .table)) (withTime (m .t + 1) m)) refl
-    refl (λ i x e. refl)
+    (refilled-table k channelLimit _) (λ i x e. refl)
+    (λ i a v e. by-test (λ (q : Module). q .table ≡ m .table) (endsWait a) (λ _. refl) (λ _. refl))
 
 pub step-table : (m : Module) (e : EventT) → step m e .state .table ≡ m .table
 unfolding step
@@ -61,6 +63,7 @@ reply-range c x n p (Blocked id y) h b = coded-range 7 (omega arith)
 reply-range c x n p (Changed a y v) h b = record { code = omega arith; value = h .2; extra = omega arith }
 reply-range c x n p (Restarted mode) h b = coded-range 0 (omega arith)
 reply-range c x n p (Written i y) h b = coded-range 0 (omega arith)
+reply-range c x n p (Passed i a v) h b = record { code = omega arith; value = h; extra = omega arith }
 
 decided-range : (m : Module) → SoundModule m → (r : Request) → ReplyInRange (replyOf (decision m r))
 decided-range m s r =

@@ -5,9 +5,9 @@ use mathlib.Core.Bool.{Bool, true, false, cond, not}
 use mathlib.Core.List.{List, [], _∷_}
 use mathlib.Core.Logic.{_⊎_, inl, inr, ⊎-elim}
 use native.Mathlib.Omega.{arith}
-use lib.ListN.{length, getD, set, getD-replicate}
+use lib.ListN.{length, getD, set, take, getD-replicate}
 use lib.Dec.{eqb, ltb}
-use borrow.Author.Tests.{eq-eqb, ne-eqb, eqb-true, eqb-false, ltb-true, leb-false, not-false}
+use borrow.Author.Tests.{eq-eqb, ne-eqb, eqb-true, eqb-false, ltb-true, ltb-false, leb-false, not-false}
 use Rattle.machine.specs.declared.Process.{Process}
 use Rattle.machine.specs.declared.Partition.{Partition}
 use Rattle.machine.specs.declared.Context.{Context}
@@ -16,50 +16,51 @@ use Rattle.machine.specs.declared.Semaphore.{Semaphore as SemaphoreT}
 use Rattle.machine.specs.declared.EventState.{EventState}
 use Rattle.machine.specs.declared.Buffer.{Buffer}
 use Rattle.machine.specs.declared.Blackboard.{Blackboard as BlackboardT}
-use Rattle.machine.specs.declared.QueueChange.{QueueChange}
-use Rattle.machine.specs.declared.QueueChange.the-variants.{Put, Taken, Exchanged}
+use Rattle.machine.specs.declared.Transfer.{Transfer}
+use Rattle.machine.specs.declared.Transfer.the-variants.{Put, HandedTo, Taken, LetIn}
 use Rattle.machine.specs.declared.Change.{Change}
 use Rattle.machine.specs.declared.Change.the-variants.{Nothing, Stored, Created, Last, StoredSemaphore, StoredEvent, CreatedBuffer, Moved, StoredBlackboard, Ended, Handed, Entered}
 use Rattle.machine.specs.declared.Decision.{Decision}
-use Rattle.machine.specs.declared.Decision.the-variants.{Refused, Unchanged, Ticked, Blocked, Changed, Restarted, Written}
+use Rattle.machine.specs.declared.Decision.the-variants.{Refused, Unchanged, Ticked, Blocked, Changed, Restarted, Written, Passed as PassedOn}
 use Rattle.machine.specs.declared.Wait.{Wait}
-use Rattle.machine.specs.declared.Wait.the-variants.{Timed, Semaphore, Event, Sending, Receiving, Blackboard}
+use Rattle.machine.specs.declared.Wait.the-variants.{Timed, Semaphore, Event, Sending, Receiving, Blackboard, Source, Destination}
 use Rattle.machine.specs.declared.Time.the-variants.{At}
 use Rattle.machine.specs.declared.Field.{Field}
 use Rattle.machine.specs.declared.Request.{Request}
 use Rattle.machine.specs.declared.Module.{Module}
-use Rattle.machine.specs.Limits.{processLimit, semaphoreLimit, eventLimit, bufferLimit, blackboardLimit, durationLimit, partitionLimit}
-use Rattle.machine.specs.Messages.{held}
+use Rattle.machine.specs.Limits.{processLimit, semaphoreLimit, eventLimit, bufferLimit, blackboardLimit, durationLimit, partitionLimit, channelLimit}
+use Rattle.machine.specs.Messages.{sent, received, moved, endsWait}
 use Rattle.machine.specs.Process.{Class, classOf, objectIn, object, later, carried, ready, served, handed, withCurrent, suspendedUntil, nextRelease, waitingFor, entered, ticked}
-use Rattle.machine.specs.Partition.{within, byId, noSemaphore, noEvent, noBuffer, noBlackboard, process, event, buffer, blackboard, normalMode, movedIn, withMode, stored, storedSemaphore, storedEvent, storedBuffer, storedBlackboard, created, arrivedLast, waiters, changedAll, each, enteredNormal, tickPartition, applied, nothingCreated, noted, freshPartition}
+use Rattle.machine.specs.Partition.{within, byId, noSemaphore, noEvent, noBuffer, noBlackboard, process, event, buffer, blackboard, normalMode, movedIn, endedBy, firstWaiter, withMode, stored, storedSemaphore, storedEvent, storedBuffer, storedBlackboard, created, arrivedLast, waiters, changedAll, each, enteredNormal, tickPartition, applied, nothingCreated, noted, freshPartition}
 use Rattle.machine.specs.Fields.{isNumber, isMessage, numberOf, timeOf, requestOf}
 use Rattle.machine.specs.Decisions.{checked, changed, blocked, unknown, startMode, queued, awaiting}
 use Rattle.machine.specs.Calls.{setMode, createProcess, start, stop, stopSelf, suspend, suspendSelf, timedWait, periodicWait, resume, setPriority, getStatus}
 use Rattle.machine.specs.Objects.{withUp, createSemaphore, waitSemaphore, signalled, signal, createEvent, setEvent, resetEvent, waitEvent}
-use Rattle.machine.specs.Buffers.{createBuffer, hasRoom, holds, sent, sendBuffer, received, receiveBuffer}
+use Rattle.machine.specs.Buffers.{createBuffer, hasRoom, holds, sendBuffer, receiveBuffer}
 use Rattle.machine.specs.Blackboards.{createBlackboard, show, showing, readBlackboard, clear}
-use Rattle.machine.specs.Channels.{portOf, channelChecks, write, read}
+use Rattle.machine.specs.Channels.{queuing, otherEnd, portOf, channelChecks, write, read, send, receive, erasedTo}
 use Rattle.machine.specs.Services.{callDecision}
 use Rattle.machine.specs.Ids.{kept}
 use Rattle.machine.specs.declared.Table.{Table}
 use Rattle.machine.specs.Table.{readTable}
-use Rattle.machine.specs.Module.{noPartition, emptyTable, emptyModule, freshModule, part, withTime}
+use Rattle.machine.specs.Module.{noPartition, emptyTable, emptyModule, freshModule, channel, part, withPart, withTime}
 use Rattle.machine.specs.Step.{contextOf, decision, moduleAfter, step}
-use Rattle.machine.specs.Valid.{Between, contains, KnownWait, SoundBuffer, ListedIn, settingOf, Valid, SoundContext, SoundDecision, SoundModule, Reached, plainTick}
+use Rattle.machine.specs.Valid.{Between, contains, KnownWait, SoundBuffer, SoundMove, SoundEnd, ListedIn, settingOf, Valid, SoundContext, SoundDecision, SoundModule, Reached, plainTick}
 use Rattle.machine.specs.Queues.{available, queueNumber, NoneWaits, SameObjects}
 use Rattle.machine.proofs.Tests.{by-test, by-checks, Passed, not-both, and-left}
 use Rattle.machine.proofs.Bounds.{either, same-or-not, or-false-parts, known-id, within-in, within-out, named-out, named-same, named-other, semaphore-in, semaphore-out, event-in, event-out, buffer-in, buffer-out, blackboard-in, blackboard-out}
-use Rattle.machine.proofs.Messages.{exchanged-length}
+use Rattle.machine.proofs.Messages.{let-in-length}
 use Rattle.machine.proofs.Fields.{in-limits}
 use Rattle.machine.proofs.Keeping.{AllCreated, stored-listed, stored-rest, changed-rest, each-rest}
-use Rattle.machine.proofs.Sound.{ready-off, carried-sound}
+use Rattle.machine.proofs.Sound.{ready-off}
 use Rattle.machine.proofs.Dispatch.{by-call, Calls, by-event}
 use Rattle.machine.proofs.Bodies.{Bodily}
-use Rattle.machine.proofs.Kept.{Caller, waiters-created, waiters-exact, change-valid, normal-caller, in-normal}
-use Rattle.machine.proofs.Reached.{at-set, plain-part, tick-module-plain, place, context-sound, made, made-sound, made-body, valid-sound, reached-valid}
+use Rattle.machine.proofs.Applied.{Placed}
+use Rattle.machine.proofs.Kept.{Caller, waiters-created, waiters-exact, firsts-created, nothing-valid, change-valid, normal-caller, in-normal, sent-sound, received-sound, end-same}
+use Rattle.machine.proofs.Reached.{at-set, plain-part, tick-module-plain, place, context-sound, made, made-sound, made-body, port-sound, valid-sound, reached-valid, part-sound, erased-sound, refilled-keeps, on-queue, transfer-sound}
 use Rattle.machine.proofs.Answers.{decided-table}
 use Rattle.machine.proofs.Tables.{table-read}
-use Rattle.machine.proofs.Queues.{rest-objects, same-objects, Part, part-trans, same-queue, tick-part, change-part, joins-last, Orderly, call-order, semaphore-queue, buffer-queue, ended-queue}
+use Rattle.machine.proofs.Queues.{rest-objects, same-objects, Part, part-trans, same-queue, all-part, tick-part, ended-part, change-part, joins-last, Orderly, call-order, semaphore-queue, buffer-queue, ended-queue}
 
 -- ---------------------------------------------------------------- objects that stay
 along-objects : (p q r : Partition) → SameObjects p q → SameObjects q r → SameObjects p r
@@ -102,6 +103,13 @@ objects-stay (Entered c) h p v = along-objects p (withMode 3 p) _ (record { sema
 
 pub available-same : (p q : Partition) → SameObjects p q → (kind k : ℕ) → available kind k q ≡ available kind k p
 available-same p q s kind k = rw (s .semaphores, s .events, s .buffers, s .blackboards)
+
+-- the wait that a transfer ends
+ended-objects : (a : Transfer) (p : Partition) → SameObjects p (endedBy a p)
+ended-objects (Put m) p = same-objects p
+ended-objects (HandedTo id m) p = rest-objects p _ (stored-rest p id (handed m (process id p)))
+ended-objects Taken p = same-objects p
+ended-objects (LetIn id m) p = rest-objects p _ (stored-rest p id (served (process id p)))
 
 -- ---------------------------------------------------------------- one object stored
 -- a test that holds of object k after object j has been stored held before, or it is that one
@@ -171,25 +179,27 @@ past-limit limit d l k f none h = either (within limit k)
     (λ e. within-out limit k e .1)
     (λ e. not-both _ (rw (named-out limit k d l e) at h) none)
 
-pub available-low : (kind k : ℕ) (p : Partition) → available kind k p ≡ true → (1 ≤ kind) × (k ≤ 8)
+pub available-low : (kind k : ℕ) (p : Partition) → available kind k p ≡ true → (1 ≤ kind) × (k ≤ 8) × (kind ≤ 5)
 available-low kind k p h =
-    either (eqb kind 1) (λ w. let is = eqb-true kind 1 w in (omega arith, past-limit semaphoreLimit noSemaphore (p .semaphores) k (λ (x : SemaphoreT). ltb 0 (x .value)) refl (rw is at h))) λ w1.
-    either (eqb kind 2) (λ w. let is = eqb-true kind 2 w in (omega arith, past-limit eventLimit noEvent (p .events) k (λ (x : EventState). x .up) refl (rw is at h))) λ w2.
-    either (eqb kind 3) (λ w. let is = eqb-true kind 3 w in (omega arith, past-limit bufferLimit noBuffer (p .buffers) k hasRoom refl (rw is at h))) λ w3.
-    either (eqb kind 4) (λ w. let is = eqb-true kind 4 w in (omega arith, past-limit bufferLimit noBuffer (p .buffers) k holds refl (rw is at h))) λ w4.
-    either (eqb kind 5) (λ w. let is = eqb-true kind 5 w in (omega arith, past-limit blackboardLimit noBlackboard (p .blackboards) k (λ (x : BlackboardT). x .shown) refl (rw is at h))) λ w5.
+    either (eqb kind 1) (λ w. let is = eqb-true kind 1 w in (omega arith, past-limit semaphoreLimit noSemaphore (p .semaphores) k (λ (x : SemaphoreT). ltb 0 (x .value)) refl (rw is at h), omega arith)) λ w1.
+    either (eqb kind 2) (λ w. let is = eqb-true kind 2 w in (omega arith, past-limit eventLimit noEvent (p .events) k (λ (x : EventState). x .up) refl (rw is at h), omega arith)) λ w2.
+    either (eqb kind 3) (λ w. let is = eqb-true kind 3 w in (omega arith, past-limit bufferLimit noBuffer (p .buffers) k hasRoom refl (rw is at h), omega arith)) λ w3.
+    either (eqb kind 4) (λ w. let is = eqb-true kind 4 w in (omega arith, past-limit bufferLimit noBuffer (p .buffers) k holds refl (rw is at h), omega arith)) λ w4.
+    either (eqb kind 5) (λ w. let is = eqb-true kind 5 w in (omega arith, past-limit blackboardLimit noBlackboard (p .blackboards) k (λ (x : BlackboardT). x .shown) refl (rw is at h), omega arith)) λ w5.
     not-both _ (rw (w1, w2, w3, w4, w5) at h) refl
 
 -- and nobody waits for one
-counts-low : (frame t : ℕ) (p : Partition) → Valid frame t p → (kind : ℕ) → settingOf frame t p .counts kind ≤ 8
+counts-low : (frame t : ℕ) (p : Partition) → Valid frame t p → (kind : ℕ) → settingOf frame t p .counts kind ≤ 16
 counts-low frame t p v kind =
-    by-test (λ (n : ℕ). n ≤ 8) (eqb kind 1) (λ _. v .objects .semaphores .numbered .few) λ _.
-    by-test (λ (n : ℕ). n ≤ 8) (eqb kind 2) (λ _. v .objects .events .numbered .few) λ _.
-    by-test (λ (n : ℕ). n ≤ 8) (eqb kind 3) (λ _. v .objects .buffers .numbered .few) λ _.
-    by-test (λ (n : ℕ). n ≤ 8) (eqb kind 4) (λ _. v .objects .buffers .numbered .few) λ _.
-    by-test (λ (n : ℕ). n ≤ 8) (eqb kind 5) (λ _. v .objects .blackboards .numbered .few) λ _. omega arith
+    by-test (λ (n : ℕ). n ≤ 16) (eqb kind 1) (λ _. omega (arith, v .objects .semaphores .numbered .few)) λ _.
+    by-test (λ (n : ℕ). n ≤ 16) (eqb kind 2) (λ _. omega (arith, v .objects .events .numbered .few)) λ _.
+    by-test (λ (n : ℕ). n ≤ 16) (eqb kind 3) (λ _. omega (arith, v .objects .buffers .numbered .few)) λ _.
+    by-test (λ (n : ℕ). n ≤ 16) (eqb kind 4) (λ _. omega (arith, v .objects .buffers .numbered .few)) λ _.
+    by-test (λ (n : ℕ). n ≤ 16) (eqb kind 5) (λ _. omega (arith, v .objects .blackboards .numbered .few)) λ _.
+    by-test (λ (n : ℕ). n ≤ 16) (eqb kind 6) (λ _. omega arith) λ _.
+    by-test (λ (n : ℕ). n ≤ 16) (eqb kind 7) (λ _. omega arith) λ _. omega arith
 
-class-known : (counts : ℕ → ℕ) → ((kind : ℕ) → counts kind ≤ 8) → (c : Class) → KnownWait counts c → (kind k : ℕ) → 1 ≤ kind → k ≤ 255 → objectIn c ≡ queueNumber kind k → Between 1 (counts kind) k
+class-known : (counts : ℕ → ℕ) → ((kind : ℕ) → counts kind ≤ 16) → (c : Class) → KnownWait counts c → (kind k : ℕ) → 1 ≤ kind → k ≤ 255 → objectIn c ≡ queueNumber kind k → Between 1 (counts kind) k
 class-known counts low Class.nothing h kind k some few e = absurd (omega arith)
 class-known counts low Class.normal h kind k some few e = absurd h
 class-known counts low Class.timer h kind k some few e = absurd (omega arith)
@@ -216,6 +226,12 @@ unfolding contains
 none-in [] h = refl
 none-in (x ∷ l) h = absurd (h x (rw (eq-eqb x x refl)))
 
+-- a list of ids of processes that have been created has a first, or is empty
+pub none-first : {n : ℕ} (l : List ℕ) → AllCreated l n → getD l 0 0 ≡ 0 → l ≡ []
+unfolding contains
+none-first [] all e = refl
+none-first (x ∷ l) all e = absurd (let b = all x (rw (eq-eqb x x refl)) in omega (arith, b .0))
+
 pub unknown-unwaited : (frame t : ℕ) (p : Partition) → Valid frame t p → (kind k : ℕ) → 1 ≤ kind → k ≤ 255 → settingOf frame t p .counts kind < k → waiters (queueNumber kind k) p ≡ []
 unknown-unwaited frame t p v kind k some few past = none-in (waiters (queueNumber kind k) p) (λ id c.
     let b = waiters-created p (v .lists) (queueNumber kind k) id c in
@@ -223,60 +239,98 @@ unknown-unwaited frame t p v kind k some few past = none-in (waiters (queueNumbe
     let r = waits-known frame t p v id kind k b some few e in
     omega (arith, r .1))
 
+-- a part of a list with nothing in it
+pub part-none : (l k : List ℕ) → l ≡ [] → Part l k → k ≡ []
+unfolding kept
+part-none l k e a = a .is ∙ ap (kept (a .by)) e
+
 -- ---------------------------------------------------------------- what calls decide
 -- what is available after a change was so before, or nobody waits for it
 abbrev AfterChange : Partition → Partition → Type 0
 AfterChange p q = (kind k : ℕ) → available kind k q ≡ true → (available kind k p ≡ true) ⊎ (waiters (queueNumber kind k) q ≡ [])
 
+-- a caller waits with a message at the source of a queuing channel by 30 alone, where there is no room, and for one at the destination by 31 alone,
+-- where there is none
+pub record WaitsAtSource (x : Port) (n k : ℕ) : Type 0 where
+  pub call : n ≡ 30
+  pub place : k ≡ x .place + 1
+  pub there : x .exists ≡ true
+  pub kind : queuing (x .channel) ≡ true
+  pub source : x .channel .source ≡ x .own
+  pub full : x .channel .size ≤ x .traffic .len
+
+pub record WaitsAtDestination (x : Port) (n k : ℕ) : Type 0 where
+  pub call : n ≡ 31
+  pub place : k ≡ x .place + 1
+  pub there : x .exists ≡ true
+  pub kind : queuing (x .channel) ≡ true
+  pub destination : x .channel .destination ≡ x .own
+  pub empty : x .traffic .len ≡ 0
+
+abbrev pub AtEnd : Port → ℕ → ℕ → Type 0
+AtEnd x n o = ((k : ℕ) → k ≤ 255 → o ≡ queueNumber 6 k → WaitsAtSource x n k) × ((k : ℕ) → k ≤ 255 → o ≡ queueNumber 7 k → WaitsAtDestination x n k)
+
 -- a caller waits only for what is not there
-abbrev Fair : Partition → Decision → Type 0
-Fair p (Refused code) = Unit {0}
-Fair p (Unchanged value extra) = Unit {0}
-Fair p Ticked = Unit {0}
-Fair p (Blocked id x) = (kind k : ℕ) → available kind k p ≡ true → eqb (object (x .wait)) (queueNumber kind k) ≡ false
-Fair p (Changed a b value) = AfterChange p (applied b (applied a p))
-Fair p (Restarted mode) = Unit {0}
-Fair p (Written i x) = Unit {0}
+module _ (x : Port) (n : ℕ) where
+  abbrev pub Fair : Partition → Decision → Type 0
+  Fair p (Refused code) = Unit {0}
+  Fair p (Unchanged value extra) = Unit {0}
+  Fair p Ticked = Unit {0}
+  Fair p (Blocked id y) = ((kind k : ℕ) → available kind k p ≡ true → eqb (object (y .wait)) (queueNumber kind k) ≡ false) × AtEnd x n (object (y .wait))
+  Fair p (Changed a b value) = AfterChange p (applied b (applied a p))
+  Fair p (Restarted mode) = Unit {0}
+  Fair p (Written i y) = Unit {0}
+  Fair p (PassedOn i a value) = Unit {0}
 
-pub record IsFair (p : Partition) (d : Decision) : Type 0 where
-  pub is : Fair p d
+  pub record IsFair (p : Partition) (d : Decision) : Type 0 where
+    pub is : Fair p d
 
-module _ (c : Context) (p : Partition) (v : Valid (c .frame) (c .time) p) (s : SoundContext c p) where
-  fair-checks : (l : List (Bool × ℕ)) (d : Decision) → (Passed l → IsFair p d) → IsFair p (checked Refused l d)
-  fair-checks l d f = by-checks (IsFair p) Refused l d (λ n. record { is = tt }) f
+module _ (c : Context) (p : Partition) (v : Valid (c .frame) (c .time) p) (s : SoundContext c p) (x : Port) (placed : Placed x) (n : ℕ) where
+  fair-checks : (l : List (Bool × ℕ)) (d : Decision) → (Passed l → IsFair x n p d) → IsFair x n p (checked Refused l d)
+  fair-checks l d f = by-checks (IsFair x n p) Refused l d (λ n. record { is = tt }) f
 
-  fair : {d : Decision} → Fair p d → IsFair p d
+  fair : {d : Decision} → Fair x n p d → IsFair x n p d
   fair h = record { is = h }
 
   -- two changes of processes
-  by-processes : (a b : Change) (n : ℕ) → OnProcesses a → OnProcesses b → ListedIn (applied a p) → Fair p (Changed a b n)
-  by-processes a b n f g w kind k h = inl (sym (available-same p _ (along-objects p (applied a p) _ (objects-stay a f p (v .lists)) (objects-stay b g (applied a p) w)) kind k) ∙ h)
+  by-processes : (a b : Change) (value : ℕ) → OnProcesses a → OnProcesses b → ListedIn (applied a p) → Fair x n p (Changed a b value)
+  by-processes a b value f g w kind k h = inl (sym (available-same p _ (along-objects p (applied a p) _ (objects-stay a f p (v .lists)) (objects-stay b g (applied a p) w)) kind k) ∙ h)
 
-  one-process : (a : Change) → OnProcesses a → Fair p (changed a)
+  one-process : (a : Change) → OnProcesses a → Fair x n p (changed a)
   one-process a f kind k h = inl (sym (available-same p _ (objects-stay a f p (v .lists)) kind k) ∙ h)
 
   -- one that waits on no object
-  no-object : (id : ℕ) (x : Process) → object (x .wait) ≡ 0 → Fair p (Blocked id x)
-  no-object id x z kind k h = let r = available-low kind k p h in rw z (ne-eqb 0 (queueNumber kind k) (λ e. omega (arith, r .0)))
+  no-object : (id : ℕ) (y : Process) → object (y .wait) ≡ 0 → Fair x n p (Blocked id y)
+  no-object id y z = (
+    λ kind k h. let r = available-low kind k p h in rw z (ne-eqb 0 (queueNumber kind k) (λ e. omega (arith, r .0))),
+    (λ k few e. absurd (omega (arith, z)), λ k few e. absurd (omega (arith, z))),
+  )
 
-  -- one that waits on an object that is not available
-  on-object : (id : ℕ) (x : Process) (kind j : ℕ) → object (x .wait) ≡ queueNumber kind j → j ≤ 8 → available kind j p ≡ false → Fair p (Blocked id x)
-  on-object id x kind j is few none kind′ k h = ne-eqb (object (x .wait)) (queueNumber kind′ k) (λ e.
-      let r = available-low kind′ k p h in
-      let a : kind′ ≡ kind = omega (arith, r .0, r .1, is) in
-      let b : k ≡ j = omega (arith, r .0, r .1, is) in
-      not-both _ (rw (a, b) at h) none)
+  -- one that waits on an object of the partition that is not available
+  on-object : (id : ℕ) (y : Process) (kind j : ℕ) → object (y .wait) ≡ queueNumber kind j → j ≤ 8 → kind ≤ 5 → available kind j p ≡ false → Fair x n p (Blocked id y)
+  on-object id y kind j is few low none = (
+    λ kind′ k h. ne-eqb (object (y .wait)) (queueNumber kind′ k) (λ e.
+        let r = available-low kind′ k p h in
+        let a : kind′ ≡ kind = omega (arith, r .0, r .1, is) in
+        let b : k ≡ j = omega (arith, r .0, r .1, is) in
+        not-both _ (rw (a, b) at h) none),
+    (λ k _ e. absurd (omega (arith, is)), λ k _ e. absurd (omega (arith, is))),
+  )
 
   await-fair : (count : ℕ) (beside : Bool) (a : Field) (at-once : Bool) (success : Decision) (w : Wait) (kind j m : ℕ)
-      → classOf w ≡ Class.onto kind j m → count ≤ 8 → available kind j p ≡ at-once
-      → (Between 1 count j → beside ≡ true → at-once ≡ true → IsFair p success)
-      → IsFair p (awaiting c ((unknown j count, 3) ∷ []) beside [] a at-once success w p)
+      → classOf w ≡ Class.onto kind j m → kind ≤ 5 → count ≤ 8 → available kind j p ≡ at-once
+      → (Between 1 count j → beside ≡ true → at-once ≡ true → IsFair x n p success)
+      → IsFair x n p (awaiting c ((unknown j count, 3) ∷ []) beside [] a at-once success w p)
   unfolding awaiting queued blocked Passed
-  await-fair count beside a at-once success w kind j m class low is done = fair-checks _ _ (λ h.
+  await-fair count beside a at-once success w kind j m class below low is done = fair-checks _ _ (λ h.
       let b = known-id j count (h .0) in
-      by-test (IsFair p) at-once
+      by-test (IsFair x n p) at-once
       (λ e. done b (and-left beside _ (not-false _ (h .1 .1 .0))) e)
-      (λ e. fair-checks _ _ (λ _. fair (on-object (c .caller) (waitingFor w (later (At (c .time)) (timeOf a)) (process (c .caller) p)) kind j (ap objectIn class) (omega (arith, b .1)) (is ∙ e)))))
+      (λ e. fair-checks _ _ (λ _. fair (on-object (c .caller) (waitingFor w (later (At (c .time)) (timeOf a)) (process (c .caller) p)) kind j (ap objectIn class) (omega (arith, b .1)) below (is ∙ e)))))
+
+  -- nobody waits where there is no first
+  no-first : (o : ℕ) → eqb (firstWaiter o p) 0 ≡ true → waiters o p ≡ []
+  no-first o e = none-first (waiters o p) (waiters-created p (v .lists) o) (eqb-true _ 0 e)
 
   -- an object created: nobody waits for it
   created-free : (kind count n : ℕ) → 1 ≤ kind → count ≤ 7 → settingOf (c .frame) (c .time) p .counts kind ≡ count → n ≡ count + 1 → waiters (queueNumber kind n) p ≡ []
@@ -287,34 +341,34 @@ module _ (c : Context) (p : Partition) (v : Valid (c .frame) (c .time) p) (s : S
   lists = v .lists
 
   -- ------------------------------------------------------------ semaphores
-  create-semaphore-fair : (r : Request) → IsFair p (createSemaphore r p)
+  create-semaphore-fair : (r : Request) → IsFair x n p (createSemaphore r p)
   unfolding createSemaphore Passed
   create-semaphore-fair r = fair-checks _ _ (λ h. fair (λ kind k t. ⊎-elim inl
       (λ y. inr (rw (y .0, y .1) (semaphore-queue p lists (queueNumber 1 (p .semaphoreCount + 1)) (λ z. omega arith) (p .semaphoreCount + 1) _ ∙ created-free 1 (p .semaphoreCount) _ (omega arith) (omega (arith, leb-false semaphoreLimit (p .semaphoreCount) (h .0))) refl refl)))
       (semaphore-available (c .frame) (c .time) p v kind k _ _ t)))
 
-  wait-semaphore-fair : (j : ℕ) (a : Field) → IsFair p (waitSemaphore c j a p)
+  wait-semaphore-fair : (j : ℕ) (a : Field) → IsFair x n p (waitSemaphore c j a p)
   unfolding waitSemaphore
-  wait-semaphore-fair j a = await-fair (p .semaphoreCount) true a _ _ (Semaphore j) 1 j 0 refl (v .objects .semaphores .numbered .few) refl
+  wait-semaphore-fair j a = await-fair (p .semaphoreCount) true a _ _ (Semaphore j) 1 j 0 refl (omega arith) (v .objects .semaphores .numbered .few) refl
       (λ _ _ e. fair (λ kind k t. inl (⊎-elim (λ y. y) (λ y. rw (y .0, y .1) e) (semaphore-available (c .frame) (c .time) p v kind k j _ t))))
 
-  signalled-fair : (l : List ℕ) (j : ℕ) → waiters (queueNumber 1 j) p ≡ l → Fair p (changed (signalled l j p))
+  signalled-fair : (l : List ℕ) (j : ℕ) → waiters (queueNumber 1 j) p ≡ l → Fair x n p (changed (signalled l j p))
   unfolding signalled
   signalled-fair [] j e = λ kind k t. ⊎-elim inl (λ y. inr (rw (y .0, y .1) (semaphore-queue p lists (queueNumber 1 j) (λ z. omega arith) j _ ∙ e))) (semaphore-available (c .frame) (c .time) p v kind k j _ t)
   signalled-fair (id ∷ l) j e = one-process (Stored id (served (process id p))) tt
 
-  signal-fair : (j : ℕ) → IsFair p (signal j p)
+  signal-fair : (j : ℕ) → IsFair x n p (signal j p)
   unfolding signal
   signal-fair j = fair-checks _ _ (λ _. fair (signalled-fair (waiters (queueNumber 1 j) p) j refl))
 
   -- ------------------------------------------------------------ events
-  create-event-fair : (name : Field) → IsFair p (createEvent name p)
+  create-event-fair : (name : Field) → IsFair x n p (createEvent name p)
   unfolding createEvent
   create-event-fair name = fair-checks _ _ (λ _. fair (λ kind k t. ⊎-elim inl (λ y. not-both _ (y .2) refl) (event-available (c .frame) (c .time) p v kind k _ _ t)))
 
-  wait-event-fair : (j : ℕ) (a : Field) → IsFair p (waitEvent c j a p)
+  wait-event-fair : (j : ℕ) (a : Field) → IsFair x n p (waitEvent c j a p)
   unfolding waitEvent
-  wait-event-fair j a = await-fair (p .eventCount) true a _ _ (Event j) 2 j 0 refl (v .objects .events .numbered .few) refl (λ _ _ _. fair tt)
+  wait-event-fair j a = await-fair (p .eventCount) true a _ _ (Event j) 2 j 0 refl (omega arith) (v .objects .events .numbered .few) refl (λ _ _ _. fair tt)
 
   -- a store of an object after which all waits on it end, each process changed by f
   all-end : (q : Partition) → ListedIn q → (f : Process → Process) → ((x : Process) → object (f x .wait) ≡ 0) → (kind j : ℕ) → 1 ≤ kind
@@ -326,7 +380,7 @@ module _ (c : Context) (p : Partition) (v : Valid (c .frame) (c .time) p) (s : S
       (λ y. inr (rw (y .0, y .1) (ended-queue q w o (λ z. omega arith) f ends)))
       (stores kind′ k (sym (available-same q _ (rest-objects q _ (changed-rest f (waiters o q) q)) kind′ k) ∙ t))
 
-  set-event-fair : (j : ℕ) → IsFair p (setEvent j p)
+  set-event-fair : (j : ℕ) → IsFair x n p (setEvent j p)
   unfolding setEvent Passed
   set-event-fair j = fair-checks _ _ (λ h.
       let b = known-id j (p .eventCount) (h .0) in
@@ -334,12 +388,12 @@ module _ (c : Context) (p : Partition) (v : Valid (c .frame) (c .time) p) (s : S
       let w : ListedIn q = rw (event-in j (record { name = event j p .name; up = true }) p (within-in eventLimit j (b .0) (omega (arith, b .1, v .objects .events .numbered .few)))) lists in
       fair (all-end q w served (λ _. refl) 2 j (omega arith) (λ kind k t. ⊎-elim inl (λ y. inr (y .0, y .1)) (event-available (c .frame) (c .time) p v kind k j _ t))))
 
-  reset-event-fair : (j : ℕ) → IsFair p (resetEvent j p)
+  reset-event-fair : (j : ℕ) → IsFair x n p (resetEvent j p)
   unfolding resetEvent
   reset-event-fair j = fair-checks _ _ (λ _. fair (λ kind k t. ⊎-elim inl (λ y. not-both _ (y .2) refl) (event-available (c .frame) (c .time) p v kind k j _ t)))
 
   -- ------------------------------------------------------------ buffers
-  create-buffer-fair : (name limit : Field) → IsFair p (createBuffer name limit p)
+  create-buffer-fair : (name limit : Field) → IsFair x n p (createBuffer name limit p)
   unfolding createBuffer Passed
   create-buffer-fair name limit = fair-checks _ _ (λ h. fair (λ kind k t. ⊎-elim inl
       (⊎-elim
@@ -347,55 +401,91 @@ module _ (c : Context) (p : Partition) (v : Valid (c .frame) (c .time) p) (s : S
       (λ y. not-both _ (y .2) refl))
       (buffer-available (c .frame) (c .time) p v kind k _ _ t)))
 
-  -- a move of a buffer's messages after which there is room only where there was, or nobody waits to send, and a message likewise
-  move-fair : (j : ℕ) (a : QueueChange)
+  -- a transfer of a buffer's messages after which there is room only where there was, or nobody waits to send, and a message likewise
+  move-fair : (j : ℕ) → Between 1 (p .bufferCount) j → (a : Transfer) → SoundEnd p a
       → (hasRoom (movedIn a (buffer j p)) ≡ true → (hasRoom (buffer j p) ≡ true) ⊎ (waiters (queueNumber 3 j) p ≡ []))
       → (holds (movedIn a (buffer j p)) ≡ true → (holds (buffer j p) ≡ true) ⊎ (waiters (queueNumber 4 j) p ≡ []))
       → AfterChange p (applied (Moved j a) p)
-  move-fair j a room message kind k t =
-      let b = movedIn a (buffer j p) in
+  move-fair j b a sound room message kind k t =
+      let m = movedIn a (buffer j p) in
+      let q = storedBuffer j m p in
+      let is = buffer-in j m p (within-in bufferLimit j (b .0) (omega (arith, b .1, v .objects .buffers .numbered .few))) in
+      let w : ListedIn q = rw is lists in
+      let end : SoundEnd q a = rw is (end-same p _ a refl refl sound) in
+      let stays : (o : ℕ) → (o ≡ 0 → ⊥) → waiters o p ≡ [] → waiters o (endedBy a q) ≡ [] = λ o some e. part-none _ _ (buffer-queue p lists o some j m ∙ e) (ended-part o some q w a end) in
       ⊎-elim inl
       (⊎-elim
-      (λ y. ⊎-elim (λ h. inl (rw (y .0, y .1) h)) (λ e. inr (rw (y .0, y .1) (buffer-queue p lists (queueNumber 3 j) (λ z. omega arith) j b ∙ e))) (room (y .2)))
-      (λ y. ⊎-elim (λ h. inl (rw (y .0, y .1) h)) (λ e. inr (rw (y .0, y .1) (buffer-queue p lists (queueNumber 4 j) (λ z. omega arith) j b ∙ e))) (message (y .2))))
-      (buffer-available (c .frame) (c .time) p v kind k j b t)
+      (λ y. ⊎-elim (λ h. inl (rw (y .0, y .1) h)) (λ e. inr (rw (y .0, y .1) (stays (queueNumber 3 j) (λ z. omega arith) e))) (room (y .2)))
+      (λ y. ⊎-elim (λ h. inl (rw (y .0, y .1) h)) (λ e. inr (rw (y .0, y .1) (stays (queueNumber 4 j) (λ z. omega arith) e))) (message (y .2))))
+      (buffer-available (c .frame) (c .time) p v kind k j m (sym (available-same q _ (ended-objects a q) kind k) ∙ t))
 
   module _ (j : ℕ) (b : Between 1 (p .bufferCount) j) where
-    sound : SoundBuffer (buffer j p)
+    abbrev it : Buffer
+    it = buffer j p
+
+    sound : SoundBuffer it
     sound = v .objects .buffers .each j b
 
-    sent-fair : (l : List ℕ) (m : ℕ) → m ≤ durationLimit → hasRoom (buffer j p) ≡ true → waiters (queueNumber 4 j) p ≡ l → Fair p (changed (sent l j m p))
+    sent-fair : (m : ℕ) → m ≤ durationLimit → hasRoom it ≡ true → AfterChange p (applied (Moved j (sent (firstWaiter (queueNumber 4 j) p) m)) p)
     unfolding sent
-    sent-fair [] m few h e = move-fair j (Put m) (λ _. inl h) (λ _. inr e)
-    sent-fair (id ∷ l) m few h e = one-process (Stored id (handed m (process id p))) tt
+    sent-fair m few h =
+        let o = queueNumber 4 j in
+        by-test (λ (a : Transfer). SoundEnd p a → AfterChange p (applied (Moved j a) p)) (eqb (firstWaiter o p) 0)
+        (λ e g. move-fair j b (Put m) g (λ _. inl h) (λ _. inr (no-first o e)))
+        (λ e g. move-fair j b (HandedTo (firstWaiter o p) m) g inl inl)
+        (sent-sound p lists o (it .limit) (it .queue) m (ltb-true _ _ h) few .1)
 
-    received-fair : (l : List ℕ) → holds (buffer j p) ≡ true → AllCreated l (p .processCount) → waiters (queueNumber 3 j) p ≡ l → IsFair p (received l j p)
-    unfolding received contains
-    received-fair [] h all e = fair (move-fair j Taken (λ _. inr e) (λ _. inl h))
-    received-fair (id ∷ l) h all e =
-        let x = process id p in
-        let q = applied (Moved j (Exchanged (carried x))) p in
-        let n = exchanged-length (buffer j p) sound (carried x) (ltb-true 0 _ h, carried-sound _ x (v .eachProcess id (all id (rw (eq-eqb id id refl))))) in
-        fair (λ kind k t. inl (⊎-elim (λ y. y)
-        (⊎-elim (λ y. rw (y .0, y .1) (rw n at (y .2))) (λ y. rw (y .0, y .1) h))
-        (buffer-available (c .frame) (c .time) p v kind k j _ (sym (available-same q _ (rest-objects q _ (stored-rest q id (served x))) kind k) ∙ t))))
+    received-fair : holds it ≡ true → AfterChange p (applied (Moved j (received (firstWaiter (queueNumber 3 j) p) (carried (process (firstWaiter (queueNumber 3 j) p) p)))) p)
+    unfolding received
+    received-fair h =
+        let o = queueNumber 3 j in
+        let m = carried (process (firstWaiter o p) p) in
+        by-test (λ (a : Transfer). SoundMove (it .limit) (it .queue) a × SoundEnd p a → AfterChange p (applied (Moved j a) p)) (eqb (firstWaiter o p) 0)
+        (λ e g. move-fair j b Taken (g .1) (λ _. inr (no-first o e)) (λ _. inl h))
+        (λ e g.
+        let same : moved (LetIn (firstWaiter o p) m) (it .queue) .len ≡ it .queue .len = let-in-length (it .limit) (it .queue) (sound .queue) (sound .limit .1) (firstWaiter o p) m (g .0) in
+        move-fair j b (LetIn (firstWaiter o p) m) (g .1) (λ t. inl (rw same at t)) (λ _. inl h))
+        (received-sound (c .frame) (c .time) p v o (it .limit) (it .queue) (ltb-true 0 _ h))
 
-  send-fair : (j : ℕ) (m a : Field) → IsFair p (sendBuffer c j m a p)
+  send-fair : (j : ℕ) (m a : Field) → IsFair x n p (sendBuffer c j m a p)
   unfolding sendBuffer
-  send-fair j m a = await-fair (p .bufferCount) (isMessage m) a _ _ (Sending j (numberOf m)) 3 j (numberOf m) refl (v .objects .buffers .numbered .few) refl
-      (λ b g e. fair (sent-fair j b (waiters (queueNumber 4 j) p) (numberOf m) (in-limits 0 durationLimit m g .1) e refl))
+  send-fair j m a = await-fair (p .bufferCount) (isMessage m) a _ _ (Sending j (numberOf m)) 3 j (numberOf m) refl (omega arith) (v .objects .buffers .numbered .few) refl
+      (λ b g e. fair (sent-fair j b (numberOf m) (in-limits 0 durationLimit m g .1) e))
 
-  receive-fair : (j : ℕ) (a : Field) → IsFair p (receiveBuffer c j a p)
+  receive-fair : (j : ℕ) (a : Field) → IsFair x n p (receiveBuffer c j a p)
   unfolding receiveBuffer
-  receive-fair j a = await-fair (p .bufferCount) true a _ _ (Receiving j) 4 j 0 refl (v .objects .buffers .numbered .few) refl
-      (λ b _ e. received-fair j b (waiters (queueNumber 3 j) p) e (waiters-created p lists (queueNumber 3 j)) refl)
+  receive-fair j a = await-fair (p .bufferCount) true a _ _ (Receiving j) 4 j 0 refl (omega arith) (v .objects .buffers .numbered .few) refl
+      (λ b _ e. fair (received-fair j b e))
+
+  -- ------------------------------------------------------------ queuing channels
+  -- the caller waits at an end: for nothing that is the partition's
+  at-end : (w : Wait) (kind j : ℕ) → object w ≡ queueNumber kind j → 6 ≤ kind → (kind k : ℕ) → available kind k p ≡ true → eqb (object w) (queueNumber kind k) ≡ false
+  at-end w kind j is high kind′ k h = let r = available-low kind′ k p h in ne-eqb (object w) (queueNumber kind′ k) (λ e. omega (arith, is, r .1, r .2))
+
+  send-channel-fair : n ≡ 30 → (m a : Field) → IsFair x n p (send c x m a p)
+  unfolding send awaiting queued blocked channelChecks Passed
+  send-channel-fair call m a = fair-checks _ _ (λ h.
+      let k = placed (not-false _ (h .1 .0)) in
+      by-test (IsFair x n p) (ltb (x .traffic .len) (x .channel .size)) (λ _. fair tt) (λ e. fair-checks _ _ (λ _. fair (
+        at-end (Source (x .place + 1) (numberOf m)) 6 (x .place + 1) refl (omega arith),
+        (λ j few o. record { call = call; place = omega arith; there = not-false _ (h .0); kind = not-false _ (h .1 .0); source = eqb-true _ _ (not-false _ (h .1 .1 .1 .0)); full = ltb-false _ _ e }, λ j few o. absurd (omega arith)),
+      ))))
+
+  receive-channel-fair : n ≡ 31 → (a : Field) → IsFair x n p (receive c x a p)
+  unfolding receive awaiting queued blocked channelChecks Passed
+  receive-channel-fair call a = fair-checks _ _ (λ h.
+      let k = placed (not-false _ (h .1 .0)) in
+      by-test (IsFair x n p) (ltb 0 (x .traffic .len)) (λ _. fair tt) (λ e. fair-checks _ _ (λ _. fair (
+        at-end (Destination (x .place + 1)) 7 (x .place + 1) refl (omega arith),
+        (λ j few o. absurd (omega arith), λ j few o. record { call = call; place = omega arith; there = not-false _ (h .0); kind = not-false _ (h .1 .0); destination = eqb-true _ _ (not-false _ (h .1 .1 .1 .0)); empty = let z : x .traffic .len ≤ 0 = ltb-false 0 _ e in omega arith }),
+      ))))
 
   -- ------------------------------------------------------------ blackboards
-  create-blackboard-fair : (name : Field) → IsFair p (createBlackboard name p)
+  create-blackboard-fair : (name : Field) → IsFair x n p (createBlackboard name p)
   unfolding createBlackboard
   create-blackboard-fair name = fair-checks _ _ (λ _. fair (λ kind k t. ⊎-elim inl (λ y. not-both _ (y .2) refl) (blackboard-available (c .frame) (c .time) p v kind k _ _ t)))
 
-  show-fair : (j : ℕ) (m : Field) → IsFair p (show j m p)
+  show-fair : (j : ℕ) (m : Field) → IsFair x n p (show j m p)
   unfolding show Passed
   show-fair j m = fair-checks _ _ (λ h.
       let b = known-id j (p .blackboardCount) (h .0) in
@@ -403,33 +493,33 @@ module _ (c : Context) (p : Partition) (v : Valid (c .frame) (c .time) p) (s : S
       let w : ListedIn q = rw (blackboard-in j (record { name = blackboard j p .name; shown = true; message = numberOf m }) p (within-in blackboardLimit j (b .0) (omega (arith, b .1, v .objects .blackboards .numbered .few)))) lists in
       fair (all-end q w (handed (numberOf m)) (λ _. refl) 5 j (omega arith) (λ kind k t. ⊎-elim inl (λ y. inr (y .0, y .1)) (blackboard-available (c .frame) (c .time) p v kind k j _ t))))
 
-  read-blackboard-fair : (j : ℕ) (a : Field) → IsFair p (readBlackboard c j a p)
+  read-blackboard-fair : (j : ℕ) (a : Field) → IsFair x n p (readBlackboard c j a p)
   unfolding readBlackboard
-  read-blackboard-fair j a = await-fair (p .blackboardCount) true a _ _ (Blackboard j) 5 j 0 refl (v .objects .blackboards .numbered .few) refl (λ _ _ _. fair tt)
+  read-blackboard-fair j a = await-fair (p .blackboardCount) true a _ _ (Blackboard j) 5 j 0 refl (omega arith) (v .objects .blackboards .numbered .few) refl (λ _ _ _. fair tt)
 
-  clear-fair : (j : ℕ) → IsFair p (clear j p)
+  clear-fair : (j : ℕ) → IsFair x n p (clear j p)
   unfolding clear
   clear-fair j = fair-checks _ _ (λ _. fair (λ kind k t. ⊎-elim inl (λ y. not-both _ (y .2) refl) (blackboard-available (c .frame) (c .time) p v kind k j _ t)))
 
   -- ------------------------------------------------------------ every call
-  self-fair : (a : Field) → IsFair p (suspendSelf c a p)
+  self-fair : (a : Field) → IsFair x n p (suspendSelf c a p)
   unfolding suspendSelf blocked Passed
-  self-fair a = fair-checks _ _ (λ h. by-test (IsFair p) (isNumber 0 a) (λ _. fair tt) (λ _.
+  self-fair a = fair-checks _ _ (λ h. by-test (IsFair x n p) (isNumber 0 a) (λ _. fair tt) (λ _.
       let q = normal-caller c p v s (in-normal c p v s (or-false-parts (startMode p) _ (h .0) .0)) in
       fair (no-object (c .caller) (suspendedUntil (later (At (c .time)) (timeOf a)) (process (c .caller) p)) (ready-off (process (c .caller) p) (q .isReady)))))
 
-  pub call-fair : (x : Port) (n : ℕ) (r : Request) → IsFair p (callDecision c x n r p)
+  pub call-fair : (r : Request) → IsFair x n p (callDecision c x n r p)
   unfolding setMode createProcess start stop stopSelf suspend timedWait periodicWait resume setPriority getStatus blocked write read channelChecks Passed
-  call-fair x n r =
-      by-call c x n r p (IsFair p)
-      (λ _. fair-checks _ _ (λ _. by-test (IsFair p) (isNumber 3 (r .a)) (λ _. fair (one-process (Entered c) tt)) (λ _. fair tt)))
+  call-fair r =
+      by-call c x n r p (IsFair x n p)
+      (λ _. fair-checks _ _ (λ _. by-test (IsFair x n p) (isNumber 3 (r .a)) (λ _. fair (one-process (Entered c) tt)) (λ _. fair tt)))
       (λ _. fair-checks _ _ (λ _. fair (one-process (Created _ _) tt)))
       (λ id delay. fair-checks _ _ (λ _. fair (one-process (Stored id _) tt)))
       (λ _ id. fair-checks _ _ (λ _. fair (one-process (Stored id _) tt)))
       (fair-checks _ _ (λ _. fair (one-process (Stored (c .caller) _) tt)))
       (λ id. fair-checks _ _ (λ _. fair (one-process (Stored id _) tt)))
       self-fair
-      (λ a. fair-checks _ _ (λ _. by-test (IsFair p) (isNumber 0 a) (λ _. fair (one-process (Last (c .caller)) tt)) (λ _. fair (no-object (c .caller) (waitingFor Timed (later (At (c .time)) (timeOf a)) (process (c .caller) p)) refl))))
+      (λ a. fair-checks _ _ (λ _. by-test (IsFair x n p) (isNumber 0 a) (λ _. fair (one-process (Last (c .caller)) tt)) (λ _. fair (no-object (c .caller) (waitingFor Timed (later (At (c .time)) (timeOf a)) (process (c .caller) p)) refl))))
       (fair-checks _ _ (λ _. fair (no-object (c .caller) (nextRelease (process (c .caller) p)) refl)))
       (λ id. fair-checks _ _ (λ _. fair (one-process (Stored id _) tt)))
       (λ id a. fair-checks _ _ (λ h.
@@ -453,13 +543,11 @@ module _ (c : Context) (p : Partition) (v : Valid (c .frame) (c .time) p) (s : S
       show-fair
       read-blackboard-fair
       clear-fair
+      (λ e. send-channel-fair e _ _)
+      (λ e. receive-channel-fair e _)
       (λ _. fair tt)
 
 -- ---------------------------------------------------------------- a partition after a decision
-pub part-none : (l k : List ℕ) → l ≡ [] → Part l k → k ≡ []
-unfolding kept
-part-none l k e a = a .is ∙ ap (kept (a .by)) e
-
 noted-none : (p : Partition) → NoneWaits p → NoneWaits (noted p)
 noted-none p h kind k t = same-queue (queueNumber kind k) p (noted p) refl (λ _. refl) ∙ h kind k t
 
@@ -475,9 +563,19 @@ tick-none frame t p v h kind k e =
     part-none _ _ (h kind k (sym (available-same p _ (tick-objects (t + 1) p (v .lists)) kind k) ∙ e))
     (tick-part (queueNumber kind k) (number-some kind k (tickPartition (t + 1) p) e) (t + 1) p (v .lists))
 
-module _ (c : Context) (p : Partition) (v : Valid (c .frame) (c .time) p) (s : SoundContext c p) (none : NoneWaits p) where
-  changed-none : (a b : Change) (n : ℕ) → SoundDecision c p (Changed a b n) → Orderly c p (Changed a b n) → Fair p (Changed a b n) → NoneWaits (applied b (applied a p))
-  changed-none a b n h g f kind k t =
+-- no object changes, and each queue is a part of what it was
+kept-none : (p q : Partition) → SameObjects p q → ((o : ℕ) → (o ≡ 0 → ⊥) → Part (waiters o p) (waiters o q)) → NoneWaits p → NoneWaits q
+kept-none p q same parts h kind k t = part-none _ _ (h kind k (sym (available-same p q same kind k) ∙ t)) (parts (queueNumber kind k) (number-some kind k q t))
+
+let-in-none : (i n frame t : ℕ) (p : Partition) → Valid frame t p → NoneWaits p → NoneWaits (noted (changedAll served (take n (waiters (object (Source (i + 1) 0)) p)) p))
+let-in-none i n frame t p v h =
+    let u = object (Source (i + 1) 0) in
+    let l = take n (waiters u p) in
+    noted-none (changedAll served l p) (kept-none p _ (rest-objects p _ (changed-rest served l p)) (λ o some. all-part o some served (λ x. inl refl) l p (v .lists) (firsts-created frame t p v u n)) h)
+
+module _ (c : Context) (p : Partition) (v : Valid (c .frame) (c .time) p) (s : SoundContext c p) (none : NoneWaits p) (x : Port) (n : ℕ) where
+  changed-none : (a b : Change) (value : ℕ) → SoundDecision c p (Changed a b value) → Orderly c p (Changed a b value) → Fair x n p (Changed a b value) → NoneWaits (applied b (applied a p))
+  changed-none a b value h g f kind k t =
       let o = queueNumber kind k in
       let some = number-some kind k (applied b (applied a p)) t in
       let w = change-valid c s p v a (h .0) in
@@ -486,12 +584,12 @@ module _ (c : Context) (p : Partition) (v : Valid (c .frame) (c .time) p) (s : S
       (λ e. e)
       (f kind k t)
 
-  blocked-none : (id : ℕ) (x : Process) → SoundDecision c p (Blocked id x) → Orderly c p (Blocked id x) → Fair p (Blocked id x) → NoneWaits (stored id x p)
-  blocked-none id x h g f kind k t =
+  blocked-none : (id : ℕ) (y : Process) → SoundDecision c p (Blocked id y) → Orderly c p (Blocked id y) → Fair x n p (Blocked id y) → NoneWaits (stored id y p)
+  blocked-none id y h g f kind k t =
       let o = queueNumber kind k in
-      let e = sym (available-same p _ (rest-objects p _ (stored-rest p id x)) kind k) ∙ t in
+      let e = sym (available-same p _ (rest-objects p _ (stored-rest p id y)) kind k) ∙ t in
       let q : Caller id p = rw (g .0) (normal-caller c p v s (g .1)) in
-      joins-last o (number-some kind k (stored id x p) t) p (v .lists) id (h .0) x (q .isReady) ∙ rw (none kind k e, f kind k e)
+      joins-last o (number-some kind k (stored id y p) t) p (v .lists) id (h .0) y (q .isReady) ∙ rw (none kind k e, f .0 kind k e)
 
 nothing-none : (mode : ℕ) → NoneWaits (nothingCreated mode)
 unfolding waiters kept
@@ -509,17 +607,28 @@ module _ (m : Module) (s : SoundModule m) (none : (i : ℕ) → i < m .table .si
     here : k - 1 < m .table .size
     here = place m s r q
 
-    puts : (p : Partition) → NoneWaits p → (i : ℕ) → i < m .table .size → NoneWaits (getD (set (m .partitions) (k - 1) (noted p)) i noPartition)
-    puts p h i l = at-set (λ _ p. NoneWaits p) (m .partitions) (k - 1) (noted p) noPartition (omega (arith, here, s .partitionsSize, s .table .size .1)) i (noted-none p h) (λ _. none i l)
+    puts : (j : ℕ) → j < m .table .size → (p : Partition) → NoneWaits p → (i : ℕ) → i < m .table .size → NoneWaits (getD (set (m .partitions) j (noted p)) i noPartition)
+    puts j in-place p h i l = at-set (λ _ p. NoneWaits p) (m .partitions) j (noted p) noPartition (omega (arith, in-place, s .partitionsSize, s .table .size .1)) i (noted-none p h) (λ _. none i l)
 
-    decided-none : (d : Decision) → SoundDecision (contextOf m k) now d → Bodily (portOf m k r) (numberOf (r .call)) d → Orderly (contextOf m k) now d → Fair now d → (i : ℕ) → i < m .table .size → NoneWaits (part (moduleAfter m k d) i)
+    decided-none : (d : Decision) → SoundDecision (contextOf m k) now d → Bodily (portOf m k r) (numberOf (r .call)) d → Orderly (contextOf m k) now d → Fair (portOf m k r) (numberOf (r .call)) now d → (i : ℕ) → i < m .table .size → NoneWaits (part (moduleAfter m k d) i)
     decided-none (Refused n) h b g f = none
     decided-none (Unchanged n e) h b g f = none
     decided-none Ticked h b g f = absurd b
-    decided-none (Blocked id x) h b g f = puts (stored id x now) (blocked-none (contextOf m k) now (s .eachPartition (k - 1) here) (context-sound m s r q) (none (k - 1) here) id x h g f)
-    decided-none (Changed x y n) h b g f = puts (applied y (applied x now)) (changed-none (contextOf m k) now (s .eachPartition (k - 1) here) (context-sound m s r q) (none (k - 1) here) x y n h g f)
-    decided-none (Restarted mode) h b g f = puts (nothingCreated mode) (nothing-none mode)
+    decided-none (Blocked id x) h b g f = puts (k - 1) here (stored id x now) (blocked-none (contextOf m k) now (s .eachPartition (k - 1) here) (context-sound m s r q) (none (k - 1) here) (portOf m k r) (numberOf (r .call)) id x h g f)
+    decided-none (Changed x y n) h b g f = puts (k - 1) here (applied y (applied x now)) (changed-none (contextOf m k) now (s .eachPartition (k - 1) here) (context-sound m s r q) (none (k - 1) here) (portOf m k r) (numberOf (r .call)) x y n h g f)
+    decided-none (Restarted mode) h b g f =
+        let u = erasedTo k channelLimit m in
+        let p = nothingCreated mode in
+        refilled-keeps (λ _ x. NoneWaits x) k (withPart (k - 1) p u) (part-sound u (erased-sound k channelLimit m (omega arith) s) (k - 1) here p (nothing-valid (m .table .frame) (m .t) mode h)) channelLimit (λ i _ _. let-in-none i) (puts (k - 1) here p (nothing-none mode))
     decided-none (Written j x) h b g f = none
+    decided-none (PassedOn j a n) h b g f =
+        let t = transfer-sound m s r q j a n b in
+        let w = on-queue m s r q j a n b in
+        let e = otherEnd k (channel (m .table) j) - 1 in
+        let v = s .eachPartition e (w .inside) in
+        by-test (λ (x : Module). (i : ℕ) → i < m .table .size → NoneWaits (part x i)) (endsWait a)
+        (λ _. puts e (w .inside) (endedBy a (part m e)) (kept-none (part m e) _ (ended-objects a (part m e)) (λ o some. ended-part o some (part m e) (v .lists) a (t .2)) (none e (w .inside))))
+        (λ _. none)
 
   pub event-none : (r : Request) (i : ℕ) → i < m .table .size → NoneWaits (part (moduleAfter m (numberOf (r .partition)) (decision m r)) i)
   unfolding plainTick
@@ -535,7 +644,7 @@ module _ (m : Module) (s : SoundModule m) (none : (i : ℕ) → i < m .table .si
       let here = place m s r q in
       decided-none r q (made m s r q) (made-sound m s r q) (made-body m s r q)
       (call-order (contextOf m n) (part m (n - 1)) (portOf m n r) (numberOf (r .call)) r .is)
-      (call-fair (contextOf m n) (part m (n - 1)) (s .eachPartition (n - 1) here) (context-sound m s r q) (portOf m n r) (numberOf (r .call)) r .is))
+      (call-fair (contextOf m n) (part m (n - 1)) (s .eachPartition (n - 1) here) (context-sound m s r q) (portOf m n r) (port-sound m s r q .placed) (numberOf (r .call)) r .is))
 
 fresh-none : NoneWaits freshPartition
 unfolding freshPartition waiters kept

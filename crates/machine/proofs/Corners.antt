@@ -420,11 +420,11 @@ module _ (m : Module) (k : ℕ) (u : SoundModule m) (h : Calling m k) where
   -- ---------------------------------------------------------------- reading a channel
   age-corner : (i : ℕ) → let x = M.message m (i - 1) in
       let refresh = M.channel (m .table) (i - 1) .refresh in
-      Between 1 (m .table .channelCount) i → M.channel (m .table) (i - 1) .destination ≡ k → x .present ≡ true
+      Between 1 (m .table .channelCount) i → M.channel (m .table) (i - 1) .size ≡ 0 → M.channel (m .table) (i - 1) .destination ≡ k → x .present ≡ true
       → (m .t ≡ x .written + refresh → Gives m (callBy k 22 (pos i) (pos 0) (pos 0) (pos 0)) 0 (x .value) (At 1) m)
       × (m .t ≡ x .written + refresh + 1 → Gives m (callBy k 22 (pos i) (pos 0) (pos 0) (pos 0)) 0 (x .value) (At 0) m)
   unfolding Sv.callDecision Sv.services Pl.strayField Ch.read Ch.channelChecks D.checked
-  age-corner i b d here =
+  age-corner i b sampling d here =
       let x = M.message m (i - 1) in
       let c = M.channel (m .table) (i - 1) in
       let n = field-number i (omega (arith, b .1, u .table .channelCount)) in
@@ -432,8 +432,8 @@ module _ (m : Module) (k : ℕ) (u : SoundModule m) (h : Calling m k) where
       let a : Ch.apart k c ≡ false = rw e (and-false (not (eqb (c .source) k))) in
       let lo = le-leb 1 i (b .0) in
       let hi = le-leb i (m .table .channelCount) (b .1) in (
-        λ t. gives m k u h 22 (pos i) (pos 0) (pos 0) (pos 0) (omega arith) (omega arith) refl (Unchanged (x .value) (At 1)) (rw (n, lo, hi, a, e, here, le-leb (m .t - x .written) (c .refresh) (omega arith))),
-        λ t. gives m k u h 22 (pos i) (pos 0) (pos 0) (pos 0) (omega arith) (omega arith) refl (Unchanged (x .value) (At 0)) (rw (n, lo, hi, a, e, here, lt-leb (m .t - x .written) (c .refresh) (omega arith))),
+        λ t. gives m k u h 22 (pos i) (pos 0) (pos 0) (pos 0) (omega arith) (omega arith) refl (Unchanged (x .value) (At 1)) (rw (n, lo, hi, sampling, a, e, here, le-leb (m .t - x .written) (c .refresh) (omega arith))),
+        λ t. gives m k u h 22 (pos i) (pos 0) (pos 0) (pos 0) (omega arith) (omega arith) refl (Unchanged (x .value) (At 0)) (rw (n, lo, hi, sampling, a, e, here, lt-leb (m .t - x .written) (c .refresh) (omega arith))),
       )
 
   -- ---------------------------------------------------------------- time-out 0

@@ -11,9 +11,9 @@ use borrow.Author.Tests.{eq-eqb, ne-eqb, lt-ltb, le-ltb, ltb-false, le-leb, leb-
 use Rattle.machine.specs.declared.Process.{Process}
 use Rattle.machine.specs.declared.Partition.{Partition}
 use Rattle.machine.specs.declared.Blackboard.{Blackboard as BlackboardT}
-use Rattle.machine.specs.declared.QueueChange.{QueueChange}
-use Rattle.machine.specs.declared.QueueChange.the-variants.{Put, Taken, Exchanged}
-use Rattle.machine.specs.declared.Change.the-variants.{Nothing, Stored, Moved, StoredBlackboard, Handed}
+use Rattle.machine.specs.declared.Transfer.{Transfer}
+use Rattle.machine.specs.declared.Transfer.the-variants.{Put, Taken, LetIn}
+use Rattle.machine.specs.declared.Change.the-variants.{Nothing, Moved, StoredBlackboard, Handed}
 use Rattle.machine.specs.declared.Decision.{Decision}
 use Rattle.machine.specs.declared.Decision.the-variants.{Unchanged, Changed}
 use Rattle.machine.specs.declared.Wait.the-variants.{Sending, Receiving, Blackboard}
@@ -23,11 +23,11 @@ use Rattle.machine.specs.declared.Event.{Event as EventT}
 use Rattle.machine.specs.declared.Module.{Module}
 use Rattle.machine.specs.Limits.{blackboardLimit, durationLimit}
 use Rattle.machine.specs.Fields.{field, isMessage, isTimeout}
-use Rattle.machine.specs.Messages.{held, first}
+use Rattle.machine.specs.Messages.{held, first, sent, received}
 use Rattle.machine.specs.Process.{object, carried, served, handed}
-use Rattle.machine.specs.Partition.{noBlackboard, process, buffer, blackboard, withBlackboards, stored, storedBlackboard, waiters, changedAll, applied}
+use Rattle.machine.specs.Partition.{noBlackboard, process, buffer, blackboard, withBlackboards, stored, storedBuffer, movedIn, storedBlackboard, waiters, firstWaiter, changedAll, applied}
 use Rattle.machine.specs.Decisions.{checked, changed, awaiting}
-use Rattle.machine.specs.Buffers.{hasRoom, holds, sent, sendBuffer, received, receiveBuffer}
+use Rattle.machine.specs.Buffers.{hasRoom, holds, sendBuffer, receives, receiveBuffer}
 use Rattle.machine.specs.Blackboards.{show, readBlackboard, clear}
 use Rattle.machine.specs.Services.{services, callDecision}
 use Rattle.machine.specs.Places.{strayField}
@@ -84,20 +84,20 @@ module _ (m : Module) (k : ℕ) (u : SoundModule m) (h : Calling m k) where
     abbrev size : length messages ≡ buffer j p .queue .len
     size = Mo.size (m .table .frame) (m .t) p valid j b
 
-    abbrev moving : QueueChange → Partition
-    moving a = applied (Moved j a) p
+    abbrev moving : Transfer → Partition
+    moving a = storedBuffer j (movedIn a (buffer j p)) p
 
     send-waits : (x : ℕ) (a : ℤ) → buffer j p .queue .len ≡ buffer j p .limit → x ≤ durationLimit → WaitsFor a → Queued m k (callBy k 24 (pos j) (pos x) a (pos 0)) (Sending j x)
     unfolding callDecision services strayField sendBuffer
     send-waits x a full ok t =
-        queued-last m k u h 24 j (p .bufferCount) (pos x) a a (Sending j x) (omega arith) (omega arith) (λ e. omega arith) (changed (sent (waiters (object (Receiving j)) p) j x p)) refl
+        queued-last m k u h 24 j (p .bufferCount) (pos x) a a (Sending j x) (omega arith) (omega arith) (λ e. omega arith) (changed (Moved j (sent (firstWaiter (object (Receiving j)) p) x))) refl
         (rw (is-field, field-number x (omega arith), a-message x ok, le-ltb (buffer j p .queue .len) (buffer j p .limit) (omega (arith, full)))) b normal t
 
     receive-waits : (a : ℤ) → messages ≡ [] → WaitsFor a → Queued m k (callBy k 25 (pos j) a (pos 0) (pos 0)) (Receiving j)
     unfolding callDecision services strayField receiveBuffer
     receive-waits a empty t =
         let none : buffer j p .queue .len ≡ 0 = sym size ∙ ap length empty in
-        queued-last m k u h 25 j (p .bufferCount) a (pos 0) a (Receiving j) (omega arith) (omega arith) (λ e. omega arith) (received (waiters (object (Sending j 0)) p) j p) refl
+        queued-last m k u h 25 j (p .bufferCount) a (pos 0) a (Receiving j) (omega arith) (omega arith) (λ e. omega arith) (receives (firstWaiter (object (Sending j 0)) p) j p) refl
         (rw (is-field, le-ltb 0 (buffer j p .queue .len) (omega (arith, none)))) b normal t
 
     -- SEND
@@ -105,10 +105,10 @@ module _ (m : Module) (k : ℕ) (u : SoundModule m) (h : Calling m k) where
       abbrev sends : EventT
       sends = callBy k 24 (pos j) (pos x) a (pos 0)
 
-      send-gives : (l : List ℕ) → waiters (object (Receiving j)) p ≡ l → hasRoom (buffer j p) ≡ true → Gives m sends 0 0 (At 0) (withPart (k - 1) (applied (sent l j x p) p) m)
+      send-gives : (l : List ℕ) → waiters (object (Receiving j)) p ≡ l → hasRoom (buffer j p) ≡ true → Gives m sends 0 0 (At 0) (withPart (k - 1) (applied (Moved j (sent (getD l 0 0) x)) p) m)
       unfolding callDecision services strayField sendBuffer awaiting checked
       send-gives l e room =
-          gives m k u h 24 (pos j) (pos x) a (pos 0) (omega arith) (omega arith) refl (changed (sent l j x p))
+          gives m k u h 24 (pos j) (pos x) a (pos 0) (omega arith) (omega arith) refl (changed (Moved j (sent (getD l 0 0) x)))
           (rw (is-field, field-number x (omega arith), known m k u h j (p .bufferCount) b, eq-eqb (p .mode) 3 normal, a-message x ok, time-out a t, room, e))
 
       send-first : (id : ℕ) (rest : List ℕ) → waiters (object (Receiving j)) p ≡ id ∷ rest → FirstServed m k sends (object (Receiving j)) id rest x × SameObjects p (own (step m sends .state) k)
@@ -116,7 +116,10 @@ module _ (m : Module) (k : ℕ) (u : SoundModule m) (h : Calling m k) where
       send-first id rest e =
           let none : buffer j p .queue .len ≡ 0 = either (holds (buffer j p)) (λ s. absurd (cons-not id rest (sym e ∙ none-waits m (h .reached) (k - 1) (calling-place m k u h) 4 j s))) (λ s. omega (arith, ltb-false 0 (buffer j p .queue .len) s)) in
           let g = send-gives (id ∷ rest) e (lt-ltb (buffer j p .queue .len) (buffer j p .limit) (omega (arith, none, sound .limit .0))) in
-          let q = stored id (handed x (process id p)) p in (
+          let q = stored id (handed x (process id p)) p in
+          let c = first-created (object (Receiving j)) (λ z. omega arith) p (valid .lists) id rest e in
+          let is : applied (Moved j (sent id x)) p ≡ q = rw (ne-eqb id 0 (λ z. omega (arith, c .0)), Mo.handed-same (m .table .frame) (m .t) p valid j b id x) in
+          let g = rw is at g in (
             first-served-by m k u h (object (Receiving j)) (λ z. omega arith) p (valid .lists) (λ _. refl) (handed x) (ends-handed x) id rest e 0 sends g,
             rw (own-after m k u h q g) (noted-objects p q (rest-objects p q (stored-rest p id (handed x (process id p))))),
           )
@@ -141,7 +144,7 @@ module _ (m : Module) (k : ℕ) (u : SoundModule m) (h : Calling m k) where
       value-is : first (buffer j p .queue) ≡ x
       value-is = queue-first (buffer j p .limit) (buffer j p .queue) (sound .queue) ∙ ap (λ (r : List ℕ). getD r 0 0) first-is
 
-      takes-as : (w : List ℕ) (d : Decision) → waiters (object (Sending j 0)) p ≡ w → received w j p ≡ d → decides m k u h 25 (pos j) a (pos 0) (pos 0) (omega arith) (omega arith) ≡ d
+      takes-as : (w : List ℕ) (d : Decision) → waiters (object (Sending j 0)) p ≡ w → receives (getD w 0 0) j p ≡ d → decides m k u h 25 (pos j) a (pos 0) (pos 0) (omega arith) (omega arith) ≡ d
       unfolding callDecision services receiveBuffer awaiting checked
       takes-as w d e is =
           rw (is-field, known m k u h j (p .bufferCount) b, eq-eqb (p .mode) 3 normal, time-out a t, lt-ltb 0 (buffer j p .queue .len) some, e) is
@@ -151,13 +154,16 @@ module _ (m : Module) (k : ℕ) (u : SoundModule m) (h : Calling m k) where
       unfolding received strayField services
       receive-first id rest e =
           let o = object (Sending j 0) in
-          let c = Exchanged (carried (process id p)) in
+          let c = LetIn id (carried (process id p)) in
           let r = moving c in
           let y = served (process id p) in
           let q = stored id y r in
+          let in-list = first-created o (λ z. omega arith) p (valid .lists) id rest e in
+          let is : applied (Moved j c) p ≡ q = ap (λ (z : Process). stored id (served z) r) (Mo.moving-process (m .table .frame) (m .t) p valid j b c id) in
           let queue : waiters o r ≡ id ∷ rest = Mo.moving-queue (m .table .frame) (m .t) p valid j b c o (λ z. omega arith) ∙ e in
-          let small = carried-sound _ (process id p) (valid .eachProcess id (first-created o (λ z. omega arith) p (valid .lists) id rest e)) in
-          let g = gives m k u h 25 (pos j) a (pos 0) (pos 0) (omega arith) (omega arith) refl (Changed (Moved j c) (Stored id y) (first (buffer j p .queue))) (takes-as (id ∷ rest) _ e refl) in (
+          let small = carried-sound _ (process id p) (valid .eachProcess id in-list) in
+          let g = gives m k u h 25 (pos j) a (pos 0) (pos 0) (omega arith) (omega arith) refl (Changed (Moved j c) Nothing (first (buffer j p .queue))) (takes-as (id ∷ rest) _ e (rw (ne-eqb id 0 (λ z. omega (arith, in-list .0))))) in
+          let g = rw is at g in (
             first-served-by m k u h o (λ z. omega arith) r (Mo.moving-listed (m .table .frame) (m .t) p valid j b c) (Mo.moving-process (m .table .frame) (m .t) p valid j b c) served ended-is id rest queue (first (buffer j p .queue)) takes g,
             g .valueIs ∙ value-is,
             rw (own-after m k u h q g) (Mo.moving-stored (m .table .frame) (m .t) p valid j b c id y (some, small) ∙ ap (λ (s : List ℕ). drop 1 s ++ (carried (process id p) ∷ [])) first-is),

@@ -2,25 +2,32 @@
 use Prim.Native.Nat.{ℕ, zero, suc, _+_, _-_, _<_, _≤_}
 use mathlib.Core.Path.{_≡_, refl, sym, ap, ap₂, _∙_, subst}
 use mathlib.Core.Bool.{Bool, true, false, cond, not, _&&_, _||_, true≢false}
-use mathlib.Core.List.{List, [], _∷_}
+use mathlib.Core.List.{List, [], _∷_, map}
+use mathlib.Core.Logic.{_⊎_, ⊎-elim}
 use native.Mathlib.Omega.{arith}
 use lib.Dec.{eqb, ltb, leb}
 use lib.IntN.{ℤ, pos, negsuc}
-use borrow.Author.Tests.{eqb-true, eqb-false, ne-eqb, not-false}
+use borrow.Author.Tests.{eqb-true, eqb-false, ltb-true, ne-eqb, not-true, not-false}
 use Rattle.machine.specs.declared.Partition.{Partition}
 use Rattle.machine.specs.declared.Table.{Table}
 use Rattle.machine.specs.declared.Module.{Module}
 use Rattle.machine.specs.declared.Message.{Message}
+use Rattle.machine.specs.declared.Queue.{Queue}
+use Rattle.machine.specs.declared.Channel.{Channel}
+use Rattle.machine.specs.declared.Traffic.{Traffic}
+use Rattle.machine.specs.declared.Transfer.{Transfer}
+use Rattle.machine.specs.declared.Wait.the-variants.{Source, Destination}
 use Rattle.machine.specs.declared.Field.{Field}
 use Rattle.machine.specs.declared.Field.the-variants.{Number, MinusOne, Other}
 use Rattle.machine.specs.declared.Event.{Event}
 use Rattle.machine.specs.declared.Request.{Request}
 use Rattle.machine.specs.declared.EventRecord.{EventRecord}
 use Rattle.machine.specs.declared.Decision.{Decision}
-use Rattle.machine.specs.declared.Decision.the-variants.{Refused, Unchanged, Ticked, Blocked, Changed, Restarted, Written}
+use Rattle.machine.specs.declared.Decision.the-variants.{Refused, Unchanged, Ticked, Blocked, Changed, Restarted, Written, Passed}
 use Rattle.machine.specs.Limits.{greatestTime, channelLimit, callLimit}
 use Rattle.machine.specs.Fields.{field, requestOf, isNumber, between, numberOf}
-use Rattle.machine.specs.Partition.{running, partitionAfter}
+use Rattle.machine.specs.Process.{object, carried}
+use Rattle.machine.specs.Partition.{process, waiters, running, partitionAfter}
 use Rattle.machine.specs.Decisions.{checked, replyOf}
 use Rattle.machine.specs.Services.{callDecision}
 use Rattle.machine.specs.Windows as Wi
@@ -31,12 +38,13 @@ use Rattle.machine.specs.Places as Pl
 use Rattle.machine.specs.Step as St
 use Rattle.machine.specs.LeftRight.{next, answeredEvent, after, isZero, memberOf, isTick, common, shown, commonAnswers, Within, Closed, EqualIn, LeftRight}
 use Rattle.machine.specs.TwoRuns.{Unwinding, two-runs, keep}
-use Rattle.machine.proofs.Tests.{by-tests, by-checks₂, or-left, or-right, not-both}
+use Rattle.machine.proofs.Tests.{by-tests, by-checks₂, and-left, and-right, or-left, or-right, not-both}
 use Rattle.machine.proofs.Fields.{in-limits, between-zero}
 use Rattle.machine.proofs.Dispatch.{by-event}
-use Rattle.machine.proofs.Bodies.{FromSource, Bodily, call-body}
+use Rattle.machine.proofs.Bodies.{FromSource, Sends, Receives, OnQueue, Bodily, call-body}
+use Rattle.machine.proofs.Bounds.{either}
 use Rattle.machine.proofs.Refusals.{call-in-range}
-use Rattle.machine.proofs.Agree.{Agree, agree-same, agree-back, agree-along, part-both, part-free, message-both, message-free, time-both, tick-both, erase-both, erase-free}
+use Rattle.machine.proofs.Agree.{Agree, agree-same, agree-back, agree-along, part-both, part-free, message-both, message-free, passed-both, passed-free, time-both, tick-both, erase-both, erase-free, source-some, destination-some, ends, source-in, refill-both, refill-free}
 
 pub one-less : (k : ℕ) → eqb k 0 ≡ false → suc (k - 1) ≡ k
 one-less k q = let h : k ≡ 0 → ⊥ = eqb-false k 0 q in omega arith
@@ -91,9 +99,37 @@ module _ (T : Table) (S : ℕ → Bool) (closed : Closed T S) where
   current-both m n a = ap₂ (λ (x : Table) (t : ℕ). Wi.lookup x t .partition) (tables m n a) (a .time)
 
   -- ------------------------------------------------------------ an event of a partition in S, or a tick, on two sides
-  -- a partition in S sees the same of a channel: of a message only what lies on a channel into S
+  -- a partition at an end of a queuing channel, in S: so is the other end
+  end-in : (k i : ℕ) → Ch.seesTraffic T k i ≡ true → S k ≡ true → (S (M.channel T i .destination) ≡ true) × (S (suc (Ch.otherEnd k (M.channel T i) - 1)) ≡ true)
+  end-in k i t s =
+      let c = M.channel T i in
+      let g = and-left (Ch.queuingAt T i) _ t in
+      let l = ltb-true i (T .channelCount) (and-left (ltb i (T .channelCount)) _ g) in
+      let q = and-right (ltb i (T .channelCount)) _ g in
+      let two = ends T S closed i l q in
+      either (eqb (c .source) k)
+      (λ e.
+      let d : S (c .destination) ≡ true = sym two ∙ ap S (eqb-true _ k e) ∙ s in
+      (d, rw e (ap S (destination-some c q) ∙ d)))
+      (λ e.
+      let at : (not (eqb (c .source) k) && not (eqb (c .destination) k)) ≡ false = not-true _ (and-right (Ch.queuingAt T i) _ t) in
+      let d : S (c .destination) ≡ true = ap S (eqb-true _ k (not-false _ (rw e at at))) ∙ s in
+      (d, rw e (ap S (source-some c q) ∙ two ∙ d)))
+
+  -- it sees the same traffic there
+  traffic-both : (m n : Module) (k i : ℕ) → Agree T S m n → S k ≡ true → Ch.trafficAt m k i ≡ Ch.trafficAt n k i
+  traffic-both m n k i a s =
+      by-tests (λ (x y : Traffic). x ≡ y) _ _ (ap (λ (x : Table). Ch.seesTraffic x k i) (tables m n a))
+      (λ t.
+      let h = end-in k i (ap (λ (x : Table). Ch.seesTraffic x k i) (sym (a .left)) ∙ t) s in
+      let p : M.part m (Ch.otherEnd k (M.channel (m .table) i) - 1) ≡ M.part n (Ch.otherEnd k (M.channel (m .table) i) - 1) = a .parts _ (ap (λ (x : Table). S (suc (Ch.otherEnd k (M.channel x i) - 1))) (a .left) ∙ h .1) in
+      ap₂ (λ (q : Queue) (p : Partition). Ch.trafficOf q (Ch.otherQueue k i (M.channel (m .table) i)) p) (a .queues i (h .0)) p
+      ∙ ap (λ (x : Table). Ch.trafficOf (M.queue n i) (Ch.otherQueue k i (M.channel x i)) (M.part n (Ch.otherEnd k (M.channel x i) - 1))) (tables m n a))
+      (λ _. refl)
+
+  -- a partition in S sees the same of a channel: of a message only what lies on a channel into S, of traffic only that between partitions of S
   port-both : (m n : Module) (k : ℕ) (r : Request) → Agree T S m n → S k ≡ true → Ch.portOf m k r ≡ Ch.portOf n k r
-  port-both m n k r a s = ap₂ (λ (x : Table) (y : Message). record { own = k; place = i; exists = between 1 (x .channelCount) (r .a); channel = M.channel x i; message = y }) (tables m n a) same
+  port-both m n k r a s = λ t. record { own = k; place = i; exists = between 1 (tables m n a t .channelCount) (r .a); channel = M.channel (tables m n a t) i; message = same t; traffic = traffic-both m n k i a s t }
     where
       i : ℕ
       i = numberOf (r .a) - 1
@@ -128,8 +164,9 @@ module _ (T : Table) (S : ℕ → Bool) (closed : Closed T S) where
   after-both m n k Ticked a p = tick-done-both m n a
   after-both m n k (Blocked id x) a p = part-both T S m n (k - 1) _ _ a (λ s. ap (partitionAfter (Blocked id x)) (p s))
   after-both m n k (Changed x y v) a p = part-both T S m n (k - 1) _ _ a (λ s. ap (partitionAfter (Changed x y v)) (p s))
-  after-both m n k (Restarted mode) a p = part-both T S _ _ (k - 1) _ _ (erase-both T S k channelLimit m n a) (λ s. refl)
+  after-both m n k (Restarted mode) a p = refill-both T S closed k channelLimit _ _ (part-both T S _ _ (k - 1) _ _ (erase-both T S k channelLimit m n a) (λ s. refl))
   after-both m n k (Written i x) a p = message-both T S m n i x x a (λ s. refl)
+  after-both m n k (Passed i x v) a p = passed-both T S m n k i x a
 
   -- ------------------------------------------------------------ a free event on one side
   -- the source of a channel into S is in S: a partition outside S leaves no message there
@@ -149,8 +186,23 @@ module _ (T : Table) (S : ℕ → Bool) (closed : Closed T S) where
       source = ap₂ (λ (x : Table) (j : ℕ). M.channel x j .source) (sym e) (w .place) ∙ w .source
 
       go : (v : Bool) → S (M.channel T i .destination) ≡ v → v ≡ false
-      go true q = not-both (S k) (ap S (sym source) ∙ closed i there q) f
+      go true q = not-both (S k) (ap S (sym source) ∙ source-in T S closed i there q) f
       go false q = refl
+
+  -- a partition outside S makes its transfers with partitions outside S
+  apart-from : (m : Module) (k : ℕ) (r : Request) (i : ℕ) (x : Transfer) (v : ℕ) → m .table ≡ T → S k ≡ false → OnQueue (Ch.portOf m k r) (numberOf (r .call)) i x v
+      → (S (M.channel T i .destination) ≡ false) × (S (suc (Ch.otherEnd k (M.channel (m .table) i) - 1)) ≡ false)
+  apart-from m k r i x v e f w =
+      let c = M.channel T i in
+      let b = in-limits 1 (m .table .channelCount) (r .a) (w .there) in
+      let count : m .table .channelCount ≡ T .channelCount = ap (λ (x : Table). x .channelCount) e in
+      let there : i < T .channelCount = omega (arith, w .place, b .0, b .1, count) in
+      let is : M.channel (m .table) (numberOf (r .a) - 1) ≡ c = ap₂ (λ (x : Table) (j : ℕ). M.channel x j) e (sym (w .place)) in
+      let q : Ch.queuing c ≡ true = ap Ch.queuing (sym is) ∙ w .kind in
+      let two = ends T S closed i there q in
+      let d : S (c .destination) ≡ false = ⊎-elim (λ (h : Sends (Ch.portOf m k r) (numberOf (r .call)) x v). sym two ∙ ap S (ap (λ (y : Channel). y .source) (sym is) ∙ h .source) ∙ f) (λ (h : Receives (Ch.portOf m k r) (numberOf (r .call)) x v). ap S (ap (λ (y : Channel). y .destination) (sym is) ∙ h .destination) ∙ f) (w .end) in
+      let o : S (suc (Ch.otherEnd k c - 1)) ≡ false = either (eqb (c .source) k) (λ t. rw t (ap S (destination-some c q) ∙ d)) (λ t. rw t (ap S (source-some c q) ∙ two ∙ d)) in
+      (d, ap (λ (x : Table). S (suc (Ch.otherEnd k (M.channel x i) - 1))) e ∙ o)
 
   after-free : (m : Module) (e : Event) → Agree T S m m → common S e ≡ false → Agree T S (St.moduleAfter m (numberOf (requestOf e .partition)) (St.decision m (requestOf e))) m
   after-free m e a c =
@@ -175,8 +227,9 @@ module _ (T : Table) (S : ℕ → Bool) (closed : Closed T S) where
       body-free m k r Ticked a f g w = absurd w
       body-free m k r (Blocked id y) a f g w = part-free T S m m (k - 1) _ a g
       body-free m k r (Changed b y v) a f g w = part-free T S m m (k - 1) _ a g
-      body-free m k r (Restarted mode) a f g w = part-free T S _ m (k - 1) _ (erase-free T S k channelLimit m m a f) g
+      body-free m k r (Restarted mode) a f g w = refill-free T S closed k channelLimit _ m (part-free T S _ m (k - 1) _ (erase-free T S k channelLimit m m a f) g) f
       body-free m k r (Written i y) a f g w = message-free T S m m i y a (unseen m k r i (a .left) f w)
+      body-free m k r (Passed i y v) a f g w = let h = apart-from m k r i y v (a .left) f w in passed-free T S m m k i y a (h .0) (h .1)
 
   -- ------------------------------------------------------------ the answer's last three numbers
   pub running-both : (m n : Module) → Agree T S m n → S (M.current m) ≡ true → M.runningIn (M.current m) m ≡ M.runningIn (M.current n) n
@@ -228,8 +281,18 @@ module _ (T : Table) (S : ℕ → Bool) (closed : Closed T S) where
     owner = current-both m n a;
     records = λ k s. let l = w k s .0 in a .parts (k - 1) (ap S (let h : suc (k - 1) ≡ k = omega arith in h) ∙ s);
     messages = λ i l s. a .inbound i s;
+    queues = λ i l q s. a .queues i s;
+    senders = λ i l q s. waits-both i (λ (p : Partition). map (λ id. (id, carried (process id p))) (waiters (object (Source (i + 1) 0)) p)) (λ (c : Channel). c .source) (ap S (source-some (M.channel T i) q) ∙ source-in T S closed i l s);
+    receivers = λ i l q s. waits-both i (λ (p : Partition). waiters (object (Destination (i + 1))) p) (λ (c : Channel). c .destination) (ap S (destination-some (M.channel T i) q) ∙ s);
     process = running-both m n a;
   }
+    where
+      -- what is read off the partition at one end of a channel
+      waits-both : {A : Type 0} (i : ℕ) (f : Partition → A) (end : Channel → ℕ) → S (suc (end (M.channel T i) - 1)) ≡ true
+          → f (M.part m (end (M.channel (m .table) i) - 1)) ≡ f (M.part n (end (M.channel (n .table) i) - 1))
+      waits-both i f end s =
+          ap f (a .parts (end (M.channel (m .table) i) - 1) (ap (λ (x : Table). S (suc (end (M.channel x i) - 1))) (a .left) ∙ s))
+          ∙ ap (λ (x : Table). f (M.part n (end (M.channel x i) - 1))) (tables m n a)
 
 -- Demand 3, for every record that both runs start from
 pub left-right : (m : Module) → LeftRight m

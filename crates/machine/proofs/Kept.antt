@@ -1,11 +1,11 @@
 -- The tick and every change keep a partition valid, what a call decides is sound, and a partition with nothing created is valid. Assumes
 -- nothing.
-use Prim.Native.Nat.{ℕ, _+_, _-_, _%_, _≤_, _<_, max}
+use Prim.Native.Nat.{ℕ, zero, suc, _+_, _-_, _%_, _≤_, _<_, max}
 use mathlib.Core.Path.{_≡_, refl, ap, sym, _∙_}
-use mathlib.Core.Bool.{Bool, true, false, not, _||_}
-use mathlib.Core.List.{List, [], _∷_}
+use mathlib.Core.Bool.{Bool, true, false, not, _||_, or-true}
+use mathlib.Core.List.{List, [], _∷_, map}
 use native.Mathlib.Omega.{arith}
-use lib.ListN.{set, replicate, length-replicate}
+use lib.ListN.{length, getD, set, take, replicate, length-replicate}
 use lib.Dec.{eqb, ltb, leb}
 use borrow.Author.Tests.{eq-eqb, ne-eqb, eqb-true, eqb-false, ltb-true, ltb-false, leb-false, not-true, not-false}
 use Rattle.machine.specs.declared.Given.{Given}
@@ -17,37 +17,41 @@ use Rattle.machine.specs.declared.Change.{Change}
 use Rattle.machine.specs.declared.Change.the-variants.{Nothing, Stored, Created, Last, StoredSemaphore, StoredEvent, CreatedBuffer, Moved, StoredBlackboard, Ended, Handed, Entered}
 use Rattle.machine.specs.declared.Port.{Port}
 use Rattle.machine.specs.declared.Decision.{Decision}
-use Rattle.machine.specs.declared.Decision.the-variants.{Refused, Unchanged, Ticked, Blocked, Changed, Restarted, Written}
+use Rattle.machine.specs.declared.Decision.the-variants.{Refused, Unchanged, Ticked, Blocked, Changed, Restarted, Written, Passed as PassedOn}
 use Rattle.machine.specs.declared.Semaphore.{Semaphore as SemaphoreT}
 use Rattle.machine.specs.declared.EventState.{EventState}
-use Rattle.machine.specs.declared.QueueChange.the-variants.{Exchanged}
+use Rattle.machine.specs.declared.Queue.{Queue}
+use Rattle.machine.specs.declared.Transfer.{Transfer}
+use Rattle.machine.specs.declared.Transfer.the-variants.{Put, HandedTo, Taken, LetIn}
 use Rattle.machine.specs.declared.Buffer.{Buffer}
 use Rattle.machine.specs.declared.Blackboard.{Blackboard as BlackboardT}
 use Rattle.machine.specs.declared.Request.{Request}
 use Rattle.machine.specs.declared.Field.{Field}
 use Rattle.machine.specs.declared.Field.the-variants.{Number, MinusOne, Other}
 use Rattle.machine.specs.declared.Wait.{Wait}
-use Rattle.machine.specs.declared.Wait.the-variants.{Timed, Semaphore, Event, Sending, Receiving, Blackboard}
+use Rattle.machine.specs.declared.Wait.the-variants.{Timed, Semaphore, Event, Sending, Receiving, Blackboard, Source, Destination}
 use Rattle.machine.specs.declared.Time.{Time}
 use Rattle.machine.specs.declared.Time.the-variants.{Never, At}
-use Rattle.machine.specs.Limits.{processLimit, semaphoreLimit, eventLimit, bufferLimit, messageLimit, blackboardLimit, nameLimit, priorityLimit, valueLimit, modeLimit, durationLimit, timeLimit, frameLimit, numberLimit, greatestValue}
+use Rattle.machine.specs.Limits.{processLimit, semaphoreLimit, eventLimit, bufferLimit, messageLimit, blackboardLimit, nameLimit, priorityLimit, valueLimit, modeLimit, durationLimit, timeLimit, frameLimit, channelLimit, numberLimit, greatestValue}
+use Rattle.machine.specs.Messages.{queueOf, sent, received}
 use Rattle.machine.specs.Ids.{members}
 use Rattle.machine.specs.Fields.{isNumber, between, isDuration, isMinusOne, isTimeout, isName, isMessage, numberOf, timeOf}
 use Rattle.machine.specs.Process.{Class, classOf, createdProcess, blankProcess, later, object, onObject, periodic, ready, carried, served, handed, withCurrent, entered, ticked}
-use Rattle.machine.specs.Partition.{normalMode, idleMode, byId, nothingCreated, noSemaphore, noEvent, noBuffer, noBlackboard, process, semaphore, buffer, blackboard, emptyBuffer, movedIn, withMode, stored, waitsOn, waiters, changedAll, each, running, tickPartition, enteredNormal, created, storedSemaphore, storedEvent, storedBuffer, storedBlackboard, applied, partitionAfter, freshPartition}
+use Rattle.machine.specs.Partition.{normalMode, idleMode, byId, nothingCreated, noSemaphore, noEvent, noBuffer, noBlackboard, process, semaphore, buffer, blackboard, emptyBuffer, movedIn, endedBy, withMode, stored, waitsOn, waiters, firstWaiter, changedAll, each, running, tickPartition, enteredNormal, created, storedSemaphore, storedEvent, storedBuffer, storedBlackboard, applied, partitionAfter, freshPartition}
 use Rattle.machine.specs.Calls.{setMode, isMultiple, above, isPriority, admissible, createProcess, reaches, start, stop, stopSelf, suspend, suspendSelf, timedWait, periodicWait, resume, setPriority, status, getStatus}
 use Rattle.machine.specs.Objects.{createSemaphore, createEvent, withValue, withUp, waitSemaphore, waitEvent, oneMore, signalled, signal, setEvent, resetEvent}
-use Rattle.machine.specs.Channels.{write, read}
-use Rattle.machine.specs.Buffers.{createBuffer, hasRoom, holds, sent, sendBuffer, received, receiveBuffer}
+use Rattle.machine.specs.Channels.{queuing, channelChecks, write, read, send, receive}
+use Rattle.machine.specs.Buffers.{createBuffer, sendBuffer, receiveBuffer}
 use Rattle.machine.specs.Blackboards.{createBlackboard, show, readBlackboard, clear}
 use Rattle.machine.specs.Services.{callDecision}
-use Rattle.machine.specs.Valid.{counted, Between, contains, Distinct, Tracks, Timeout, Ahead, SoundPeriod, SoundCapacity, NotAbove, Below, SoundGiven, SoundProcess, SoundSemaphore, SoundEvent, SoundBuffer, SoundBlackboard, AllMessages, Numbered, Family, KnownOrNext, ObjectsIn, ListedIn, settingOf, Valid, SoundContext, SoundMessage, SoundChange, SoundDecision, NotAfter, latestDeadline}
+use Rattle.machine.specs.Valid.{counted, Between, contains, Distinct, Tracks, Timeout, Ahead, SoundPeriod, SoundCapacity, NotAbove, Below, SoundGiven, SoundProcess, SoundSemaphore, SoundEvent, SoundBuffer, SoundBlackboard, AllMessages, SoundQueue, Numbered, Family, KnownOrNext, ObjectsIn, ListedIn, settingOf, Valid, SoundContext, SoundMessage, SoundMove, SoundEnd, SoundChange, SoundDecision, NotAfter, latestDeadline}
 use Rattle.machine.proofs.Tests.{by-test, by-tests, Passed, passed-parts, by-checks, not-both}
 use Rattle.machine.proofs.Bounds.{not-so, or-false-parts, and-true-parts, known-id, within-in, named-same, named-other, named-replicate, created-in, semaphore-in, event-in, buffer-in, blackboard-in, either}
 use Rattle.machine.proofs.Dispatch.{by-call}
+use Rattle.machine.proofs.Applied.{Placed}
 use Rattle.machine.proofs.Fields.{in-limits}
 use Rattle.machine.proofs.Tracking.{contains-kept, distinct-kept, tracks-same}
-use Rattle.machine.proofs.Messages.{queue-sound, moved-sound, first-sound}
+use Rattle.machine.proofs.Messages.{queue-sound, moved-in-sound, first-sound}
 use Rattle.machine.proofs.Keeping.{numbered-set, all-set, family-set, process-created, process-stored, each-rest, each-listed, each-process, AllCreated, changed-rest, changed-listed, changed-process, valid-of, stored-valid, arrived-valid}
 use Rattle.machine.proofs.Sound.{times-bounded, outside-normal, more-objects, ahead-later, created-sound, start-sound, entered-sound, early-sound, stopped-sound, suspended-sound, priority-sound, resumed-sound, ended-sound, handed-sound, carried-sound, ready-released, waiting-sound, suspends-sound, next-sound, ticked-sound, early-waits}
 use Rattle.machine.proofs.Running.{running-runs}
@@ -194,20 +198,92 @@ module _ (p : Partition) (v : ListedIn p) (o : ℕ) where
   pub waiters-created : AllCreated (waiters o p) (p .processCount)
   waiters-created id h = process-created onObject refl p v id (waiters-on id h)
 
+-- the first of a list is in it
+pub first-in : (l : List ℕ) → (getD l 0 0 ≡ 0 → ⊥) → contains (getD l 0 0) l ≡ true
+unfolding contains
+first-in [] some = absurd (some refl)
+first-in (x ∷ l) some = rw (eq-eqb x x refl)
+
+-- the first of a queue has been created, and waits on the object
+pub first-waits : (p : Partition) → ListedIn p → (o : ℕ) → (firstWaiter o p ≡ 0 → ⊥) → Between 1 (p .processCount) (firstWaiter o p) × (onObject (process (firstWaiter o p) p) ≡ true)
+first-waits p v o some =
+    let i = first-in (waiters o p) some in
+    (waiters-created p v o (firstWaiter o p) i, waiters-on p v o (firstWaiter o p) i)
+
+-- a send where there is room, and a receive where there is a message: to and from the first who waits on o in partition p
+pub sent-sound : (p : Partition) → ListedIn p → (o limit : ℕ) (q : Queue) (m : ℕ) → q .len < limit → m ≤ durationLimit → SoundMove limit q (sent (firstWaiter o p) m) × SoundEnd p (sent (firstWaiter o p) m)
+unfolding sent
+sent-sound p v o limit q m room few = by-test (λ (a : Transfer). SoundMove limit q a × SoundEnd p a) (eqb (firstWaiter o p) 0)
+    (λ _. ((room, few), tt))
+    (λ e. (few, first-waits p v o (eqb-false _ 0 e)))
+
+pub received-sound : (frame t : ℕ) (p : Partition) → Valid frame t p → (o limit : ℕ) (q : Queue) → 0 < q .len → let a = received (firstWaiter o p) (carried (process (firstWaiter o p) p)) in SoundMove limit q a × SoundEnd p a
+unfolding received
+received-sound frame t p v o limit q some = by-test (λ (a : Transfer). SoundMove limit q a × SoundEnd p a) (eqb (firstWaiter o p) 0)
+    (λ _. (some, tt))
+    (λ e. let f = first-waits p (v .lists) o (eqb-false _ 0 e) in ((some, carried-sound _ (process (firstWaiter o p) p) (v .eachProcess (firstWaiter o p) (f .0))), f))
+
+-- waits on objects end, each of these processes changed by f
+module _ (frame t : ℕ) (p : Partition) (v : Valid frame t p) (f : Process → Process)
+    (sound : (x : Process) → SoundProcess (settingOf frame t p) x → onObject x ≡ true → SoundProcess (settingOf frame t p) (f x)) where
+  pub changed-valid : (l : List ℕ) → AllCreated l (p .processCount) → Distinct l → ((id : ℕ) → contains id l ≡ true → onObject (process id p) ≡ true) → Valid frame t (changedAll f l p)
+  changed-valid l all once on =
+      valid-of frame t p (changedAll f l p) (changed-rest f l p) (v .mode) (v .objects) (changed-listed f l p (v .lists) all) (λ id b.
+      rw (changed-process f l p (v .lists) all once id) (by-test (SoundProcess (settingOf frame t p)) (contains id l)
+      (λ e. sound (process id p) (v .eachProcess id b) (on id e))
+      (λ _. v .eachProcess id b)))
+
+  all-valid : (o : ℕ) → Valid frame t (changedAll f (waiters o p) p)
+  all-valid o = changed-valid (waiters o p) (waiters-created p (v .lists) o) (waiters-distinct p (v .lists) o) (waiters-on p (v .lists) o)
+
+-- the first n of a list
+pub take-in : (n : ℕ) (l : List ℕ) (id : ℕ) → contains id (take n l) ≡ true → contains id l ≡ true
+unfolding contains
+take-in zero l id h = not-both _ h refl
+take-in (suc n) [] id h = h
+take-in (suc n) (x ∷ l) id h = either (eqb x id) (λ e. rw e) (λ e. rw e (take-in n l id (rw e at h)))
+
+take-distinct : (n : ℕ) (l : List ℕ) → Distinct l → Distinct (take n l)
+unfolding Distinct
+take-distinct zero l h = tt
+take-distinct (suc n) [] h = tt
+take-distinct (suc n) (x ∷ l) h = (not-so _ (λ e. not-both _ (take-in n l x e) (h .0)), take-distinct n l (h .1))
+
+-- the first n who wait on an object are let in
+module _ (frame t : ℕ) (p : Partition) (v : Valid frame t p) (o n : ℕ) where
+  abbrev firsts : List ℕ
+  firsts = take n (waiters o p)
+
+  pub firsts-created : AllCreated firsts (p .processCount)
+  firsts-created id h = waiters-created p (v .lists) o id (take-in n (waiters o p) id h)
+
+  pub firsts-distinct : Distinct firsts
+  firsts-distinct = take-distinct n (waiters o p) (waiters-distinct p (v .lists) o)
+
+  firsts-on : (id : ℕ) → contains id firsts ≡ true → onObject (process id p) ≡ true
+  firsts-on id h = waiters-on p (v .lists) o id (take-in n (waiters o p) id h)
+
+  pub let-in-valid : Valid frame t (changedAll served firsts p)
+  let-in-valid = changed-valid frame t p v served (λ x g on. ended-sound _ x g on) firsts firsts-created firsts-distinct firsts-on
+
+  -- their messages
+  carried-all : (l : List ℕ) → AllCreated l (p .processCount) → AllMessages (map (λ id. carried (process id p)) l)
+  unfolding AllMessages contains
+  carried-all [] all = tt
+  carried-all (id ∷ l) all = (carried-sound _ (process id p) (v .eachProcess id (all id (rw (eq-eqb id id refl)))), carried-all l (λ y c. all y (rw c (or-true (eqb id y)))))
+
+  length-firsts : (n : ℕ) (l : List ℕ) → length (map (λ id. carried (process id p)) (take n l)) ≤ n
+  length-firsts zero l = omega arith
+  length-firsts (suc n) [] = omega arith
+  length-firsts (suc n) (x ∷ l) = let h = length-firsts n l in omega arith
+
+  pub let-in-queue : SoundQueue n (queueOf (map (λ id. carried (process id p)) firsts))
+  let-in-queue = queue-sound n (map (λ id. carried (process id p)) firsts) (length-firsts n (waiters o p)) (carried-all firsts firsts-created)
+
 -- ---------------------------------------------------------------- the changes
 module _ (c : Context) (p : Partition) (v : Valid (c .frame) (c .time) p) where
   puts : (id : ℕ) → Between 1 (p .processCount) id → (x : Process) → SoundProcess (settingOf (c .frame) (c .time) p) x → Valid (c .frame) (c .time) (stored id x p)
   puts id b x s = stored-valid (c .frame) (c .time) p v id b x s
-
-  -- the waits on an object end, each process changed by f
-  all-valid : (f : Process → Process) → ((x : Process) → SoundProcess (settingOf (c .frame) (c .time) p) x → onObject x ≡ true → SoundProcess (settingOf (c .frame) (c .time) p) (f x)) → (o : ℕ) → Valid (c .frame) (c .time) (changedAll f (waiters o p) p)
-  all-valid f sound o =
-      let l = waiters o p in
-      let all = waiters-created p (v .lists) o in
-      valid-of (c .frame) (c .time) p (changedAll f l p) (changed-rest f l p) (v .mode) (v .objects) (changed-listed f l p (v .lists) all) (λ id b.
-      rw (changed-process f l p (v .lists) all (waiters-distinct p (v .lists) o) id) (by-test (SoundProcess (settingOf (c .frame) (c .time) p)) (contains id l)
-      (λ e. sound (process id p) (v .eachProcess id b) (waiters-on p (v .lists) o id e))
-      (λ _. v .eachProcess id b)))
 
   -- the next process, DORMANT
   new-process-valid : p .processCount < processLimit → (g : Given) → SoundGiven (c .frame) g → Valid (c .frame) (c .time) (created (p .processCount + 1) (createdProcess g) p)
@@ -240,6 +316,20 @@ module _ (c : Context) (p : Partition) (v : Valid (c .frame) (c .time) p) where
       valid-of (c .frame) (c .time) q (each f q) (each-rest f q (v .lists)) (omega arith) (v .objects) (each-listed f q (v .lists)) (λ id b.
       rw (each-process f q (v .lists) id b) (entered-sound c ends frame near true refl _ (c .time) (normalMode p) e (process id p) (v .eachProcess id b)))
 
+-- the wait that a transfer ends
+pub ended-valid : (frame t : ℕ) (p : Partition) → Valid frame t p → (limit : ℕ) (q : Queue) (a : Transfer) → SoundMove limit q a → SoundEnd p a → Valid frame t (endedBy a p)
+ended-valid frame t p v limit q (Put m) h e = v
+ended-valid frame t p v limit q (HandedTo id m) h e = stored-valid frame t p v id (e .0) _ (handed-sound _ (process id p) (v .eachProcess id (e .0)) (e .1) m h)
+ended-valid frame t p v limit q Taken h e = v
+ended-valid frame t p v limit q (LetIn id m) h e = stored-valid frame t p v id (e .0) _ (ended-sound _ (process id p) (v .eachProcess id (e .0)) (e .1))
+
+-- a partition with the same processes
+pub end-same : (p q : Partition) (a : Transfer) → q .processes ≡ p .processes → q .processCount ≡ p .processCount → SoundEnd p a → SoundEnd q a
+end-same p q (Put m) e f h = tt
+end-same p q (HandedTo id m) e f h = rw (e, f) h
+end-same p q Taken e f h = tt
+end-same p q (LetIn id m) e f h = rw (e, f) h
+
 -- each change keeps a partition valid; k says that the call was made at a sound time
 pub change-valid : (c : Context) {o : Partition} → SoundContext c o → (p : Partition) → Valid (c .frame) (c .time) p → (a : Change) → SoundChange c p a → Valid (c .frame) (c .time) (applied a p)
 change-valid c k p v Nothing h = v
@@ -250,10 +340,14 @@ change-valid c k p v (StoredSemaphore j s) h = semaphore-valid (c .frame) (c .ti
 change-valid c k p v (StoredEvent j e) h = event-valid (c .frame) (c .time) p v j (h .0) e (h .1)
 change-valid c k p v (CreatedBuffer j name limit) h = buffer-valid (c .frame) (c .time) p v j (h .0) (emptyBuffer name limit) (h .1)
 change-valid c k p v (Moved j a) h =
-    buffer-valid (c .frame) (c .time) p v j (known-next bufferLimit (p .bufferCount) j (h .0) (v .objects .buffers .numbered .few)) (movedIn a (buffer j p)) (moved-sound (buffer j p) (v .objects .buffers .each j (h .0)) a (h .1))
+    let q = movedIn a (buffer j p) in
+    let few = v .objects .buffers .numbered .few in
+    let w = buffer-valid (c .frame) (c .time) p v j (known-next bufferLimit (p .bufferCount) j (h .0) few) q (moved-in-sound (buffer j p) (v .objects .buffers .each j (h .0)) a (h .1)) in
+    let is = buffer-in j q p (within-in bufferLimit j (h .0 .0) (omega (arith, h .0 .1, few))) in
+    ended-valid (c .frame) (c .time) _ w (buffer j p .limit) (buffer j p .queue) a (h .1) (rw is (end-same p _ a refl refl (h .2)))
 change-valid c k p v (StoredBlackboard j s) h = blackboard-valid (c .frame) (c .time) p v j (h .0) s (h .1)
-change-valid c k p v (Ended o) h = all-valid c p v served (λ x g on. ended-sound _ x g on) o
-change-valid c k p v (Handed o m) h = all-valid c p v (handed m) (λ x g on. handed-sound _ x g on m h) o
+change-valid c k p v (Ended o) h = all-valid (c .frame) (c .time) p v served (λ x g on. ended-sound _ x g on) o
+change-valid c k p v (Handed o m) h = all-valid (c .frame) (c .time) p v (handed m) (λ x g on. handed-sound _ x g on m h) o
 change-valid c k p v (Entered d) h = rw (h .0) (entered-valid c p v (k .time) (k .frame .1) (k .near) (h .1))
 
 -- and so does each decision
@@ -265,6 +359,7 @@ decision-valid c p k v (Blocked id x) h = change-valid c k p v (Stored id x) h
 decision-valid c p k v (Changed a b n) h = change-valid c k (applied a p) (change-valid c k p v a (h .0)) b (h .1)
 decision-valid c p k v (Restarted mode) h = nothing-valid (c .frame) (c .time) mode h
 decision-valid c p k v (Written i x) h = v
+decision-valid c p k v (PassedOn i a n) h = v
 
 -- ---------------------------------------------------------------- the calls
 pub record Sound (c : Context) (p : Partition) (d : Decision) : Type 0 where
@@ -534,42 +629,28 @@ module _ (c : Context) (p : Partition) (v : Valid (c .frame) (c .time) p) (k : S
         omega arith,
       ))
 
-  sent-sound : (l : List ℕ) (j m : ℕ) → Between 1 (p .bufferCount) j → hasRoom (buffer j p) ≡ true → m ≤ durationLimit → ((id : ℕ) → contains id l ≡ true → onObject (process id p) ≡ true) → AllCreated l (p .processCount) → SoundChange c p (sent l j m p)
-  unfolding sent contains
-  sent-sound [] j m b room few on all = (b, (ltb-true _ _ room, few))
-  sent-sound (id ∷ l) j m b room few on all = let i : (eqb id id || contains id l) ≡ true = rw (eq-eqb id id refl) in (all id i, handed-sound _ (process id p) (v .eachProcess id (all id i)) (on id i) m few)
-
   pub send-sound : (j : ℕ) (m a : Field) → Sound c p (sendBuffer c j m a p)
   unfolding sendBuffer Passed
   send-sound j m a =
       let o = object (Receiving j) in
       let few : isMessage m ≡ true → numberOf m ≤ durationLimit = λ g. in-limits 0 durationLimit m g .1 in
       await-sound _ _ _ _ _ _ (Sending j (numberOf m)) 3 j (numberOf m) refl
-      (λ h g e. record { is = (sent-sound (waiters o p) j (numberOf m) (known-id j (p .bufferCount) (h .0)) e (few g) (waiters-on p (v .lists) o) (waiters-created p (v .lists) o), tt, omega arith) })
+      (λ h g e.
+      let b = buffer j p in
+      let t = sent-sound p (v .lists) o (b .limit) (b .queue) (numberOf m) (ltb-true _ _ e) (few g) in
+      record { is = ((known-id j (p .bufferCount) (h .0), t .0, t .1), tt, omega arith) })
       (λ h g. (known-id j (p .bufferCount) (h .0), few g))
-
-  received-sound : (l : List ℕ) (j : ℕ) → Between 1 (p .bufferCount) j → holds (buffer j p) ≡ true → ((id : ℕ) → contains id l ≡ true → onObject (process id p) ≡ true) → AllCreated l (p .processCount) → Sound c p (received l j p)
-  unfolding received contains
-  received-sound [] j b some on all = record { is = ((b, ltb-true 0 _ some), tt, omega (arith, first-sound (buffer j p) (v .objects .buffers .each j b))) }
-  received-sound (id ∷ l) j b some on all =
-      let i : (eqb id id || contains id l) ≡ true = rw (eq-eqb id id refl) in
-      let x = process id p in
-      let a = Exchanged (carried x) in
-      let e : max (p .bufferCount) j ≡ p .bufferCount = omega (arith, b .1) in
-      record {
-        is = (
-          (b, (ltb-true 0 _ some, carried-sound _ x (v .eachProcess id (all id i)))),
-          rw (buffer-in j (movedIn a (buffer j p)) p (within-in bufferLimit j (b .0) (omega (arith, b .1, v .objects .buffers .numbered .few))), e) (all id i, ended-sound _ x (v .eachProcess id (all id i)) (on id i)),
-          omega (arith, first-sound (buffer j p) (v .objects .buffers .each j b)),
-        );
-      }
 
   pub receive-sound : (j : ℕ) (a : Field) → Sound c p (receiveBuffer c j a p)
   unfolding receiveBuffer Passed
   receive-sound j a =
       let o = object (Sending j 0) in
       await-sound _ _ _ _ _ _ (Receiving j) 4 j 0 refl
-      (λ h _ e. received-sound (waiters o p) j (known-id j (p .bufferCount) (h .0)) e (waiters-on p (v .lists) o) (waiters-created p (v .lists) o))
+      (λ h _ e.
+      let b = buffer j p in
+      let k = known-id j (p .bufferCount) (h .0) in
+      let t = received-sound (c .frame) (c .time) p v o (b .limit) (b .queue) (ltb-true 0 _ e) in
+      record { is = ((k, t .0, t .1), tt, omega (arith, first-sound (b .limit) (b .queue) (v .objects .buffers .each j k .queue))) })
       (λ h _. (known-id j (p .bufferCount) (h .0), omega arith))
 
   -- ------------------------------------------------------------ blackboards
@@ -609,8 +690,33 @@ module _ (c : Context) (p : Partition) (v : Valid (c .frame) (c .time) p) (k : S
   read-sound x s = by-checks (Sound c p) Refused _ _ (λ n. record { is = tt }) (λ _. in-checks _ _ (λ _.
       (omega (arith, s .value), by-test (λ (n : ℕ). n ≤ numberLimit) (leb (c .time - x .message .written) (x .channel .refresh)) (λ _. omega arith) (λ _. omega arith))))
 
+  -- the place of a channel whose end a process waits at
+  place-known : (x : Port) → Placed x → (wanted : ℕ) → Passed (channelChecks x (not (queuing (x .channel))) wanted) → Between 1 channelLimit (x .place + 1)
+  unfolding channelChecks Passed
+  place-known x placed wanted h = let l = placed (not-false _ (h .1 .0)) in (omega arith, omega arith)
+
+  pub send-channel-sound : (x : Port) → Placed x → (m a : Field) → Sound c p (send c x m a p)
+  unfolding send
+  send-channel-sound x placed m a =
+      await-sound _ _ _ _ _ _ (Source (x .place + 1) (numberOf m)) 6 (x .place + 1) (numberOf m) refl
+      (λ _ _ _. record { is = omega arith })
+      (λ h g. (place-known x placed (x .channel .source) h, in-limits 0 durationLimit m g .1))
+
+  pub receive-channel-sound : (x : Port) → Placed x → x .traffic .first ≤ durationLimit → (a : Field) → Sound c p (receive c x a p)
+  unfolding receive
+  receive-channel-sound x placed few a =
+      await-sound _ _ _ _ _ _ (Destination (x .place + 1)) 7 (x .place + 1) 0 refl
+      (λ _ _ _. record { is = omega arith })
+      (λ h _. (place-known x placed (x .channel .destination) h, omega arith))
+
+-- what a call sees of a channel is sound: the message of a sampling one, the first of a queuing one, which has a place
+pub record SoundPort (t : ℕ) (x : Port) : Type 0 where
+  pub message : SoundMessage t (x .message)
+  pub first : x .traffic .first ≤ durationLimit
+  pub placed : Placed x
+
 -- ---------------------------------------------------------------- every call
-pub call-sound : (c : Context) (x : Port) (n : ℕ) (r : Request) (p : Partition) → Valid (c .frame) (c .time) p → SoundContext c p → SoundMessage (c .time) (x .message) → Sound c p (callDecision c x n r p)
+pub call-sound : (c : Context) (x : Port) (n : ℕ) (r : Request) (p : Partition) → Valid (c .frame) (c .time) p → SoundContext c p → SoundPort (c .time) x → Sound c p (callDecision c x n r p)
 call-sound c x n r p v k s =
     by-call c x n r p (Sound c p)
     (λ _. set-mode-sound c p v k _)
@@ -633,7 +739,7 @@ call-sound c x n r p v k s =
     (reset-sound c p v k)
     (wait-event-sound c p v k)
     (λ _. write-sound c p v k x)
-    (read-sound c p v k x s)
+    (read-sound c p v k x (s .message))
     (create-buffer-sound c p v k)
     (λ _. send-sound c p v k _ _ _)
     (λ _. receive-sound c p v k _ _)
@@ -641,4 +747,6 @@ call-sound c x n r p v k s =
     (show-sound c p v k)
     (read-blackboard-sound c p v k)
     (clear-sound c p v k)
+    (λ _. send-channel-sound c p v k x (s .placed) _ _)
+    (λ _. receive-channel-sound c p v k x (s .placed) (s .first) _)
     (λ _. record { is = tt })

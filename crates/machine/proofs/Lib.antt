@@ -36,5 +36,6 @@ pub mod Queues
 pub mod Available
 pub mod Moves
 pub mod Senders
+pub mod Restarts
 pub mod Account
 pub mod Families

@@ -1,12 +1,12 @@
--- Queues of messages: what each move makes of a sound one. Assumes nothing.
+-- Queues of messages: what each transfer makes of a sound one. Assumes nothing.
 use Prim.Native.Nat.{ℕ, zero, suc, _+_, _-_, _≤_}
 use mathlib.Core.Path.{_≡_, refl, ap, sym, _∙_}
 use mathlib.Core.List.{List, [], _∷_, _++_}
 use native.Mathlib.Omega.{arith}
 use lib.ListN.{length, getD, drop, replicate, length-append}
 use Rattle.machine.specs.declared.Queue.{Queue}
-use Rattle.machine.specs.declared.QueueChange.{QueueChange}
-use Rattle.machine.specs.declared.QueueChange.the-variants.{Put, Taken, Exchanged}
+use Rattle.machine.specs.declared.Transfer.{Transfer}
+use Rattle.machine.specs.declared.Transfer.the-variants.{Put, HandedTo, Taken, LetIn}
 use Rattle.machine.specs.declared.Buffer.{Buffer}
 use Rattle.machine.specs.Limits.{messageLimit, durationLimit}
 use Rattle.machine.specs.Messages.{held, queueOf, put, taken, first, moved}
@@ -40,12 +40,15 @@ pub queue-sound : (limit : ℕ) (l : List ℕ) → length l ≤ limit → AllMes
 queue-sound limit l few all = record { canonical = ap queueOf (sym (held-queueOf l)); few = few; each = rw (held-queueOf l) all }
 
 module _ (limit : ℕ) (q : Queue) (s : SoundQueue limit q) where
-  pub queue-length : length (held q) ≡ q .len
+  abbrev l : List ℕ
+  l = held q
+
+  pub queue-length : length l ≡ q .len
   queue-length = sym (ap (λ (r : Queue). r .len) (s .canonical))
 
   -- the first of its messages
-  pub queue-first : first q ≡ getD (held q) 0 0
-  queue-first = ap first (s .canonical) ∙ go (held q)
+  pub queue-first : first q ≡ getD l 0 0
+  queue-first = ap first (s .canonical) ∙ go l
     where
       zeros : (n : ℕ) → _≡_ {A = ℕ} (getD (replicate n 0) 0 0) 0
       zeros zero = refl
@@ -55,52 +58,53 @@ module _ (limit : ℕ) (q : Queue) (s : SoundQueue limit q) where
       go [] = zeros messageLimit
       go (x ∷ l) = refl
 
+  pub first-sound : first q ≤ durationLimit
+  first-sound = rw queue-first (first-message l (s .each))
+
+  taken-size : 1 ≤ q .len → length (drop 1 l) + 1 ≡ q .len
+  taken-size h = length-rest l (omega (arith, queue-length)) ∙ queue-length
+
+  -- its messages after a transfer
+  module _ (room : limit ≤ messageLimit) where
+    pub moved-plain : (a : Transfer) → SoundMove limit q a → moved a q ≡ queueOf (plainMoved a l)
+    unfolding taken
+    moved-plain (Put m) h = ap (put m) (s .canonical) ∙ put-queueOf l m (omega (arith, queue-length, h .0))
+    moved-plain (HandedTo id m) h = s .canonical
+    moved-plain Taken h = refl
+    moved-plain (LetIn id m) h = put-queueOf (drop 1 l) m (omega (arith, taken-size (h .0), s .few))
+
+    pub moved-held : (a : Transfer) → SoundMove limit q a → held (moved a q) ≡ plainMoved a l
+    moved-held a h = ap held (moved-plain a h) ∙ held-queueOf (plainMoved a l)
+
+    -- how many there are then
+    pub put-length : (m : ℕ) → SoundMove limit q (Put m) → moved (Put m) q .len ≡ q .len + 1
+    put-length m h = ap (λ (r : Queue). r .len) (moved-plain (Put m) h) ∙ omega (arith, length-append l (m ∷ []), queue-length)
+
+    pub taken-length : SoundMove limit q Taken → moved Taken q .len + 1 ≡ q .len
+    taken-length h = ap (λ (r : Queue). r .len + 1) (moved-plain Taken h) ∙ taken-size h
+
+    pub let-in-length : (id m : ℕ) → SoundMove limit q (LetIn id m) → moved (LetIn id m) q .len ≡ q .len
+    let-in-length id m h = ap (λ (r : Queue). r .len) (moved-plain (LetIn id m) h) ∙ omega (arith, length-append (drop 1 l) (m ∷ []), taken-size (h .0))
+
+    plain-few : (a : Transfer) → SoundMove limit q a → length (plainMoved a l) ≤ limit
+    plain-few (Put m) h = omega (arith, length-append l (m ∷ []), queue-length, h .0)
+    plain-few (HandedTo id m) h = omega (arith, queue-length, s .few)
+    plain-few Taken h = omega (arith, taken-size h, s .few)
+    plain-few (LetIn id m) h = omega (arith, length-append (drop 1 l) (m ∷ []), taken-size (h .0), s .few)
+
+    plain-all : (a : Transfer) → SoundMove limit q a → AllMessages (plainMoved a l)
+    plain-all (Put m) h = all-snoc l m (s .each) (h .1)
+    plain-all (HandedTo id m) h = s .each
+    plain-all Taken h = all-rest l (s .each)
+    plain-all (LetIn id m) h = all-snoc (drop 1 l) m (all-rest l (s .each)) (h .1)
+
+    pub moved-sound : (a : Transfer) → SoundMove limit q a → SoundQueue limit (moved a q)
+    moved-sound a h = rw (moved-plain a h) (queue-sound limit (plainMoved a l) (plain-few a h) (plain-all a h))
+
 -- ---------------------------------------------------------------- a sound buffer
-module _ (b : Buffer) (s : SoundBuffer b) where
-  abbrev l : List ℕ
-  l = held (b .queue)
+module _ (b : Buffer) (s : SoundBuffer b) (a : Transfer) (h : SoundMove (b .limit) (b .queue) a) where
+  pub moved-in-sound : SoundBuffer (movedIn a b)
+  moved-in-sound = record { name = s .name; limit = s .limit; queue = moved-sound (b .limit) (b .queue) (s .queue) (s .limit .1) a h }
 
-  size : length l ≡ b .queue .len
-  size = queue-length (b .limit) (b .queue) (s .queue)
-
-  taken-size : 1 ≤ b .queue .len → length (drop 1 l) + 1 ≡ b .queue .len
-  taken-size h = length-rest l (omega (arith, size)) ∙ size
-
-  -- its messages after they moved
-  pub moved-plain : (a : QueueChange) → SoundMove b a → moved a (b .queue) ≡ queueOf (plainMoved a l)
-  unfolding taken
-  moved-plain (Put m) h = ap (put m) (s .queue .canonical) ∙ put-queueOf l m (omega (arith, size, h .0, s .limit .1))
-  moved-plain Taken h = refl
-  moved-plain (Exchanged m) h = put-queueOf (drop 1 l) m (omega (arith, taken-size (h .0), s .queue .few, s .limit .1))
-
-  pub moved-held : (a : QueueChange) → SoundMove b a → held (moved a (b .queue)) ≡ plainMoved a l
-  moved-held a h = ap held (moved-plain a h) ∙ held-queueOf (plainMoved a l)
-
-  -- how many there are then
-  pub put-length : (m : ℕ) → SoundMove b (Put m) → moved (Put m) (b .queue) .len ≡ b .queue .len + 1
-  put-length m h = ap (λ (q : Queue). q .len) (moved-plain (Put m) h) ∙ omega (arith, length-append l (m ∷ []), size)
-
-  pub taken-length : SoundMove b Taken → moved Taken (b .queue) .len + 1 ≡ b .queue .len
-  taken-length h = ap (λ (q : Queue). q .len + 1) (moved-plain Taken h) ∙ taken-size h
-
-  pub exchanged-length : (m : ℕ) → SoundMove b (Exchanged m) → moved (Exchanged m) (b .queue) .len ≡ b .queue .len
-  exchanged-length m h = ap (λ (q : Queue). q .len) (moved-plain (Exchanged m) h) ∙ omega (arith, length-append (drop 1 l) (m ∷ []), taken-size (h .0))
-
-  plain-few : (a : QueueChange) → SoundMove b a → length (plainMoved a l) ≤ b .limit
-  plain-few (Put m) h = omega (arith, length-append l (m ∷ []), size, h .0)
-  plain-few Taken h = omega (arith, taken-size h, s .queue .few)
-  plain-few (Exchanged m) h = omega (arith, length-append (drop 1 l) (m ∷ []), taken-size (h .0), s .queue .few)
-
-  plain-all : (a : QueueChange) → SoundMove b a → AllMessages (plainMoved a l)
-  plain-all (Put m) h = all-snoc l m (s .queue .each) (h .1)
-  plain-all Taken h = all-rest l (s .queue .each)
-  plain-all (Exchanged m) h = all-snoc (drop 1 l) m (all-rest l (s .queue .each)) (h .1)
-
-  pub moved-sound : (a : QueueChange) → SoundMove b a → SoundBuffer (movedIn a b)
-  moved-sound a h = record { name = s .name; limit = s .limit; queue = rw (moved-plain a h) (queue-sound (b .limit) (plainMoved a l) (plain-few a h) (plain-all a h)) }
-
-  pub moved-in-plain : (a : QueueChange) → SoundMove b a → movedIn a b ≡ plainMovedIn a b
-  moved-in-plain a h = rw (moved-plain a h)
-
-  pub first-sound : first (b .queue) ≤ durationLimit
-  first-sound = rw (queue-first (b .limit) (b .queue) (s .queue)) (first-message l (s .queue .each))
+  pub moved-in-plain : movedIn a b ≡ plainMovedIn a b
+  moved-in-plain = rw (moved-plain (b .limit) (b .queue) (s .queue) (s .limit .1) a h)

@@ -1,8 +1,8 @@
 -- On a reached record no bound and no cap acts at any event: the definitions are document 01's plain ones there. Assumes nothing.
 use Prim.Native.Nat.{ℕ, zero, suc, _+_, _-_, _≤_, _<_, max}
-use mathlib.Core.Path.{_≡_, refl, ap, sym, _∙_}
+use mathlib.Core.Path.{_≡_, refl, ap, ap₂, sym, _∙_}
 use mathlib.Core.Bool.{Bool, true, false, cond, not, _&&_, and-false, or-true}
-use mathlib.Core.List.{List, [], _∷_, _++_}
+use mathlib.Core.List.{List, [], _∷_, _++_, map}
 use mathlib.Core.Logic.{_⊎_, inl, inr, ⊎-elim}
 use native.Mathlib.Omega.{arith}
 use lib.ListN.{length, getD, List·getD-eq-default}
@@ -16,8 +16,11 @@ use Rattle.machine.specs.declared.Partition.{Partition}
 use Rattle.machine.specs.declared.Context.{Context}
 use Rattle.machine.specs.declared.Change.{Change}
 use Rattle.machine.specs.declared.Change.the-variants.{Nothing, Stored, Created, Last, StoredSemaphore, StoredEvent, CreatedBuffer, Moved, StoredBlackboard, Ended, Handed, Entered}
+use Rattle.machine.specs.declared.Transfer.{Transfer}
+use Rattle.machine.specs.declared.Transfer.the-variants.{Put, HandedTo, Taken, LetIn}
+use Rattle.machine.specs.declared.Wait.the-variants.{Source}
 use Rattle.machine.specs.declared.Decision.{Decision}
-use Rattle.machine.specs.declared.Decision.the-variants.{Refused, Unchanged, Ticked, Blocked, Changed, Restarted, Written}
+use Rattle.machine.specs.declared.Decision.the-variants.{Refused, Unchanged, Ticked, Blocked, Changed, Restarted, Written, Passed}
 use Rattle.machine.specs.declared.Request.{Request}
 use Rattle.machine.specs.declared.Event.{Event as EventT}
 use Rattle.machine.specs.declared.Module.{Module}
@@ -26,33 +29,34 @@ use Rattle.machine.specs.declared.Stepped.{Stepped}
 use Rattle.machine.specs.declared.Field.{Field}
 use Rattle.machine.specs.declared.Time.{Time}
 use Rattle.machine.specs.declared.Time.the-variants.{Never, At}
-use Rattle.machine.specs.Limits.{processLimit, semaphoreLimit, eventLimit, bufferLimit, blackboardLimit, durationLimit, timeLimit, partitionLimit, greatestTime, greatestValue}
+use Rattle.machine.specs.Limits.{processLimit, semaphoreLimit, eventLimit, bufferLimit, blackboardLimit, durationLimit, timeLimit, partitionLimit, channelLimit, messageLimit, greatestTime, greatestValue}
+use Rattle.machine.specs.Messages.{queueOf, endsWait}
 use Rattle.machine.specs.Fields.{field, requestOf, isNumber, between, isMinusOne, numberOf}
 use Rattle.machine.specs.Ids.{members, idsOf, kept, other, removed, follow}
-use Rattle.machine.specs.Process.{blankProcess, later, isNever, periodic, ready, onObject, served, handed, ticked, entered}
-use Rattle.machine.specs.Partition.{normalMode, byId, noSemaphore, noEvent, noBuffer, noBlackboard, process, buffer, emptyBuffer, movedIn, withMode, withProcesses, stored, arrivedLast, waiters, changedAll, each, tickPartition, enteredNormal, applied, noted}
+use Rattle.machine.specs.Process.{blankProcess, later, isNever, periodic, ready, object, onObject, carried, served, handed, ticked, entered}
+use Rattle.machine.specs.Partition.{normalMode, byId, noSemaphore, noEvent, noBuffer, noBlackboard, process, buffer, emptyBuffer, movedIn, endedBy, withMode, withProcesses, stored, storedBuffer, arrivedLast, waiters, changedAll, each, tickPartition, enteredNormal, applied, noted}
 use Rattle.machine.specs.Decisions.{checked, unknown}
 use Rattle.machine.specs.Objects.{oneMore}
 use Rattle.machine.specs.Windows.{lookup, releaseAfter, nextStart}
-use Rattle.machine.specs.Module.{noPartition, emptyTable, emptyModule, part, withTime}
-use Rattle.machine.specs.Channels.{portOf}
+use Rattle.machine.specs.Module.{noPartition, emptyTable, emptyModule, channel, part, queue, withPart, withQueue, withTime}
+use Rattle.machine.specs.Channels.{queuingAt, otherEnd, portOf, leadsInto, erasedTo, admitted, refilledAt, refilledTo}
 use Rattle.machine.specs.Ticks.{tickModule}
 use Rattle.machine.specs.Places.{malformed}
 use Rattle.machine.specs.Step.{contextOf, decision, moduleAfter, sees, step}
-use Rattle.machine.specs.Valid.{Between, contains, Tracks, NotAfter, latestWake, latestDeadline, Setting, LastingIn, SoundProcess, ListedIn, Valid, SoundContext, SoundTable, SoundModule, Reached, SoundChange, SoundDecision, plainLater, plainTick, plainTickTo}
-use Rattle.machine.specs.Plain.{plainById, followed, idsFrom, changedFirst, plainStored, plainCreated, plainLast, countWith, plainSemaphore, plainEvent, plainBuffer, plainBlackboard, plainAll, plainApplied, InPlace, plainTickPartition, plainTicked, plainAfter, AllInPlace, Uncapped, plainBetween, plainNumber, plainMinusOne, plainUnknown, Lossless, PlainReads, PlainNumbers, PlainTable, CapsSeen, NoBoundActs, EmptyStays}
-use Rattle.machine.proofs.Tests.{by-test, by-tests, or-left, or-right}
+use Rattle.machine.specs.Valid.{Between, contains, Tracks, NotAfter, latestWake, latestDeadline, Setting, LastingIn, SoundProcess, ListedIn, Valid, SoundContext, SoundTable, SoundModule, Reached, SoundEnd, SoundChange, SoundDecision, plainLater, plainTick, plainTickTo}
+use Rattle.machine.specs.Plain.{plainById, followed, idsFrom, changedFirst, plainStored, plainCreated, plainLast, countWith, plainSemaphore, plainEvent, plainBuffer, plainBlackboard, plainEnded, plainAll, plainApplied, EndInPlace, InPlace, plainRefilledAt, plainRefilledTo, plainTickPartition, plainTicked, plainAfter, AllInPlace, Uncapped, plainBetween, plainNumber, plainMinusOne, plainUnknown, Lossless, PlainReads, PlainNumbers, PlainTable, CapsSeen, NoBoundActs, EmptyStays}
+use Rattle.machine.proofs.Tests.{by-test, by-tests, and-left, or-left, or-right, not-both}
 use Rattle.machine.proofs.Fields.{in-limits}
 use Rattle.machine.proofs.Bounds.{either, within-in, outside-high, named-in, named-out, stored-in, created-in, semaphore-in, event-in, buffer-in, blackboard-in}
 use Rattle.machine.proofs.Tracking.{tracks-room, appended-plain}
 use Rattle.machine.proofs.Lists.{members-idsOf, appended-idsOf}
-use Rattle.machine.proofs.Messages.{moved-in-plain}
+use Rattle.machine.proofs.Messages.{moved-plain, moved-in-plain}
 use Rattle.machine.proofs.Keeping.{process-ranged, process-created, removed-room, each-changed, AllCreated, from-range, stored-rest, rest-count, stored-listed}
 use Rattle.machine.proofs.Sound.{later-plain, later-not-after, at-most-more, at-most-not-after, capacity-bound, period-not-after, at-most-released, ready-released, times-bounded}
 use Rattle.machine.proofs.Dispatch.{Calls, by-event}
 use Rattle.machine.proofs.Bodies.{Bodily}
-use Rattle.machine.proofs.Kept.{change-valid, waiters-created}
-use Rattle.machine.proofs.Reached.{frame-some, release-plain, plain-around, plain-size, plain-other, plain-part, tick-module-plain, place, context-sound, made, made-sound, made-body, decided-sound, reached-valid}
+use Rattle.machine.proofs.Kept.{change-valid, nothing-valid, waiters-created, firsts-created, end-same}
+use Rattle.machine.proofs.Reached.{frame-some, release-plain, plain-around, plain-size, plain-other, plain-part, tick-module-plain, place, context-sound, made, made-sound, made-body, decided-sound, reached-valid, part-sound, erased-sound, queuing-plain, refilled-table, refilled-sound, on-queue, transfer-sound}
 use Rattle.machine.proofs.Answers.{decided-table}
 
 -- ---------------------------------------------------------------- what an id names
@@ -117,6 +121,19 @@ each-plain f p v =
     each-changed f (p .processCount) 1 p
     ∙ all-plain f (idsFrom (p .processCount) 1) p v (λ y h. let r = from-range (p .processCount) 1 y h in (r .0, omega arith))
 
+-- the wait that a transfer ends
+pub ended-plain : (p : Partition) → ListedIn p → (a : Transfer) → SoundEnd p a → endedBy a p ≡ plainEnded a p
+ended-plain p v (Put m) h = refl
+ended-plain p v (HandedTo id m) h = stored-plain p v id (h .0) (handed m (process id p)) ∙ rw (by-id-plain processLimit blankProcess (p .processes) (v .numbered .size) id)
+ended-plain p v Taken h = refl
+ended-plain p v (LetIn id m) h = stored-plain p v id (h .0) (served (process id p)) ∙ rw (by-id-plain processLimit blankProcess (p .processes) (v .numbered .size) id)
+
+pub end-in-place : (p : Partition) → ListedIn p → (a : Transfer) → SoundEnd p a → EndInPlace a p
+end-in-place p v (Put m) h = tt
+end-in-place p v (HandedTo id m) h = (h .0 .0, omega (arith, h .0 .1, v .numbered .few, v .numbered .size))
+end-in-place p v Taken h = tt
+end-in-place p v (LetIn id m) h = (h .0 .0, omega (arith, h .0 .1, v .numbered .few, v .numbered .size))
+
 -- a READY process that goes to the end of the arrival list
 pub arrived-plain : (p : Partition) → ListedIn p → (id : ℕ) → ready (process id p) ≡ true → arrivedLast id p ≡ withProcesses (p .processes) (p .processCount) (idsOf (kept (other id) (members (p .arrival)) ++ (id ∷ []))) (p .waiting) p
 unfolding arrivedLast removed
@@ -143,8 +160,10 @@ module _ (c : Context) {o : Partition} (k : SoundContext c o) where
   change-plain p v (CreatedBuffer j name limit) h = buffer-in j (emptyBuffer name limit) p (within-in bufferLimit j (h .0 .0 .0) (h .0 .1)) ∙ rw (count-with (p .bufferCount) j (h .0 .0 .1))
   change-plain p v (Moved j a) h =
       let few = v .objects .buffers .numbered .few in
-      buffer-in j (movedIn a (buffer j p)) p (within-in bufferLimit j (h .0 .0) (omega (arith, h .0 .1, few)))
-      ∙ rw (count-with (p .bufferCount) j (omega (arith, h .0 .1)), moved-in-plain (buffer j p) (v .objects .buffers .each j (h .0)) a (h .1), by-id-plain bufferLimit noBuffer (p .buffers) (v .objects .buffers .numbered .size) j)
+      let in-list = buffer-in j (movedIn a (buffer j p)) p (within-in bufferLimit j (h .0 .0) (omega (arith, h .0 .1, few))) in
+      ended-plain (storedBuffer j (movedIn a (buffer j p)) p) (rw in-list (v .lists)) a (rw in-list (end-same p _ a refl refl (h .2)))
+      ∙ ap (plainEnded a) (in-list
+      ∙ rw (count-with (p .bufferCount) j (omega (arith, h .0 .1)), moved-in-plain (buffer j p) (v .objects .buffers .each j (h .0)) a (h .1), by-id-plain bufferLimit noBuffer (p .buffers) (v .objects .buffers .numbered .size) j))
   change-plain p v (StoredBlackboard j b) h = blackboard-in j b p (within-in blackboardLimit j (h .0 .0 .0) (h .0 .1)) ∙ rw (count-with (p .blackboardCount) j (h .0 .0 .1))
   change-plain p v (Ended o) h = all-plain served (waiters o p) p (v .lists) (waiters-created p (v .lists) o)
   change-plain p v (Handed o m) h = all-plain (handed m) (waiters o p) p (v .lists) (waiters-created p (v .lists) o)
@@ -159,7 +178,7 @@ module _ (c : Context) {o : Partition} (k : SoundContext c o) where
   change-in-place p v (StoredSemaphore j s) h = (h .0 .0 .0, omega (arith, h .0 .1, v .objects .semaphores .numbered .size))
   change-in-place p v (StoredEvent j e) h = (h .0 .0 .0, omega (arith, h .0 .1, v .objects .events .numbered .size))
   change-in-place p v (CreatedBuffer j name limit) h = (h .0 .0 .0, omega (arith, h .0 .1, v .objects .buffers .numbered .size))
-  change-in-place p v (Moved j a) h = (h .0 .0, omega (arith, h .0 .1, v .objects .buffers .numbered .few, v .objects .buffers .numbered .size))
+  change-in-place p v (Moved j a) h = ((h .0 .0, omega (arith, h .0 .1, v .objects .buffers .numbered .few, v .objects .buffers .numbered .size)), end-in-place p (v .lists) a (h .2))
   change-in-place p v (StoredBlackboard j b) h = (h .0 .0 .0, omega (arith, h .0 .1, v .objects .blackboards .numbered .size))
   change-in-place p v (Ended o) h = tt
   change-in-place p v (Handed o m) h = tt
@@ -198,11 +217,59 @@ module _ (m : Module) (s : SoundModule m) where
       let q = withTime (m .t + 1) m in
       let f : Partition → Partition = λ p. noted (plainTickPartition (m .t + 1) p) in
       let long : n ≤ length (m .partitions) = omega (arith, s .partitionsSize, s .table .size .1) in
-      tick-module-plain m (inr s) ∙ plain-around n q ∙ ap (λ (l : List Partition). record { table = m .table; t = m .t + 1; messages = m .messages; partitions = l })
+      tick-module-plain m (inr s) ∙ plain-around n q ∙ ap (λ (l : List Partition). record { table = m .table; t = m .t + 1; messages = m .messages; queues = m .queues; partitions = l })
       (ext-getD noPartition (plainTickTo n q .partitions) (changedFirst n f (m .partitions)) (plain-size n q ∙ sym (length-first n f (m .partitions))) (λ i h.
       sym (first-at n f (m .partitions) noPartition i (rw (plain-size n q) at h) ∙ either (ltb i n)
       (λ e. rw (e, plain-part n q long i (ltb-true i n e), tick-partition-plain (m .t + 1) (m .table .frame) (m .t) (part m i) (s .eachPartition i (ltb-true i n e))))
       (λ e. rw (e, plain-other n i q (ltb-false i n e))))))
+
+-- ---------------------------------------------------------------- channels
+-- one queue filled anew
+module _ (i : ℕ) (m : Module) (s : SoundModule m) (l : i < m .table .channelCount) where
+  refilled-at-plain : refilledAt i m ≡ plainRefilledAt i m
+  refilled-at-plain =
+      let c = channel (m .table) i in
+      let j = c .source - 1 in
+      let p = part m j in
+      let b = s .table .eachChannel i l .source in
+      let v = s .eachPartition j (omega (arith, b .0, b .1)) in
+      let ids = admitted i c p in
+      ap₂ (λ (x : Partition) (f : ℕ → ℕ). withPart j x (withQueue i (queueOf (map f ids)) m))
+      (all-plain served ids p (v .lists) (firsts-created (m .table .frame) (m .t) p v (object (Source (i + 1) 0)) (c .size)))
+      (λ t id. carried (by-id-plain processLimit blankProcess (p .processes) (v .lists .numbered .size) id t))
+
+-- those of the table's channels that are queuing and lead into a partition
+pub refilled-plain : (k n : ℕ) (m : Module) → SoundModule m → n ≤ m .table .channelCount → refilledTo k n m ≡ plainRefilledTo k n m
+unfolding refilledTo plainRefilledTo
+refilled-plain k zero m s h = refl
+refilled-plain k (suc n) m s h =
+    let u = refilledTo k n m in
+    let e : n < u .table .channelCount = rw (refilled-table k n m) h in
+    let g = refilled-sound k n m s in
+    let c = channel (u .table) n in
+    let is : (queuingAt (u .table) n && leadsInto k c) ≡ (ltb 0 (c .size) && leadsInto k c) = rw (lt-ltb n (u .table .channelCount) e, queuing-plain (u .table) (g .table) n e) in
+    by-tests (λ (x y : Module). x ≡ y) _ _ is (λ _. refilled-at-plain n u g e) (λ _. refl)
+    ∙ ap (λ (h : Module). cond (ltb 0 (channel (h .table) n .size) && leadsInto k (channel (h .table) n)) (plainRefilledAt n h) h) (refilled-plain k n m s (omega arith))
+
+-- past them there is nothing to fill
+refilled-past : (k d : ℕ) (m : Module) → refilledTo k (m .table .channelCount + d) m ≡ refilledTo k (m .table .channelCount) m
+unfolding refilledTo
+refilled-past k zero m = ap (λ n. refilledTo k n m) (let e : m .table .channelCount + 0 ≡ m .table .channelCount = omega arith in e)
+refilled-past k (suc d) m =
+    let n = m .table .channelCount + d in
+    let e : m .table .channelCount + suc d ≡ suc n = omega arith in
+    let u = refilledTo k n m in
+    let off : ltb n (u .table .channelCount) ≡ false = rw (refilled-table k n m) (le-ltb n (m .table .channelCount) (omega arith)) in
+    ap (λ i. refilledTo k i m) e
+    ∙ by-test (λ (x : Module). x ≡ refilledTo k (m .table .channelCount) m) (queuingAt (u .table) n && leadsInto k (channel (u .table) n))
+    (λ t. not-both _ (and-left (ltb n (u .table .channelCount)) _ (and-left (queuingAt (u .table) n) _ t)) off)
+    (λ _. refilled-past k d m)
+
+pub refilled-all : (k : ℕ) (m : Module) → SoundModule m → refilledTo k channelLimit m ≡ plainRefilledTo k (m .table .channelCount) m
+refilled-all k m s =
+    let few = s .table .channelCount in
+    let e : m .table .channelCount + (channelLimit - m .table .channelCount) ≡ channelLimit = omega arith in
+    ap (λ n. refilledTo k n m) (sym e) ∙ refilled-past k (channelLimit - m .table .channelCount) m ∙ refilled-plain k (m .table .channelCount) m s (omega arith)
 
 -- ---------------------------------------------------------------- decisions
 -- what a call decides of its partition is applied plainly, and what it stores has its place
@@ -229,8 +296,17 @@ module _ (m : Module) (s : SoundModule m) (r : Request) (q : Calls m r) where
   decided-plain Ticked h b = absurd b
   decided-plain (Blocked id x) h b = rw (one-plain (Stored id x) h)
   decided-plain (Changed x y n) h b = rw (change-plain (contextOf m k) (context-sound m s r q) (applied x now) (after-one x (h .0)) y (h .1), one-plain x (h .0))
-  decided-plain (Restarted mode) h b = refl
+  decided-plain (Restarted mode) h b = refilled-all k _ (part-sound (erasedTo k channelLimit m) (erased-sound k channelLimit m (omega arith) s) (k - 1) (place m s r q) _ (nothing-valid (m .table .frame) (m .t) mode h))
   decided-plain (Written i x) h b = refl
+  decided-plain (Passed i a n) h b =
+      let t = transfer-sound m s r q i a n b in
+      let g = on-queue m s r q i a n b in
+      let c = channel (m .table) i in
+      let j = otherEnd k c - 1 in
+      let moves = moved-plain (c .size) (queue m i) (s .eachQueue i) (let w = s .table .eachChannel i (t .0) .room in omega arith) a (t .1) in
+      by-tests (λ (x y : Module). x ≡ y) (endsWait a) _ refl
+      (λ _. rw (moves, ended-plain (part m j) (s .eachPartition j (g .inside) .lists) a (t .2)))
+      (λ _. rw moves)
 
   pub decided-in-place : (d : Decision) → SoundDecision (contextOf m k) now d → Bodily (portOf m k r) (numberOf (r .call)) d → AllInPlace m k d
   decided-in-place (Refused n) h b = tt
@@ -241,10 +317,21 @@ module _ (m : Module) (s : SoundModule m) (r : Request) (q : Calls m r) where
     change-in-place (contextOf m k) (context-sound m s r q) now valid x (h .0),
     rw (one-plain x (h .0)) at (change-in-place (contextOf m k) (context-sound m s r q) (applied x now) (after-one x (h .0)) y (h .1)),
   )
-  decided-in-place (Restarted mode) h b = tt
+  decided-in-place (Restarted mode) h b = λ i l. (omega (arith, l, s .table .channelCount, s .queuesSize), s .table .eachChannel i l .source)
   decided-in-place (Written i x) h b =
       let c = in-limits 1 (m .table .channelCount) (r .a) (b .there) in
       (omega (arith, b .place, c .0, c .1), omega (arith, b .place, c .0, c .1, s .table .channelCount, s .messagesSize))
+  decided-in-place (Passed i a n) h b =
+      let t = transfer-sound m s r q i a n b in
+      let g = on-queue m s r q i a n b in
+      let c = channel (m .table) i in
+      let e = s .table .eachChannel i (t .0) in
+      let l = t .0 in (
+        l,
+        omega (arith, s .table .channelCount, s .queuesSize),
+        by-test (Between 1 (m .table .size)) (eqb (c .source) k) (λ _. e .destination) (λ _. e .source),
+        end-in-place (part m (otherEnd k c - 1)) (s .eachPartition (otherEnd k c - 1) (g .inside) .lists) a (t .2),
+      )
 
 -- ---------------------------------------------------------------- sums of times
 pub caps-seen : CapsSeen
@@ -328,6 +415,8 @@ table-plain T s t ends = record {
   current = λ u. rw (frame-some T s u);
   starts = λ u k flagged. rw (frame-some T s u);
   count = rw (le-leb (T .size) partitionLimit (s .size .1));
+  queuing = queuing-plain T s;
+  channels = s .channelCount;
   flagged = s .flagged;
   release = release-plain T s t ends;
 }

@@ -6,7 +6,7 @@ use mathlib.Core.Bool.{Bool, true, false, cond, not, _&&_, and-true, and-false, 
 use mathlib.Core.List.{List, [], _∷_, _++_, append-nil, append-assoc}
 use mathlib.Core.Logic.{_⊎_, inl, inr, ⊎-elim}
 use native.Mathlib.Omega.{arith}
-use lib.ListN.{length, getD, set}
+use lib.ListN.{length, getD, set, take}
 use lib.Dec.{eqb, leb}
 use lib.IntN.{ℤ, pos, negsuc}
 use borrow.Author.Tests.{lt-ltb, eq-eqb, ne-eqb, eqb-true, le-leb, leb-true, not-false}
@@ -16,14 +16,16 @@ use Rattle.machine.specs.declared.Partition.{Partition}
 use Rattle.machine.specs.declared.Context.{Context}
 use Rattle.machine.specs.declared.Change.{Change}
 use Rattle.machine.specs.declared.Change.the-variants.{Nothing, Stored, Created, Last, StoredSemaphore, StoredEvent, CreatedBuffer, Moved, StoredBlackboard, Ended, Handed, Entered}
+use Rattle.machine.specs.declared.Transfer.{Transfer}
+use Rattle.machine.specs.declared.Transfer.the-variants.{Put, HandedTo, Taken, LetIn}
 use Rattle.machine.specs.declared.Decision.{Decision}
-use Rattle.machine.specs.declared.Decision.the-variants.{Refused, Unchanged, Ticked, Blocked, Changed, Restarted, Written}
+use Rattle.machine.specs.declared.Decision.the-variants.{Refused, Unchanged, Ticked, Blocked, Changed, Restarted, Written, Passed as PassedOn}
 use Rattle.machine.specs.declared.Semaphore.{Semaphore as SemaphoreT}
 use Rattle.machine.specs.declared.EventState.{EventState}
 use Rattle.machine.specs.declared.Buffer.{Buffer}
 use Rattle.machine.specs.declared.Blackboard.{Blackboard as BlackboardT}
 use Rattle.machine.specs.declared.Wait.{Wait}
-use Rattle.machine.specs.declared.Wait.the-variants.{Semaphore, Event}
+use Rattle.machine.specs.declared.Wait.the-variants.{Semaphore, Event, Source}
 use Rattle.machine.specs.declared.Time.the-variants.{At}
 use Rattle.machine.specs.declared.Field.{Field}
 use Rattle.machine.specs.declared.Field.the-variants.{Number}
@@ -31,38 +33,39 @@ use Rattle.machine.specs.declared.Port.{Port}
 use Rattle.machine.specs.declared.Request.{Request}
 use Rattle.machine.specs.declared.Event.{Event as EventT}
 use Rattle.machine.specs.declared.Module.{Module}
-use Rattle.machine.specs.Limits.{callLimit, processLimit, semaphoreLimit, eventLimit, bufferLimit, blackboardLimit, durationLimit, greatestValue}
+use Rattle.machine.specs.Limits.{callLimit, processLimit, semaphoreLimit, eventLimit, bufferLimit, blackboardLimit, durationLimit, partitionLimit, channelLimit, greatestValue}
+use Rattle.machine.specs.Messages.{moved, endsWait}
 use Rattle.machine.specs.Ids.{members, keptIf, kept, other}
 use Rattle.machine.specs.Process.{Class, classOf, objectIn, forNormal, blankProcess, later, object, onObject, periodic, ready, due, waitsForNothing, waitsForNormal, onlyMarked, served, handed, waitingFor, woken, expired, ticked, entered, startRule, startedEarly}
-use Rattle.machine.specs.Partition.{within, nothingCreated, idleMode, normalMode, noSemaphore, noEvent, process, semaphore, event, stored, created, storedSemaphore, storedEvent, storedBuffer, storedBlackboard, emptyBuffer, movedIn, buffer, arrivedLast, changedAll, waitsOn, waiters, running, applied, tickPartition, enteredNormal, withMode, withEvents, each, noted}
+use Rattle.machine.specs.Partition.{within, nothingCreated, idleMode, normalMode, noSemaphore, noEvent, process, semaphore, event, stored, created, storedSemaphore, storedEvent, storedBuffer, storedBlackboard, emptyBuffer, movedIn, endedBy, buffer, arrivedLast, changedAll, waitsOn, waiters, running, applied, tickPartition, enteredNormal, withMode, withEvents, each, noted}
 use Rattle.machine.specs.Fields.{field, requestOf, isNumber, isTimeout, numberOf, timeOf}
 use Rattle.machine.specs.Decisions.{checked, replyOf, changed, unchanged, unknown, blocked, startMode, queued, awaiting}
 use Rattle.machine.specs.Calls.{setMode, createProcess, start, stop, stopSelf, suspend, suspendSelf, timedWait, periodicWait, resume, setPriority, getStatus}
 use Rattle.machine.specs.Objects.{oneMore, withValue, withUp, createSemaphore, waitSemaphore, signalled, signal, createEvent, setEvent, resetEvent, waitEvent}
-use Rattle.machine.specs.Channels.{portOf, channelChecks, write, read}
-use Rattle.machine.specs.Buffers.{createBuffer, sent, sendBuffer, received, receiveBuffer}
+use Rattle.machine.specs.Channels.{otherEnd, portOf, channelChecks, write, read, send, receive, erasedTo}
+use Rattle.machine.specs.Buffers.{createBuffer, sendBuffer, receiveBuffer}
 use Rattle.machine.specs.Blackboards.{createBlackboard, show, readBlackboard, clear}
 use Rattle.machine.specs.Services.{services, serviceOf, callDecision}
 use Rattle.machine.specs.Places.{strayField}
-use Rattle.machine.specs.Module.{noPartition, part, withPart, withTime}
+use Rattle.machine.specs.Module.{noPartition, channel, part, queue, withPart, withQueue, withTime}
 use Rattle.machine.specs.Ticks.{tickModule}
-use Rattle.machine.specs.Step.{contextOf, decision, moduleAfter, step}
-use Rattle.machine.specs.Valid.{Between, contains, Distinct, ListedIn, Valid, SoundChange, SoundDecision, SoundModule, Reached, plainTick}
+use Rattle.machine.specs.Step.{contextOf, decision, restarted, moduleAfter, step}
+use Rattle.machine.specs.Valid.{Between, contains, Distinct, ListedIn, Valid, SoundEnd, SoundChange, SoundDecision, SoundModule, Reached, plainTick}
 use Rattle.machine.specs.Plain.{plainById, followed, plainStored}
 use Rattle.machine.specs.Starred.{own, callBy, Calling, Gives, WaitEnded}
 use Rattle.machine.specs.Queues.{SameObjects, has, Queue, KeepsOrEnds, NotExchanged, QueueChanges, joining, QueueAfter, WaitsFor, Queued, FirstServed, NoneServed, AllServed, Queues}
 use Rattle.machine.proofs.Tests.{by-test, not-both, or-left, or-right, and-left, and-right, Passed, passed-parts, by-checks}
-use Rattle.machine.proofs.Bounds.{either, same-or-not, not-so, within-in, within-out, named-same, named-other, semaphore-in, event-in, created-in, created-out}
+use Rattle.machine.proofs.Bounds.{either, same-or-not, not-so, within-in, within-out, named-same, named-other, semaphore-in, event-in, buffer-in, created-in, created-out}
 use Rattle.machine.proofs.Lists.{members-idsOf, kept-snoc}
 use Rattle.machine.proofs.Tracking.{contains-kept, kept-same, kept-kept, kept-all, kept-no, kept-whole}
 use Rattle.machine.proofs.Keeping.{Rest, process-other, process-stored, stored-rest, rest-count, stored-listed, each-changed, from-range, changed-rest, changed-listed, changed-process, each-listed, each-process, AllCreated}
 use Rattle.machine.proofs.Sound.{ready-off}
 use Rattle.machine.proofs.Dispatch.{by-call, Calls, by-event}
 use Rattle.machine.proofs.Bodies.{Bodily, bodyRefusal}
-use Rattle.machine.proofs.Kept.{tick-valid, change-valid, nothing-valid, Caller, running-caller, waiters-distinct, waiters-exact, waiters-on, waiters-created}
+use Rattle.machine.proofs.Kept.{tick-valid, change-valid, nothing-valid, Caller, running-caller, waiters-distinct, waiters-exact, waiters-on, waiters-created, firsts-created, let-in-valid, ended-valid, end-same}
 use Rattle.machine.proofs.Calling.{field-number, from-zero, calling-valid, asked, decides, gives, own-after}
 use Rattle.machine.proofs.Corners.{known}
-use Rattle.machine.proofs.Reached.{at-set, plain-part, tick-module-plain, place, context-sound, made, made-sound, made-body, decided-sound, valid-sound, reached-valid}
+use Rattle.machine.proofs.Reached.{at-set, plain-part, tick-module-plain, place, context-sound, made, made-sound, made-body, decided-sound, valid-sound, reached-valid, part-sound, erased-sound, refilled-keeps, on-queue, transfer-sound}
 use Rattle.machine.proofs.Answers.{decided-table}
 use Rattle.machine.proofs.Plain.{by-id-plain, stored-plain}
 
@@ -368,6 +371,7 @@ Orderly c p (Blocked id x) = (id ≡ c .caller) × (normalMode p ≡ true)
 Orderly c p (Changed a b value) = OrderlyChange p a × OrderlyChange (applied a p) b
 Orderly c p (Restarted mode) = Unit {0}
 Orderly c p (Written i x) = Unit {0}
+Orderly c p (PassedOn i a value) = Unit {0}
 
 pub record InOrder (c : Context) (p : Partition) (d : Decision) : Type 0 where
   pub is : Orderly c p d
@@ -391,18 +395,8 @@ module _ (c : Context) (p : Partition) where
   signalled-order [] k = tt
   signalled-order (id ∷ l) k = inl refl
 
-  sent-order : (l : List ℕ) (k m : ℕ) → OrderlyChange p (sent l k m p)
-  unfolding sent
-  sent-order [] k m = tt
-  sent-order (id ∷ l) k m = inl refl
-
-  received-order : (l : List ℕ) (k : ℕ) → InOrder c p (received l k p)
-  unfolding received
-  received-order [] k = fine (tt, tt)
-  received-order (id ∷ l) k = fine (tt, inl refl)
-
   pub call-order : (x : Port) (n : ℕ) (r : Request) → InOrder c p (callDecision c x n r p)
-  unfolding setMode createProcess start stop stopSelf suspend suspendSelf timedWait periodicWait resume setPriority getStatus createSemaphore createEvent blocked waitSemaphore waitEvent signal setEvent resetEvent write read channelChecks createBuffer sendBuffer receiveBuffer createBlackboard show readBlackboard clear Passed
+  unfolding setMode createProcess start stop stopSelf suspend suspendSelf timedWait periodicWait resume setPriority getStatus createSemaphore createEvent blocked waitSemaphore waitEvent signal setEvent resetEvent write read channelChecks createBuffer sendBuffer receiveBuffer createBlackboard show readBlackboard clear send receive Passed
   call-order x n r =
       by-call c x n r p (InOrder c p)
       (λ _. in-order _ _ (λ _. by-test (InOrder c p) (isNumber 3 (r .a)) (λ _. fine (tt, tt)) (λ _. fine tt)))
@@ -427,12 +421,14 @@ module _ (c : Context) (p : Partition) where
       (λ _ _. in-order _ _ (λ _. in-order _ _ (λ _. fine tt)))
       (in-order _ _ (λ _. in-order _ _ (λ _. fine tt)))
       (λ _ _. in-order _ _ (λ _. fine (tt, tt)))
-      (λ _. await-order _ _ _ _ _ _ _ (fine (sent-order _ _ _, tt)))
-      (λ _. await-order _ _ _ _ _ _ _ (received-order _ _))
+      (λ _. await-order _ _ _ _ _ _ _ (fine (tt, tt)))
+      (λ _. await-order _ _ _ _ _ _ _ (fine (tt, tt)))
       (λ _. in-order _ _ (λ _. fine (tt, tt)))
       (λ _ _. in-order _ _ (λ _. fine (tt, tt)))
       (λ _ _. await-order _ _ _ _ _ _ _ (fine tt))
       (λ _. in-order _ _ (λ _. fine (tt, tt)))
+      (λ _. await-order _ _ _ _ _ _ _ (fine tt))
+      (λ _. await-order _ _ _ _ _ _ _ (fine tt))
       (λ _. fine tt)
     where
       starts : (id delay : ℕ) → KeepsOrEnds (process id p) (cond (normalMode p) (startRule c delay (process id p)) (startedEarly delay (process id p)))
@@ -450,6 +446,13 @@ module _ (o : ℕ) (some : o ≡ 0 → ⊥) where
   pub tick-part : (t : ℕ) (p : Partition) → ListedIn p → Part (waiters o p) (waiters o (tickPartition t p))
   tick-part t p v = either (normalMode p) (λ e. record { by = _; is = ticked-queue p v o some t e }) (λ e. part-of _ _ (unticked t p e))
 
+  -- the wait that a transfer ends
+  pub ended-part : (p : Partition) → ListedIn p → (a : Transfer) → SoundEnd p a → Part (waiters o p) (waiters o (endedBy a p))
+  ended-part p v (Put m) h = part-whole (waiters o p)
+  ended-part p v (HandedTo id m) h = stored-part o some p v id (h .0) _ (inl refl)
+  ended-part p v Taken h = part-whole (waiters o p)
+  ended-part p v (LetIn id m) h = stored-part o some p v id (h .0) _ (inl refl)
+
   pub change-part : (c : Context) (p : Partition) → Valid (c .frame) (c .time) p → (a : Change) → SoundChange c p a → OrderlyChange p a → Part (waiters o p) (waiters o (applied a p))
   change-part c p v Nothing h k = part-whole (waiters o p)
   change-part c p v (Stored id x) h k = stored-part o some p (v .lists) id (h .0) x k
@@ -458,7 +461,10 @@ module _ (o : ℕ) (some : o ≡ 0 → ⊥) where
   change-part c p v (StoredSemaphore j s) h k = part-of _ _ (semaphore-queue p (v .lists) o some j s)
   change-part c p v (StoredEvent j e) h k = part-of _ _ (event-queue p (v .lists) o some j e)
   change-part c p v (CreatedBuffer j name limit) h k = part-of _ _ (buffer-queue p (v .lists) o some j (emptyBuffer name limit))
-  change-part c p v (Moved j a) h k = part-of _ _ (buffer-queue p (v .lists) o some j (movedIn a (buffer j p)))
+  change-part c p v (Moved j a) h k =
+      let q = movedIn a (buffer j p) in
+      let is = buffer-in j q p (within-in bufferLimit j (h .0 .0) (omega (arith, h .0 .1, v .objects .buffers .numbered .few))) in
+      part-trans (part-of _ _ (buffer-queue p (v .lists) o some j q)) (ended-part (storedBuffer j q p) (rw is (v .lists)) a (rw is (end-same p _ a refl refl (h .2))))
   change-part c p v (StoredBlackboard j b) h k = part-of _ _ (blackboard-queue p (v .lists) o some j b)
   change-part c p v (Ended u) h k = record { by = _; is = ended-waits p (v .lists) o some served (λ _. refl) u }
   change-part c p v (Handed u m) h k = record { by = _; is = ended-waits p (v .lists) o some (handed m) (λ _. refl) u }
@@ -514,6 +520,28 @@ module _ (m : Module) (s : SoundModule m) (o : ℕ) (some : o ≡ 0 → ⊥) whe
       rw (tick-module-plain m (inr s), plain-part (m .table .size) (withTime (m .t + 1) m) long i l)
       (none-joins 0 k i (noted (tickPartition (m .t + 1) p)) (inl refl) (v .lists) (noted-part (waiters o p) _ (tick-part o some (m .t + 1) p (listed i l))))
 
+  -- a record of the module in which each queue is a part of what it was
+  abbrev Parts : Module → Type 0
+  Parts q = (i : ℕ) → i < m .table .size → ListedIn (part q i) × Part (waiters o (part m i)) (waiters o (part q i))
+
+  parts-follow : (q : Module) → Parts q → (k i : ℕ) → i < m .table .size → Follows 0 k i (part q i)
+  parts-follow q h k i l = let g = h i l in none-joins 0 k i (part q i) (inl refl) (g .0) (g .1)
+
+  -- a partition stored whose queue is a part of what it was
+  store-parts : (q : Module) → Parts q → length (q .partitions) ≡ partitionLimit → (j : ℕ) → j < m .table .size → (p : Partition) → ListedIn p → Part (waiters o (part q j)) (waiters o p) → Parts (withPart j p q)
+  store-parts q h long j here p v a i l =
+      at-set (λ i x. ListedIn x × Part (waiters o (part m i)) (waiters o x)) (q .partitions) j (noted p) noPartition (omega (arith, s .table .size .1)) i
+      (v, noted-part (waiters o (part m j)) p (part-trans (h j here .1) a))
+      (λ _. h i l)
+
+  -- the first who wait at the source of a channel let in
+  let-in-parts : (j i n frame t : ℕ) (p : Partition) → Valid frame t p → ListedIn p × Part (waiters o (part m j)) (waiters o p)
+      → let q = noted (changedAll served (take n (waiters (object (Source (i + 1) 0)) p)) p) in ListedIn q × Part (waiters o (part m j)) (waiters o q)
+  let-in-parts j i n frame t p v h = (
+    let-in-valid frame t p v (object (Source (i + 1) 0)) n .lists,
+    noted-part (waiters o (part m j)) _ (part-trans (h .1) (all-part o some served (λ x. inl refl) (take n (waiters (object (Source (i + 1) 0)) p)) p (v .lists) (firsts-created frame t p v (object (Source (i + 1) 0)) n))),
+  )
+
   module _ (r : Request) (c : Calls m r) where
     abbrev k : ℕ
     k = numberOf (r .partition)
@@ -551,6 +579,9 @@ module _ (m : Module) (s : SoundModule m) (o : ℕ) (some : o ≡ 0 → ⊥) whe
     unfolding waiters kept
     restart-part mode = record { by = λ _. false; is = sym (kept-no (λ _. false) (waiters o now) (λ _ _. refl)) }
 
+    same-parts : Parts m
+    same-parts i l = (listed i l, part-whole (waiters o (part m i)))
+
     follows : (d : Decision) → SoundDecision (contextOf m k) now d → Bodily (portOf m k r) (numberOf (r .call)) d → Orderly (contextOf m k) now d → (i : ℕ) → i < m .table .size → Follows (replyOf d .code) k i (part (moduleAfter m k d) i)
     follows (Refused n) h b g i l = same-joins n k i l (inl (low n b))
       where
@@ -563,8 +594,22 @@ module _ (m : Module) (s : SoundModule m) (o : ℕ) (some : o ≡ 0 → ⊥) whe
         let v = change-valid (contextOf m k) (context-sound m s r c) now now-valid x (h .0) in
         changes-follow (applied y (applied x now)) (change-valid (contextOf m k) (context-sound m s r c) (applied x now) v y (h .1) .lists)
         (part-trans (change-part o some (contextOf m k) now now-valid x (h .0) (g .0)) (change-part o some (contextOf m k) (applied x now) v y (h .1) (g .1))) i l
-    follows (Restarted mode) h b g i l = changes-follow (nothingCreated mode) (nothing-valid (m .table .frame) (m .t) mode h .lists) (restart-part mode) i l
+    follows (Restarted mode) h b g i l =
+        let u = erasedTo k channelLimit m in
+        let v = nothing-valid (m .table .frame) (m .t) mode h in
+        let p = nothingCreated mode in
+        parts-follow (restarted k p m) (refilled-keeps (λ i x. ListedIn x × Part (waiters o (part m i)) (waiters o x)) k (withPart (k - 1) p u) (part-sound u (erased-sound k channelLimit m (omega arith) s) (k - 1) here p v) channelLimit (λ i _ _. let-in-parts (channel (m .table) i .source - 1) i)
+        (store-parts u same-parts (s .partitionsSize) (k - 1) here p (v .lists) (restart-part mode))) k i l
     follows (Written j x) h b g i l = same-joins 0 k i l (inl refl)
+    follows (PassedOn j a n) h b g i l =
+        let t = transfer-sound m s r c j a n b in
+        let w = on-queue m s r c j a n b in
+        let e = otherEnd k (channel (m .table) j) - 1 in
+        let q = withQueue j (moved a (queue m j)) m in
+        let v = s .eachPartition e (w .inside) in
+        by-test (λ (x : Module). Follows 0 k i (part x i)) (endsWait a)
+        (λ _. parts-follow (withPart e (endedBy a (part m e)) q) (store-parts q same-parts (s .partitionsSize) e (w .inside) (endedBy a (part m e)) (ended-valid (m .table .frame) (m .t) (part m e) v (channel (m .table) j .size) (queue m j) a (t .1) (t .2) .lists) (ended-part o some (part m e) (v .lists) a (t .2))) k i l)
+        (λ _. same-joins 0 k i l (inl refl))
 
   pub event-follows : (r : Request) (i : ℕ) → i < m .table .size → Follows (replyOf (decision m r) .code) (numberOf (r .partition)) i (part (moduleAfter m (numberOf (r .partition)) (decision m r)) i)
   event-follows r =

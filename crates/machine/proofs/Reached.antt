@@ -1,44 +1,54 @@
 -- Every record that a run reaches is valid, and a tick that passes over partitions is the plain one there. Assumes nothing.
 use Prim.Native.Nat.{ℕ, zero, suc, _+_, _-_, _*_, _/_, _%_, _≤_, _<_}
-use mathlib.Core.Path.{_≡_, refl, ap, _∙_}
-use mathlib.Core.Bool.{false}
-use mathlib.Core.List.{List, [], _∷_}
-use mathlib.Core.Logic.{⊎-elim, inl, inr}
+use mathlib.Core.Path.{_≡_, refl, ap, sym, _∙_}
+use mathlib.Core.Bool.{true, false, not, _&&_, and-true, and-false}
+use mathlib.Core.List.{List, [], _∷_, map}
+use mathlib.Core.Logic.{_⊎_, ⊎-elim, inl, inr}
 use native.Mathlib.Omega.{arith}
 use native.Mathlib.Nat.{lt-div-mul-add, div-mul-le-self}
-use lib.ListN.{length, getD, set, length-set, getD-replicate}
+use lib.ListN.{length, getD, set, take, length-set, getD-replicate}
 use lib.Seq.{getD-set-same, getD-set-other}
-use lib.Dec.{eqb}
-use borrow.Author.Tests.{le-leb, ne-eqb, eqb-true, eqb-false}
+use lib.Dec.{eqb, ltb}
+use borrow.Author.Tests.{le-leb, lt-ltb, ltb-true, eq-eqb, ne-eqb, eqb-true, eqb-false}
 use Rattle.machine.specs.declared.Window.{Window}
 use Rattle.machine.specs.declared.Table.{Table}
 use Rattle.machine.specs.declared.Message.{Message}
+use Rattle.machine.specs.declared.Queue.{Queue}
+use Rattle.machine.specs.declared.Channel.{Channel}
+use Rattle.machine.specs.declared.Traffic.{Traffic}
+use Rattle.machine.specs.declared.Port.{Port}
+use Rattle.machine.specs.declared.Transfer.{Transfer}
+use Rattle.machine.specs.declared.Wait.the-variants.{Source}
 use Rattle.machine.specs.declared.Partition.{Partition}
 use Rattle.machine.specs.declared.Module.{Module}
 use Rattle.machine.specs.declared.Request.{Request}
 use Rattle.machine.specs.declared.Decision.{Decision}
-use Rattle.machine.specs.declared.Decision.the-variants.{Refused, Unchanged, Ticked, Blocked, Changed, Restarted, Written}
+use Rattle.machine.specs.declared.Decision.the-variants.{Refused, Unchanged, Ticked, Blocked, Changed, Restarted, Written, Passed}
 use Rattle.machine.specs.declared.Event.{Event as EventT}
-use Rattle.machine.specs.Limits.{timeLimit, partitionLimit, channelLimit, greatestTime}
+use Rattle.machine.specs.Limits.{timeLimit, durationLimit, messageLimit, partitionLimit, channelLimit, greatestTime}
 use Rattle.machine.specs.Fields.{requestOf, numberOf}
-use Rattle.machine.specs.Partition.{process, tickPartition, sooner, soonestFrom, soonestOf, withSoonest, noted, partitionAfter, freshPartition}
+use Rattle.machine.specs.Messages.{noQueue, queueOf, sent, received, moved, endsWait}
+use Rattle.machine.specs.Process.{object, carried, served}
+use Rattle.machine.specs.Partition.{process, waiters, firstWaiter, changedAll, tickPartition, sooner, soonestFrom, soonestOf, withSoonest, noted, partitionAfter, freshPartition}
 use Rattle.machine.specs.Decisions.{checked, noMessage}
 use Rattle.machine.specs.Services.{callDecision}
-use Rattle.machine.specs.Module.{noPartition, emptyTable, emptyModule, freshModule, channel, part, withPart, message, withMessages, withMessage, withTime}
+use Rattle.machine.specs.Module.{noPartition, emptyTable, emptyModule, freshModule, channel, part, withPart, message, queue, withMessages, withMessage, withQueue, withTime}
 use Rattle.machine.specs.Windows.{windows, flaggedFor, covers, owner, lookup, firstFlagged, releaseAfter, releasePoint}
 use Rattle.machine.specs.Ticks.{tickTo, partitionCount, tickModule}
-use Rattle.machine.specs.Channels.{seenAt, portOf, keptTo, erasedTo}
+use Rattle.machine.specs.Channels.{queuing, queuingAt, seenAt, apart, otherEnd, otherQueue, trafficOf, seesTraffic, trafficAt, portOf, passed, leadsInto, keptTo, erasedTo, admitted, refilledAt, refilledTo}
 use Rattle.machine.specs.Step.{contextOf, decision, moduleAfter, step}
 use Rattle.machine.specs.Table.{readTable}
 use Rattle.machine.specs.Valid.Reached.{stepped}
-use Rattle.machine.specs.Valid.{Valid, SoundContext, SoundDecision, SoundWindows, SoundTable, SoundMessage, Noted, SoundModule, ValidModule, Reached, plainTickTo, plainTick}
-use Rattle.machine.proofs.Tests.{by-test}
+use Rattle.machine.specs.Valid.{Between, Valid, SoundQueue, SoundMove, SoundEnd, AllMessages, SoundContext, SoundDecision, SoundWindows, SoundTable, SoundMessage, Noted, SoundModule, ValidModule, Reached, plainTickTo, plainTick}
+use Rattle.machine.proofs.Tests.{by-test, and-left, and-right}
 use Rattle.machine.proofs.Fields.{in-limits}
-use Rattle.machine.proofs.Bounds.{either, same-or-not, getD-replicate-any}
+use Rattle.machine.proofs.Bounds.{either, same-or-not, within-in, getD-replicate-any}
 use Rattle.machine.proofs.Dispatch.{Calls, by-event}
-use Rattle.machine.proofs.Bodies.{Bodily, call-body}
+use Rattle.machine.proofs.Bodies.{Sends, Receives, OnQueue, Bodily, call-body}
 use Rattle.machine.proofs.Refusals.{call-in-range}
-use Rattle.machine.proofs.Kept.{tick-valid, fresh-valid, call-sound, decision-valid}
+use Rattle.machine.proofs.Kept.{tick-valid, fresh-valid, SoundPort, call-sound, decision-valid, ended-valid, let-in-valid, let-in-queue, sent-sound, received-sound}
+use Rattle.machine.proofs.Messages.{queue-sound, moved-sound, first-sound}
+use Rattle.machine.proofs.Applied.{port-placed}
 use Rattle.machine.proofs.Quiet.{tick-to-plain}
 use Rattle.machine.proofs.Tables.{table-read}
 
@@ -110,10 +120,12 @@ module _ (m : Module) (s : SoundModule m) where
         table = s .table;
         partitionsSize = simp length-set (s .partitionsSize);
         messagesSize = s .messagesSize;
+        queuesSize = s .queuesSize;
         time = s .time;
         eachPartition = λ i l. at-set (λ _ q. Valid (m .table .frame) (m .t) q) (m .partitions) j (noted p) noPartition inside i (noted-valid (m .table .frame) (m .t) p v) (λ _. s .eachPartition i l);
         noted = λ i l. at-set (λ _ q. Noted q) (m .partitions) j (noted p) noPartition inside i (noted-noted p) (λ _. s .noted i l);
         eachMessage = s .eachMessage;
+        eachQueue = s .eachQueue;
       }
 
   pub message-sound : (j : ℕ) → j < channelLimit → (x : Message) → SoundMessage (m .t) x → SoundModule (withMessage j x m)
@@ -121,10 +133,25 @@ module _ (m : Module) (s : SoundModule m) where
     table = s .table;
     partitionsSize = s .partitionsSize;
     messagesSize = simp length-set (s .messagesSize);
+    queuesSize = s .queuesSize;
     time = s .time;
     eachPartition = s .eachPartition;
     noted = s .noted;
+    eachQueue = s .eachQueue;
     eachMessage = λ i. at-set (λ _ q. SoundMessage (m .t) q) (m .messages) j x noMessage (omega (arith, s .messagesSize)) i v (λ _. s .eachMessage i);
+  }
+
+  pub queue-stored : (j : ℕ) → j < channelLimit → (q : Queue) → SoundQueue (channel (m .table) j .size) q → SoundModule (withQueue j q m)
+  queue-stored j h q v = record {
+    table = s .table;
+    partitionsSize = s .partitionsSize;
+    messagesSize = s .messagesSize;
+    queuesSize = simp length-set (s .queuesSize);
+    time = s .time;
+    eachPartition = s .eachPartition;
+    noted = s .noted;
+    eachMessage = s .eachMessage;
+    eachQueue = λ i. at-set (λ i q. SoundQueue (channel (m .table) i .size) q) (m .queues) j q noQueue (omega (arith, s .queuesSize)) i v (λ _. s .eachQueue i);
   }
 
 no-message : (t : ℕ) → SoundMessage t noMessage
@@ -133,7 +160,7 @@ no-message t = record { value = omega arith; written = omega arith }
 -- ---------------------------------------------------------------- the tick
 -- all but the partitions is as it was
 abbrev pub Around : Module → Module → Type 0
-Around m q = q ≡ record { table = m .table; t = m .t; messages = m .messages; partitions = q .partitions }
+Around m q = q ≡ record { table = m .table; t = m .t; messages = m .messages; queues = m .queues; partitions = q .partitions }
 
 pub plain-around : (n : ℕ) (m : Module) → Around m (plainTickTo n m)
 unfolding plainTickTo
@@ -178,14 +205,16 @@ module _ (m : Module) (s : SoundModule m) where
         table = s .table;
         partitionsSize = plain-size n q ∙ s .partitionsSize;
         messagesSize = s .messagesSize;
+        queuesSize = s .queuesSize;
         time = omega arith;
         eachPartition = λ i h. rw (plain-part n q long i h) (noted-valid (m .table .frame) (m .t + 1) _ (tick-valid (m .table .frame) (m .t) (part m i) (s .eachPartition i h)));
         noted = λ i h. rw (plain-part n q long i h) (noted-noted (tickPartition (m .t + 1) (part m i)));
         eachMessage = λ i. let x = s .eachMessage i in record { value = x .value; written = omega (arith, x .written) };
+        eachQueue = s .eachQueue;
       })
 
 -- ---------------------------------------------------------------- calls
-erased-sound : (k n : ℕ) (m : Module) → n ≤ channelLimit → SoundModule m → SoundModule (erasedTo k n m)
+pub erased-sound : (k n : ℕ) (m : Module) → n ≤ channelLimit → SoundModule m → SoundModule (erasedTo k n m)
 unfolding keptTo
 erased-sound k zero m h s = s
 erased-sound k (suc n) m h s =
@@ -194,9 +223,111 @@ erased-sound k (suc n) m h s =
     (λ _. message-sound (erasedTo k n m) e n (omega arith) noMessage (no-message (erasedTo k n m .t)))
     (λ _. e)
 
+-- a channel of a sound table is queuing by its size alone
+pub queuing-plain : (T : Table) → SoundTable T → (i : ℕ) → i < T .channelCount → queuing (channel T i) ≡ ltb 0 (channel T i .size)
+queuing-plain T s i l =
+    let c = s .eachChannel i l in
+    rw (within-in partitionLimit (channel T i .source) (c .source .0) (omega (arith, c .source .1, s .size .1)), within-in partitionLimit (channel T i .destination) (c .destination .0) (omega (arith, c .destination .1, s .size .1)), and-true (ltb 0 (channel T i .size)))
+
+-- queues filled anew
+pub refilled-table : (k n : ℕ) (m : Module) → refilledTo k n m .table ≡ m .table
+unfolding refilledTo
+refilled-table k zero m = refl
+refilled-table k (suc n) m = by-test (λ (x : Module). x .table ≡ m .table) (queuingAt (refilledTo k n m .table) n && leadsInto k (channel (refilledTo k n m .table) n)) (λ _. refilled-table k n m) (λ _. refilled-table k n m)
+
+pub refilled-at-sound : (i : ℕ) (m : Module) → SoundModule m → i < m .table .channelCount → SoundModule (refilledAt i m)
+refilled-at-sound i m s l =
+    let c = channel (m .table) i in
+    let j = c .source - 1 in
+    let p = part m j in
+    let b = s .table .eachChannel i l .source in
+    let here : j < m .table .size = omega (arith, b .0, b .1) in
+    let o = object (Source (i + 1) 0) in
+    let v = s .eachPartition j here in
+    part-sound (withQueue i (queueOf (map (λ id. carried (process id p)) (admitted i c p))) m)
+    (queue-stored m s i (omega (arith, l, s .table .channelCount)) _ (let-in-queue (m .table .frame) (m .t) p v o (c .size)))
+    j here _ (let-in-valid (m .table .frame) (m .t) p v o (c .size))
+
+pub refilled-sound : (k n : ℕ) (m : Module) → SoundModule m → SoundModule (refilledTo k n m)
+unfolding refilledTo
+refilled-sound k zero m s = s
+refilled-sound k (suc n) m s =
+    let u = refilledTo k n m in
+    let e = refilled-sound k n m s in
+    by-test SoundModule (queuingAt (u .table) n && leadsInto k (channel (u .table) n))
+    (λ t. refilled-at-sound n u e (ltb-true n (u .table .channelCount) (and-left (ltb n (u .table .channelCount)) _ (and-left (queuingAt (u .table) n) _ t))))
+    (λ _. e)
+
+-- a queue that a restart of partition k fills anew
+pub record Fills (m : Module) (k i : ℕ) : Type 0 where
+  pub there : i < m .table .channelCount
+  pub few : i < channelLimit
+  pub kind : queuing (channel (m .table) i) ≡ true
+  pub into : channel (m .table) i .destination ≡ k
+
+pub fills : (m : Module) → SoundModule m → (k i : ℕ) (T : Table) → T ≡ m .table → (queuingAt T i && leadsInto k (channel T i)) ≡ true → Fills m k i
+fills m s k i T e t =
+    let w : (queuingAt (m .table) i && leadsInto k (channel (m .table) i)) ≡ true = ap (λ (U : Table). queuingAt U i && leadsInto k (channel U i)) (sym e) ∙ t in
+    let g = and-left (queuingAt (m .table) i) _ w in
+    let l = ltb-true i (m .table .channelCount) (and-left (ltb i (m .table .channelCount)) _ g) in
+    record { there = l; few = omega (arith, s .table .channelCount); kind = and-right (ltb i (m .table .channelCount)) _ g; into = eqb-true _ k (and-right (queuingAt (m .table) i) _ w) }
+
+-- what letting in the first who wait at the source of such a channel keeps of each partition, filling queues anew keeps
+pub refilled-keeps : (P : ℕ → Partition → Type 0) (k : ℕ) (m : Module) → SoundModule m → (n : ℕ)
+    → ((i : ℕ) → i < n → Fills m k i → (size frame t : ℕ) (p : Partition) → Valid frame t p → let j = channel (m .table) i .source - 1 in P j p → P j (noted (changedAll served (take size (waiters (object (Source (i + 1) 0)) p)) p)))
+    → ((i : ℕ) → i < m .table .size → P i (part m i)) → (i : ℕ) → i < m .table .size → P i (part (refilledTo k n m) i)
+unfolding refilledTo
+refilled-keeps P k m s zero lets h i l = h i l
+refilled-keeps P k m s (suc n) lets h i l =
+    let u = refilledTo k n m in
+    let e = refilled-sound k n m s in
+    let T = refilled-table k n m in
+    let c = channel (m .table) n in
+    let j = c .source - 1 in
+    let ih : (i : ℕ) → i < m .table .size → P i (part u i) = refilled-keeps P k m s n (λ i b. lets i (omega arith)) h in
+    by-test (λ (x : Module). P i (part x i)) (queuingAt (u .table) n && leadsInto k (channel (u .table) n))
+    (λ t.
+    let f = fills m s k n (u .table) T t in
+    let b = s .table .eachChannel n (f .there) .source in
+    let here : j < m .table .size = omega (arith, b .0, b .1) in
+    let is : channel (u .table) n ≡ c = ap (λ (U : Table). channel U n) T in
+    let size : u .table .size ≡ m .table .size = ap (λ (U : Table). U .size) T in
+    rw is (at-set P (u .partitions) j (noted (changedAll served (admitted n c (part u j)) (part u j))) noPartition (omega (arith, here, e .partitionsSize, s .table .size .1)) i
+    (lets n (omega arith) f (c .size) (u .table .frame) (u .t) (part u j) (e .eachPartition j (omega arith)) (ih j here))
+    (λ _. ih i l)))
+    (λ _. ih i l)
+
+-- a transfer, where it may be made
+pub passed-sound : (m : Module) → SoundModule m → (k i : ℕ) (a : Transfer) → i < m .table .channelCount
+    → SoundMove (channel (m .table) i .size) (queue m i) a → SoundEnd (part m (otherEnd k (channel (m .table) i) - 1)) a → SoundModule (passed k i a m)
+passed-sound m s k i a l h e =
+    let c = channel (m .table) i in
+    let j = otherEnd k c - 1 in
+    let g = s .table .eachChannel i l in
+    let few : c .size ≤ messageLimit = omega (arith, g .room) in
+    let u = withQueue i (moved a (queue m i)) m in
+    let w = queue-stored m s i (omega (arith, l, s .table .channelCount)) (moved a (queue m i)) (moved-sound (c .size) (queue m i) (s .eachQueue i) few a h) in
+    let end : Between 1 (m .table .size) (otherEnd k c) = by-test (Between 1 (m .table .size)) (eqb (c .source) k) (λ _. g .destination) (λ _. g .source) in
+    let here : j < m .table .size = omega (arith, end .0, end .1) in
+    by-test SoundModule (endsWait a)
+    (λ _. part-sound u w j here _ (ended-valid (m .table .frame) (m .t) (part m j) (s .eachPartition j here) (c .size) (queue m i) a h e))
+    (λ _. w)
+
+-- what is seen of traffic is sound
+traffic-sound : (m : Module) → SoundModule m → (k i : ℕ) → trafficAt m k i .first ≤ durationLimit
+traffic-sound m s k i = by-test (λ (x : Traffic). x .first ≤ durationLimit) (seesTraffic (m .table) k i) (λ _. first-sound (channel (m .table) i .size) (queue m i) (s .eachQueue i)) (λ _. omega arith)
+
 -- what is seen of a message is sound
 seen-sound : (m : Module) → SoundModule m → (k i : ℕ) → SoundMessage (m .t) (seenAt k (channel (m .table) i) (message m i))
 seen-sound m s k i = by-test (SoundMessage (m .t)) (eqb (channel (m .table) i .destination) k) (λ _. s .eachMessage i) (λ _. no-message (m .t))
+
+-- channel number i + 1, on which partition k makes a transfer: it is a queuing one of the table, k is at one of its ends, and its traffic is seen
+pub record Channelled (m : Module) (k i : ℕ) (x : Port) : Type 0 where
+  pub there : i < m .table .channelCount
+  pub is : x .channel ≡ channel (m .table) i
+  pub kind : queuing (channel (m .table) i) ≡ true
+  pub sees : x .traffic ≡ trafficOf (queue m i) (otherQueue k i (channel (m .table) i)) (part m (otherEnd k (channel (m .table) i) - 1))
+  pub inside : otherEnd k (channel (m .table) i) - 1 < m .table .size
 
 module _ (m : Module) (s : SoundModule m) (r : Request) (q : Calls m r) where
   abbrev caller : ℕ
@@ -210,12 +341,19 @@ module _ (m : Module) (s : SoundModule m) (r : Request) (q : Calls m r) where
       let b = release-bounds (m .table) (s .table) (m .t) (s .time) caller in
       record { time = s .time; frame = s .table .frame; ahead = b .0; near = b .1; caller = refl; calls = q .caller }
 
+  pub port-sound : SoundPort (m .t) (portOf m caller r)
+  port-sound = record {
+    message = seen-sound m s caller (numberOf (r .a) - 1);
+    first = traffic-sound m s caller (numberOf (r .a) - 1);
+    placed = port-placed (m .table) caller (r .a) (message m (numberOf (r .a) - 1)) (trafficAt m caller (numberOf (r .a) - 1)) (s .table .channelsSize);
+  }
+
   abbrev pub made : Decision
   made = callDecision (contextOf m caller) (portOf m caller r) (numberOf (r .call)) r (part m (caller - 1))
 
   -- what a call decides is sound
   pub made-sound : SoundDecision (contextOf m caller) (part m (caller - 1)) made
-  made-sound = call-sound (contextOf m caller) (portOf m caller r) (numberOf (r .call)) r (part m (caller - 1)) (s .eachPartition (caller - 1) place) context-sound (seen-sound m s caller (numberOf (r .a) - 1)) .is
+  made-sound = call-sound (contextOf m caller) (portOf m caller r) (numberOf (r .call)) r (part m (caller - 1)) (s .eachPartition (caller - 1) place) context-sound port-sound .is
 
   pub made-body : Bodily (portOf m caller r) (numberOf (r .call)) made
   made-body = let u = call-in-range (m .table) r (q .formed) (ne-eqb caller 0 (q .some)) in call-body (portOf m caller r) (numberOf (r .call)) (contextOf m caller) r (part m (caller - 1)) (u .0) (u .1) .is
@@ -226,6 +364,39 @@ module _ (m : Module) (s : SoundModule m) (r : Request) (q : Calls m r) where
   stores : (d : Decision) → SoundDecision (contextOf m caller) (part m (caller - 1)) d → SoundModule (withPart (caller - 1) (partitionAfter d (part m (caller - 1))) m)
   stores d h = part-sound m s (caller - 1) place _ (valid d h)
 
+  pub on-queue : (i : ℕ) (a : Transfer) (n : ℕ) → OnQueue (portOf m caller r) (numberOf (r .call)) i a n → Channelled m caller i (portOf m caller r)
+  on-queue i a n b =
+      let e = in-limits 1 (m .table .channelCount) (r .a) (b .there) in
+      let l : numberOf (r .a) - 1 < m .table .channelCount = omega (arith, e .0, e .1) in
+      let c = channel (m .table) (numberOf (r .a) - 1) in
+      let g = s .table .eachChannel (numberOf (r .a) - 1) l in
+      let at : apart caller c ≡ false = ⊎-elim
+      (λ (h : Sends (portOf m caller r) (numberOf (r .call)) a n). rw (eq-eqb (c .source) caller (h .source)))
+      (λ (h : Receives (portOf m caller r) (numberOf (r .call)) a n). rw (eq-eqb (c .destination) caller (h .destination), and-false (not (eqb (c .source) caller))))
+      (b .end) in
+      let end : Between 1 (m .table .size) (otherEnd caller c) = by-test (Between 1 (m .table .size)) (eqb (c .source) caller) (λ _. g .destination) (λ _. g .source) in
+      let sees : seesTraffic (m .table) caller (numberOf (r .a) - 1) ≡ true = rw (lt-ltb _ _ l, b .kind, at) in
+      rw (b .place) (record { there = l; is = refl; kind = b .kind; sees = rw sees; inside = omega (arith, end .0, end .1) })
+
+  -- the channel of a transfer: what is seen of it is its traffic
+  pub transfer-sound : (i : ℕ) (a : Transfer) (n : ℕ) → OnQueue (portOf m caller r) (numberOf (r .call)) i a n
+      → (i < m .table .channelCount) × SoundMove (channel (m .table) i .size) (queue m i) a × SoundEnd (part m (otherEnd caller (channel (m .table) i) - 1)) a
+  transfer-sound i a n b =
+      let g = on-queue i a n b in
+      let c = channel (m .table) i in
+      let j = otherEnd caller c - 1 in
+      let o = otherQueue caller i c in
+      let v = s .eachPartition j (g .inside) in
+      let t : SoundMove (c .size) (queue m i) a × SoundEnd (part m j) a = ⊎-elim
+      (λ (h : Sends (portOf m caller r) (numberOf (r .call)) a n).
+      let is : a ≡ sent (firstWaiter o (part m j)) (h .message) = h .transfer ∙ ap (λ (x : Traffic). sent (x .waiter) (h .message)) (g .sees) in
+      rw is (sent-sound (part m j) (v .lists) o (c .size) (queue m i) (h .message) (let l = h .room in let z = ap (λ (x : Traffic). x .len) (g .sees) in let w = ap (λ (x : Channel). x .size) (g .is) in omega arith) (h .few)))
+      (λ (h : Receives (portOf m caller r) (numberOf (r .call)) a n).
+      let is : a ≡ received (firstWaiter o (part m j)) (carried (process (firstWaiter o (part m j)) (part m j))) = h .transfer ∙ ap (λ (x : Traffic). received (x .waiter) (x .carried)) (g .sees) in
+      rw is (received-sound (m .table .frame) (m .t) (part m j) v o (c .size) (queue m i) (let l = h .some in let z = ap (λ (x : Traffic). x .len) (g .sees) in omega arith)))
+      (b .end) in
+      (g .there, t .0, t .1)
+
   -- a sound decision of the caller's partition, applied
   applied-sound : (d : Decision) → SoundDecision (contextOf m caller) (part m (caller - 1)) d → Bodily (portOf m caller r) (numberOf (r .call)) d → SoundModule (moduleAfter m caller d)
   applied-sound (Refused n) h b = s
@@ -234,10 +405,11 @@ module _ (m : Module) (s : SoundModule m) (r : Request) (q : Calls m r) where
   applied-sound (Blocked id x) h b = stores (Blocked id x) h
   applied-sound (Changed x y n) h b = stores (Changed x y n) h
   applied-sound (Restarted mode) h b =
-      part-sound (erasedTo caller channelLimit m) (erased-sound caller channelLimit m (omega arith) s) (caller - 1) place _ (valid (Restarted mode) h)
+      refilled-sound caller channelLimit _ (part-sound (erasedTo caller channelLimit m) (erased-sound caller channelLimit m (omega arith) s) (caller - 1) place _ (valid (Restarted mode) h))
   applied-sound (Written i x) h b =
       let c = in-limits 1 (m .table .channelCount) (r .a) (b .there) in
       message-sound m s i (omega (arith, b .place, c .0, c .1, s .table .channelCount)) x h
+  applied-sound (Passed i a n) h b = let t = transfer-sound i a n b in passed-sound m s caller i a (t .0) (t .1) (t .2)
 
 pub decided-sound : (m : Module) → SoundModule m → (r : Request) → SoundModule (moduleAfter m (numberOf (r .partition)) (decision m r))
 decided-sound m s r =
@@ -256,6 +428,10 @@ unfolding step
 step-valid m e (inl h) = inl (rw h (empty-step e))
 step-valid m e (inr s) = inr (decided-sound m s (requestOf e))
 
+empty-queue : (n : ℕ) → SoundQueue n noQueue
+unfolding AllMessages
+empty-queue n = queue-sound n [] (omega arith) tt
+
 fresh-noted : Noted freshPartition
 unfolding freshPartition soonestFrom
 fresh-noted = refl
@@ -266,10 +442,12 @@ fresh-sound T s = record {
   table = s;
   partitionsSize = refl;
   messagesSize = refl;
+  queuesSize = refl;
   time = omega arith;
   eachPartition = λ i h. rw (getD-replicate partitionLimit i freshPartition noPartition (omega (arith, s .size .1))) (fresh-valid (T .frame) 0);
   noted = λ i h. rw (getD-replicate partitionLimit i freshPartition noPartition (omega (arith, s .size .1))) fresh-noted;
   eachMessage = λ i. rw (getD-replicate-any channelLimit i noMessage) (no-message 0);
+  eachQueue = λ i. rw (getD-replicate-any channelLimit i noQueue) (empty-queue (channel T i .size));
 }
 
 pub reached-valid : (m : Module) → Reached m → ValidModule m
@@ -293,16 +471,17 @@ tick-module-plain m (inr s) = tick-plain m s
 pub record Sized (m : Module) : Type 0 where
   pub partitions : length (m .partitions) ≡ partitionLimit
   pub messages : length (m .messages) ≡ channelLimit
+  pub queues : length (m .queues) ≡ channelLimit
   pub time : m .t ≤ timeLimit
   pub size : m .table .size ≤ partitionLimit
 
 empty-sized : Sized emptyModule
 unfolding emptyModule emptyTable
-empty-sized = record { partitions = refl; messages = refl; time = omega arith; size = omega arith }
+empty-sized = record { partitions = refl; messages = refl; queues = refl; time = omega arith; size = omega arith }
 
 pub valid-sized : (m : Module) → ValidModule m → Sized m
 valid-sized m (inl h) = rw h empty-sized
-valid-sized m (inr s) = record { partitions = s .partitionsSize; messages = s .messagesSize; time = s .time; size = s .table .size .1 }
+valid-sized m (inr s) = record { partitions = s .partitionsSize; messages = s .messagesSize; queues = s .queuesSize; time = s .time; size = s .table .size .1 }
 
 -- a record that has a partition has a sound table
 pub valid-sound : (m : Module) → ValidModule m → (i : ℕ) → i < m .table .size → SoundModule m

@@ -2,14 +2,14 @@
 use Prim.Native.Nat.{ℕ, zero, suc, _+_, _-_, _*_, _≤_, _<_, max}
 use mathlib.Core.Path.{_≡_, refl, sym, ap, _∙_}
 use mathlib.Core.Bool.{Bool, true, false, cond, not, _||_, and-false, or-true, _&&_}
-use mathlib.Core.List.{List, [], _∷_, _++_}
+use mathlib.Core.List.{List, [], _∷_, _++_, map}
 use mathlib.Core.Logic.{inr, ⊎-elim}
 use native.Mathlib.Omega.{arith}
 use lib.IntN.{pos}
-use lib.ListN.{getD, length, length-set}
+use lib.ListN.{getD, length, take, length-set}
 use lib.Seq.{getD-set-same, getD-set-other}
 use lib.Dec.{eqb}
-use borrow.Author.Tests.{eqb-true, eqb-false, eq-eqb, ne-eqb, le-leb, not-true}
+use borrow.Author.Tests.{eqb-true, eqb-false, eq-eqb, ne-eqb, le-leb, lt-ltb, not-true}
 use Rattle.machine.specs.declared.Process.{Process}
 use Rattle.machine.specs.declared.Partition.{Partition}
 use Rattle.machine.specs.declared.Event.{Event as EventT}
@@ -17,19 +17,22 @@ use Rattle.machine.specs.declared.Table.{Table}
 use Rattle.machine.specs.declared.Module.{Module}
 use Rattle.machine.specs.declared.Port.{Port}
 use Rattle.machine.specs.declared.Message.{Message}
+use Rattle.machine.specs.declared.Queue.{Queue}
+use Rattle.machine.specs.declared.Transfer.{Transfer}
 use Rattle.machine.specs.declared.Change.the-variants.{Entered}
 use Rattle.machine.specs.declared.Decision.{Decision}
-use Rattle.machine.specs.declared.Decision.the-variants.{Written, Ticked, Restarted}
+use Rattle.machine.specs.declared.Decision.the-variants.{Written, Ticked, Restarted, Passed}
 use Rattle.machine.specs.declared.Field.{Field}
 use Rattle.machine.specs.declared.Field.the-variants.{Number, MinusOne, Other}
 use Rattle.machine.specs.declared.Wait.{Wait}
-use Rattle.machine.specs.declared.Wait.the-variants.{None, Normal, Delay, Timed, Period, Semaphore, Event, Sending, Receiving, Blackboard}
+use Rattle.machine.specs.declared.Wait.the-variants.{None, Normal, Delay, Timed, Period, Semaphore, Event, Sending, Receiving, Blackboard, Source, Destination}
 use Rattle.machine.specs.declared.Time.{Time}
 use Rattle.machine.specs.declared.Time.the-variants.{Never, At}
 use Rattle.machine.specs.Limits.{timeLimit, channelLimit}
 use Rattle.machine.specs.Fields.{field, requestOf, isNumber, numberOf}
 use Rattle.machine.specs.Ids.{members, kept}
-use Rattle.machine.specs.Process.{due, object, onObject, ready, onlyMarked, waitEnded, woken, expired, ticked, waitsForNothing, entered}
+use Rattle.machine.specs.Messages.{noQueue, held, endsWait}
+use Rattle.machine.specs.Process.{due, object, carried, onObject, ready, onlyMarked, waitEnded, woken, expired, ticked, waitsForNothing, entered}
 use Rattle.machine.specs.Partition.{process, semaphore, event, withMode, waitsOn, waiters, enteredNormal, tickPartition, noted, nothingCreated}
 use Rattle.machine.specs.Windows.{windows}
 use Rattle.machine.specs.Services.{services, callDecision}
@@ -46,11 +49,13 @@ use Rattle.machine.specs.Valid.{Between, SoundModule, contains, plainTic
 use Rattle.machine.proofs.Tests.{by-test, and-left, and-right, not-both}
 use Rattle.machine.proofs.Bounds.{not-so, same-or-not}
 use Rattle.machine.proofs.Dispatch.{by-event, by-decision, ticks-decided}
-use Rattle.machine.proofs.Bodies.{FromSource, Bodily, call-body}
+use Rattle.machine.proofs.Bodies.{FromSource, Sends, Receives, OnQueue, Bodily, call-body}
 use Rattle.machine.proofs.Refusals.{refused-same, places, call-in-range}
 use Rattle.machine.proofs.Keeping.{each-rest, each-process}
-use Rattle.machine.proofs.Kept.{waiters-exact}
-use Rattle.machine.proofs.Reached.{reached-valid, valid-sound, plain-part, tick-module-plain}
+use Rattle.machine.proofs.Kept.{waiters-exact, nothing-valid}
+use Rattle.machine.proofs.Lists.{held-queueOf}
+use Rattle.machine.proofs.Restarts.{refilled-messages, refilled-queue, refilled-queue-other, refilled-part-other}
+use Rattle.machine.proofs.Reached.{reached-valid, valid-sound, plain-part, tick-module-plain, part-sound, erased-sound, Fills, queuing-plain}
 use Rattle.machine.proofs.Queues.{signal-first, set-event}
 use Rattle.machine.proofs.Calling.{field-number, from-zero, number-is, number-of, calling-sound, calling-place, calling-valid, gives, own-after}
 use Rattle.machine.proofs.Worked.{worked}
@@ -144,11 +149,45 @@ restart-keeps m e i w d =
     let made = callDecision (St.contextOf m k) x (numberOf (r .call)) r (M.part m (k - 1)) in
     let body = call-body x (numberOf (r .call)) (St.contextOf m k) r (M.part m (k - 1)) (u .0) (u .1) .is in
     by-decision m k made (λ (y : Module). M.message y i ≡ M.message m i) refl ticked refl
-    (erased-other k channelLimit m i (ne-eqb _ k (λ s. d (number-of (e .partition) (q .some) ∙ ap pos (sym s)))))
+    (ap (λ (l : List Message). getD l i D.noMessage) (refilled-messages k channelLimit _) ∙ erased-other k channelLimit m i (ne-eqb _ k (λ s. d (number-of (e .partition) (q .some) ∙ ap pos (sym s)))))
     (λ j y s. absurd (w (number-of (e .call) (λ z. omega (arith, u .0)) ∙ ap pos (left-by x (numberOf (r .call)) made j y s body .call))))
+    (λ j a v s. by-test (λ (y : Module). M.message y i ≡ M.message m i) (endsWait a) (λ _. refl) (λ _. refl))
   where
     left-by : (x : Port) (n : ℕ) (a : Decision) (j : ℕ) (y : Message) → a ≡ Written j y → Bodily x n a → FromSource x n j
     left-by x n a j y e b = rw e at b
+
+-- the queues of messages
+tick-queues : (n : ℕ) (m : Module) → Ti.tickTo n m .queues ≡ m .queues
+unfolding Ti.tickTo Ti.tickAt
+tick-queues zero m = refl
+tick-queues (suc n) m = by-test (λ (x : Module). x .queues ≡ m .queues) (Ti.dueAt n (Ti.tickTo n m)) (λ _. tick-queues n m) (λ _. tick-queues n m)
+
+restart-keeps-queue : (m : Module) (e : EventT) (i : ℕ) → (e .call ≡ pos 30 → ⊥) → (e .call ≡ pos 31 → ⊥) → (e .partition ≡ pos (M.channel (m .table) i .destination) → ⊥) → M.queue (St.step m e .state) i ≡ M.queue m i
+unfolding St.step
+restart-keeps-queue m e i no-send no-receive d =
+    let r = requestOf e in
+    let k = numberOf (r .partition) in
+    let ticked : M.queue (Ti.tickModule m) i ≡ M.queue m i = ap (λ (l : List Queue). getD l i noQueue) (tick-queues (Ti.partitionCount (m .table)) (M.withTime (m .t + 1) m)) in
+    by-event m r (λ (x : Decision). M.queue (St.moduleAfter m k x) i ≡ M.queue m i)
+    (λ n _. refl)
+    (λ _ _ _. ticked)
+    λ q.
+    let x = Ch.portOf m k r in
+    let u = call-in-range (m .table) r (q .formed) (ne-eqb k 0 (q .some)) in
+    let made = callDecision (St.contextOf m k) x (numberOf (r .call)) r (M.part m (k - 1)) in
+    let body = call-body x (numberOf (r .call)) (St.contextOf m k) r (M.part m (k - 1)) (u .0) (u .1) .is in
+    let call-is : e .call ≡ pos (numberOf (r .call)) = number-of (e .call) (λ z. omega (arith, u .0)) in
+    let out : eqb (M.channel (m .table) i .destination) k ≡ false = ne-eqb _ k (λ s. d (number-of (e .partition) (q .some) ∙ ap pos (sym s))) in
+    by-decision m k made (λ (y : Module). M.queue y i ≡ M.queue m i) refl ticked refl
+    (refilled-queue-other k channelLimit _ i (rw out (and-false (Ch.queuingAt (m .table) i))))
+    (λ j y s. refl)
+    (λ j a v s. ⊎-elim
+    (λ (h : Sends x (numberOf (r .call)) a v). absurd (no-send (call-is ∙ ap pos (h .call))))
+    (λ (h : Receives x (numberOf (r .call)) a v). absurd (no-receive (call-is ∙ ap pos (h .call))))
+    (passed-by x (numberOf (r .call)) made j a v s body .end))
+  where
+    passed-by : (x : Port) (n : ℕ) (y : Decision) (j : ℕ) (a : Transfer) (v : ℕ) → y ≡ Passed j a v → Bodily x n y → OnQueue x n j a v
+    passed-by x n y j a v e b = rw e at b
 
 -- ---------------------------------------------------------------- waits
 waits : (w : Wait) → (w ≡ None → ⊥) → waitsForNothing w ≡ false
@@ -162,6 +201,8 @@ waits (Event j) h = refl
 waits (Sending j m) h = refl
 waits (Receiving j) h = refl
 waits (Blackboard j) h = refl
+waits (Source j m) h = refl
+waits (Destination j) h = refl
 
 -- the wait that names semaphore j, event j
 semaphore-is : (w : Wait) (j : ℕ) → j ≤ 255 → object w ≡ object (Semaphore j) → w ≡ Semaphore j
@@ -175,6 +216,8 @@ semaphore-is (Event i) j h e = absurd (omega arith)
 semaphore-is (Sending i m) j h e = absurd (omega arith)
 semaphore-is (Receiving i) j h e = absurd (omega arith)
 semaphore-is (Blackboard i) j h e = absurd (omega arith)
+semaphore-is (Source i m) j h e = absurd (omega arith)
+semaphore-is (Destination i) j h e = absurd (omega arith)
 
 suspended-not-ready : (x : Process) → x .suspended ≡ true → ready x ≡ false
 suspended-not-ready x h = rw h (and-false (x .started))
@@ -243,6 +286,8 @@ module _ (t : ℕ) (x : Process) where
     sending = λ w j n e h r. wait-over w 6 e h (rw r) (rw (r, ne-eqb (256 * 3 + j) 0 (λ z. omega arith)));
     receiving = λ w j e h r. wait-over w 6 e h (rw r) (rw (r, ne-eqb (256 * 4 + j) 0 (λ z. omega arith)));
     blackboard = λ w j e h r. wait-over w 6 e h (rw r) (rw (r, ne-eqb (256 * 5 + j) 0 (λ z. omega arith)));
+    source = λ w j n e h r. wait-over w 6 e h (rw r) (rw (r, ne-eqb (256 * 6 + j) 0 (λ z. omega arith)));
+    destination = λ w j e h r. wait-over w 6 e h (rw r) (rw (r, ne-eqb (256 * 7 + j) 0 (λ z. omega arith)));
     delay = λ w e h r. wait-over w 0 e h (rw r) (rw r);
     timed = λ w e h r. wait-over w 0 e h (rw r) (rw r);
     period = λ w e h r. wait-over w 0 e h (rw r) (rw r);
@@ -302,7 +347,7 @@ module _ (m : Module) (k : ℕ) (u : SoundModule m) (h : Calling m k) where
 
   -- ---------------------------------------------------------------- modes 0, 1, 2
   module _ (mode : ℕ) (low : mode ≤ 2) (warm : mode ≡ 2 → own m k .mode ≡ 1 → ⊥) where
-    restart-gives : Gives m (callBy k 1 (pos mode) (pos 0) (pos 0) (pos 0)) 0 0 (At 0) (M.withPart (k - 1) (nothingCreated mode) (Ch.erasedTo k channelLimit m))
+    restart-gives : Gives m (callBy k 1 (pos mode) (pos 0) (pos 0) (pos 0)) 0 0 (At 0) (St.restarted k (nothingCreated mode) m)
     unfolding callDecision services Pl.strayField C.setMode D.checked
     restart-gives =
         gives m k u h 1 (pos mode) (pos 0) (pos 0) (pos 0) (omega arith) (omega arith) refl (Restarted mode)
@@ -315,12 +360,32 @@ module _ (m : Module) (k : ℕ) (u : SoundModule m) (h : Calling m k) where
         (St.step m e .answer .code ≡ 0) × (own (St.step m e .state) k ≡ noted (nothingCreated mode))
         × ((i : ℕ) → i < m .table .channelCount → M.channel (m .table) i .destination ≡ k → M.message (St.step m e .state) i .present ≡ false)
         × ((i : ℕ) → (M.channel (m .table) i .destination ≡ k → ⊥) → M.message (St.step m e .state) i ≡ M.message m i)
+        × ((i : ℕ) → i < m .table .channelCount → (M.channel (m .table) i .size ≡ 0 → ⊥) → M.channel (m .table) i .destination ≡ k
+        → let c = M.channel (m .table) i in
+        let p = own m (c .source) in
+        held (M.queue (St.step m e .state) i) ≡ map (λ id. carried (process id p)) (take (c .size) (waiters (object (Source (i + 1) 0)) p)))
+        × ((i : ℕ) → (M.channel (m .table) i .destination ≡ k → ⊥) → M.queue (St.step m e .state) i ≡ M.queue m i)
     restart-is =
-        let g = restart-gives in (
+        let g = restart-gives in
+        let p = nothingCreated mode in
+        let place = calling-place m k u h in
+        let erased = Ch.erasedTo k channelLimit m in
+        let q = M.withPart (k - 1) p erased in
+        let w = part-sound erased (erased-sound k channelLimit m (omega arith) u) (k - 1) place p (nothing-valid (m .table .frame) (m .t) mode (omega arith)) in
+        let messages = refilled-messages k channelLimit q in (
           g .codeIs,
-          ap (λ (n : Module). own n k) (g .state) ∙ getD-set-same (m .partitions) (k - 1) (noted (nothingCreated mode)) M.noPartition (omega (arith, calling-place m k u h, u .partitionsSize, u .table .size .1)),
-          λ i b d. ap (λ (n : Module). M.message n i .present) (g .state) ∙ ap (λ (x : Message). x .present) (erased-own k channelLimit m i (omega (arith, u .table .channelCount)) (omega (arith, u .messagesSize)) d),
-          λ i ne. ap (λ (n : Module). M.message n i) (g .state) ∙ erased-other k channelLimit m i (ne-eqb _ k ne),
+          ap (λ (n : Module). own n k) (g .state)
+          ∙ refilled-part-other k q w channelLimit (k - 1) place (λ i f z. let c = u .table .eachChannel i (f .there) in c .apart (omega (arith, c .source .0, c .destination .0, f .into)))
+          ∙ getD-set-same (m .partitions) (k - 1) (noted p) M.noPartition (omega (arith, place, u .partitionsSize, u .table .size .1)),
+          λ i b d. ap (λ (n : Module). M.message n i .present) (g .state) ∙ ap (λ (l : List Message). getD l i D.noMessage .present) messages ∙ ap (λ (x : Message). x .present) (erased-own k channelLimit m i (omega (arith, u .table .channelCount)) (omega (arith, u .messagesSize)) d),
+          λ i ne. ap (λ (n : Module). M.message n i) (g .state) ∙ ap (λ (l : List Message). getD l i D.noMessage) messages ∙ erased-other k channelLimit m i (ne-eqb _ k ne),
+          λ i b full d.
+              let c = u .table .eachChannel i b in
+              let f : Fills q k i = record { there = b; few = omega (arith, b, u .table .channelCount); kind = queuing-plain (m .table) (u .table) i b ∙ lt-ltb 0 (M.channel (m .table) i .size) (omega (arith, full)); into = d } in
+              let from = M.channel (m .table) i .source - 1 in
+              let same : M.part q from ≡ M.part m from = getD-set-other (m .partitions) (k - 1) from (noted p) M.noPartition (λ z. c .apart (omega (arith, c .source .0, c .destination .0, d))) in
+              ap (λ (n : Module). held (M.queue n i)) (g .state) ∙ ap held (refilled-queue k q w i f channelLimit (f .few)) ∙ held-queueOf _ ∙ ap (λ (x : Partition). map (λ id. carried (process id x)) (take (M.channel (m .table) i .size) (waiters (object (Source (i + 1) 0)) x))) same,
+          λ i ne. ap (λ (n : Module). M.queue n i) (g .state) ∙ refilled-queue-other k channelLimit q i (rw (ne-eqb _ k ne) (and-false (Ch.queuingAt (m .table) i))),
         )
 
   -- ---------------------------------------------------------------- SIGNAL
@@ -367,6 +432,7 @@ mistakes = record {
   signalled = λ m k h. signal-ends m k (calling-sound m k h) h;
   eventSet = λ m k h. set-ends m k (calling-sound m k h) h;
   restart = restart-keeps;
+  restartQueue = restart-keeps-queue;
   restarted = λ m k h. restart-is m k (calling-sound m k h) h;
 }
 

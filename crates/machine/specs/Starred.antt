@@ -5,8 +5,8 @@
 use Prim.Native.Nat.{ℕ, suc, _+_, _-_, _*_, _/_, _≤_, _<_}
 use mathlib.Core.Path.{_≡_}
 use mathlib.Core.Bool.{Bool, true, false, cond}
-use mathlib.Core.List.{List, [], _∷_, _++_}
-use lib.ListN.{length, getD, set}
+use mathlib.Core.List.{List, [], _∷_, _++_, map}
+use lib.ListN.{length, getD, set, take}
 use lib.IntN.{ℤ, pos}
 use Rattle.machine.specs.declared.Given.{Given}
 use Rattle.machine.specs.declared.Ids.{Ids}
@@ -15,16 +15,16 @@ use Rattle.machine.specs.declared.Partition.{Partition}
 use Rattle.machine.specs.declared.Event.{Event as EventT}
 use Rattle.machine.specs.declared.Module.{Module}
 use Rattle.machine.specs.declared.Window.{Window}
-use Rattle.machine.specs.declared.Wait.the-variants.{None, Normal, Delay, Timed, Period, Semaphore, Event, Sending, Receiving, Blackboard}
+use Rattle.machine.specs.declared.Wait.the-variants.{None, Normal, Delay, Timed, Period, Semaphore, Event, Sending, Receiving, Blackboard, Source, Destination}
 use Rattle.machine.specs.declared.Time.{Time}
 use Rattle.machine.specs.declared.Time.the-variants.{Never, At}
 use Rattle.machine.specs.Limits.{processLimit, semaphoreLimit, eventLimit, bufferLimit, messageLimit, blackboardLimit, nameLimit, priorityLimit, valueLimit, durationLimit, timeLimit}
 use Rattle.machine.specs.Ids.{members, idsOf, kept, other}
-use Rattle.machine.specs.Process.{createdProcess, ready, withCurrent}
-use Rattle.machine.specs.Partition.{process, semaphore, event, buffer, blackboard, running, nothingCreated, noted, withProcesses, withSemaphores, withEvents, withBuffers, withBlackboards}
-use Rattle.machine.specs.Messages.{queueOf}
+use Rattle.machine.specs.Process.{createdProcess, object, carried, ready, withCurrent}
+use Rattle.machine.specs.Partition.{process, semaphore, event, buffer, blackboard, waiters, running, nothingCreated, noted, withProcesses, withSemaphores, withEvents, withBuffers, withBlackboards}
+use Rattle.machine.specs.Messages.{held, queueOf}
 use Rattle.machine.specs.Windows.{windows, noWindow}
-use Rattle.machine.specs.Module.{part, message, channel, current, withPart}
+use Rattle.machine.specs.Module.{part, message, queue, channel, current, withPart}
 use Rattle.machine.specs.Step.{step}
 use Rattle.machine.specs.Valid.{Between, SoundPeriod, SoundCapacity, Reached, contains, plainLater}
 use Rattle.machine.specs.Replay.{replayed, replayedRecord, timeNumber}
@@ -242,10 +242,10 @@ pub record Corners (m : Module) (k : ℕ) : Type 0 where
       → Puts m (callBy k 4 (pos id) (pos (n - 1)) (pos 0) (pos 0)) 0 0 k
       (withProcess id (awaitsRelease (releaseAt m s (n - 1)) (x .times .delay) (x .given .base) false false x) (p .arrival) p)
       × Refuses m (callBy k 4 (pos id) (pos n) (pos 0) (pos 0)) 3
-  -- age refresh/refresh + 1
+  -- age refresh/refresh + 1, of a sampling channel
   pub age : (i : ℕ) → let x = message m (i - 1) in
       let refresh = channel (m .table) (i - 1) .refresh in
-      Between 1 (m .table .channelCount) i → channel (m .table) (i - 1) .destination ≡ k → x .present ≡ true
+      Between 1 (m .table .channelCount) i → channel (m .table) (i - 1) .size ≡ 0 → channel (m .table) (i - 1) .destination ≡ k → x .present ≡ true
       → (m .t ≡ x .written + refresh → Gives m (callBy k 22 (pos i) (pos 0) (pos 0) (pos 0)) 0 (x .value) (At 1) m)
       × (m .t ≡ x .written + refresh + 1 → Gives m (callBy k 22 (pos i) (pos 0) (pos 0) (pos 0)) 0 (x .value) (At 0) m)
   -- timeout 0: SUSPEND_SELF changes nothing, TIMED_WAIT puts the caller last, WAIT_SEMAPHORE and WAIT_EVENT answer 2 where they would wait, and
@@ -303,6 +303,8 @@ pub record Ticks (t : ℕ) (x y : Process) : Type 0 where
   pub sending : (w j n : ℕ) → x .times .wake ≡ At w → w ≤ t → x .wait ≡ Sending j n → WaitEnded 6 x y
   pub receiving : (w j : ℕ) → x .times .wake ≡ At w → w ≤ t → x .wait ≡ Receiving j → WaitEnded 6 x y
   pub blackboard : (w j : ℕ) → x .times .wake ≡ At w → w ≤ t → x .wait ≡ Blackboard j → WaitEnded 6 x y
+  pub source : (w j n : ℕ) → x .times .wake ≡ At w → w ≤ t → x .wait ≡ Source j n → WaitEnded 6 x y
+  pub destination : (w j : ℕ) → x .times .wake ≡ At w → w ≤ t → x .wait ≡ Destination j → WaitEnded 6 x y
   pub delay : (w : ℕ) → x .times .wake ≡ At w → w ≤ t → x .wait ≡ Delay → WaitEnded 0 x y
   pub timed : (w : ℕ) → x .times .wake ≡ At w → w ≤ t → x .wait ≡ Timed → WaitEnded 0 x y
   pub period : (w : ℕ) → x .times .wake ≡ At w → w ≤ t → x .wait ≡ Period → WaitEnded 0 x y
@@ -347,13 +349,22 @@ pub record Mistakes : Type 0 where
   -- a source's restart erasing a message: an event that is no WRITE leaves the message of each channel into another partition
   pub restart : (m : Module) (e : EventT) (i : ℕ) → (e .call ≡ pos 21 → ⊥) → (e .partition ≡ pos (channel (m .table) i .destination) → ⊥)
       → message (step m e .state) i ≡ message m i
+  -- and one that is no SEND and no RECEIVE on a channel leaves the queue of each channel into another partition
+  pub restartQueue : (m : Module) (e : EventT) (i : ℕ) → (e .call ≡ pos 30 → ⊥) → (e .call ≡ pos 31 → ⊥) → (e .partition ≡ pos (channel (m .table) i .destination) → ⊥)
+      → queue (step m e .state) i ≡ queue m i
   -- an accepted mode 0, 1 or 2: code 0, nothing created in the partition, no message on a channel into it, and on every other channel the
-  -- message that was there
+  -- message that was there; each queue into it holds the messages of the first who waited to send, as many as it holds at most, and every other
+  -- queue what it held
   pub restarted : (m : Module) (k : ℕ) → Calling m k → (mode : ℕ) → mode ≤ 2 → (mode ≡ 2 → own m k .mode ≡ 1 → ⊥)
       → let e = callBy k 1 (pos mode) (pos 0) (pos 0) (pos 0) in
       (step m e .answer .code ≡ 0) × (own (step m e .state) k ≡ noted (nothingCreated mode))
       × ((i : ℕ) → i < m .table .channelCount → channel (m .table) i .destination ≡ k → message (step m e .state) i .present ≡ false)
       × ((i : ℕ) → (channel (m .table) i .destination ≡ k → ⊥) → message (step m e .state) i ≡ message m i)
+      × ((i : ℕ) → i < m .table .channelCount → (channel (m .table) i .size ≡ 0 → ⊥) → channel (m .table) i .destination ≡ k
+      → let c = channel (m .table) i in
+      let p = own m (c .source) in
+      held (queue (step m e .state) i) ≡ map (λ id. carried (process id p)) (take (c .size) (waiters (object (Source (i + 1) 0)) p)))
+      × ((i : ℕ) → (channel (m .table) i .destination ≡ k → ⊥) → queue (step m e .state) i ≡ queue m i)
 
 -- the whole list
 pub record Starred : Type 0 where

@@ -375,8 +375,8 @@ module _ (m : Module) (k : ℕ) (u : SoundModule m) (h : Calling m k) where
         let messages = refilled-messages k channelLimit q in (
           g .codeIs,
           ap (λ (n : Module). own n k) (g .state)
-          ∙ refilled-part-other k q w channelLimit (k - 1) place (λ i f z. let c = u .table .eachChannel i (f .there) in c .apart (omega (arith, c .source .0, c .destination .0, f .into)))
-          ∙ getD-set-same (m .partitions) (k - 1) (noted p) M.noPartition (omega (arith, place, u .partitionsSize, u .table .size .1)),
+              ∙ refilled-part-other k q w channelLimit (k - 1) place (λ i f z. let c = u .table .eachChannel i (f .there) in c .apart (omega (arith, c .source .0, c .destination .0, f .into)))
+              ∙ getD-set-same (m .partitions) (k - 1) (noted p) M.noPartition (omega (arith, place, u .partitionsSize, u .table .size .1)),
           λ i b d. ap (λ (n : Module). M.message n i .present) (g .state) ∙ ap (λ (l : List Message). getD l i D.noMessage .present) messages ∙ ap (λ (x : Message). x .present) (erased-own k channelLimit m i (omega (arith, u .table .channelCount)) (omega (arith, u .messagesSize)) d),
           λ i ne. ap (λ (n : Module). M.message n i) (g .state) ∙ ap (λ (l : List Message). getD l i D.noMessage) messages ∙ erased-other k channelLimit m i (ne-eqb _ k ne),
           λ i b full d.

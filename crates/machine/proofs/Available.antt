@@ -189,7 +189,7 @@ available-low kind k p h =
     not-both _ (rw (w1, w2, w3, w4, w5) at h) refl
 
 -- and nobody waits for one
-counts-low : (frame t : ℕ) (p : Partition) → Valid frame t p → (kind : ℕ) → settingOf frame t p .counts kind ≤ 16
+pub counts-low : (frame t : ℕ) (p : Partition) → Valid frame t p → (kind : ℕ) → settingOf frame t p .counts kind ≤ 16
 counts-low frame t p v kind =
     by-test (λ (n : ℕ). n ≤ 16) (eqb kind 1) (λ _. omega (arith, v .objects .semaphores .numbered .few)) λ _.
     by-test (λ (n : ℕ). n ≤ 16) (eqb kind 2) (λ _. omega (arith, v .objects .events .numbered .few)) λ _.

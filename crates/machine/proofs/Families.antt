@@ -48,6 +48,7 @@ use Rattle.machine.proofs.Corners.{known}
 use Rattle.machine.proofs.Reached.{valid-sound, reached-valid}
 use Rattle.machine.proofs.Queues.{rest-objects, noted-objects, changes-queue, queue-after, blackboard-queue, first-created, ended-is, queued-last, first-served-by, none-served, all-served-by, wait-semaphore, wait-event, signal-first, signal-none, set-event}
 use Rattle.machine.proofs.Available.{none-waits}
+use Rattle.machine.proofs.Ends.{channel-ends}
 
 time-out : (a : ℤ) → TimeOut a → isTimeout (field a) ≡ true
 time-out (pos n) h =
@@ -239,6 +240,7 @@ queues = record {
   events = queue-after;
   changes = λ m h i l. changes-queue (part m i) (valid-sound m (reached-valid m h) i l .eachPartition i l .lists);
   none = none-waits;
+  ends = channel-ends;
   calls = λ m k h j. let u = calling-sound m k h in record {
     waitSemaphore = wait-semaphore m k u h j;
     waitEvent = wait-event m k u h j;

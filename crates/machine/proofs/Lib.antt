@@ -37,5 +37,6 @@ pub mod Available
 pub mod Moves
 pub mod Senders
 pub mod Restarts
+pub mod Ends
 pub mod Account
 pub mod Families

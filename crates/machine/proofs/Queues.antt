@@ -373,6 +373,17 @@ Orderly c p (Restarted mode) = Unit {0}
 Orderly c p (Written i x) = Unit {0}
 Orderly c p (PassedOn i a value) = Unit {0}
 
+-- nobody begins to wait
+abbrev pub NotBlocked : Decision → Type 0
+NotBlocked (Refused code) = Unit {0}
+NotBlocked (Unchanged value extra) = Unit {0}
+NotBlocked Ticked = Unit {0}
+NotBlocked (Blocked id x) = ⊥
+NotBlocked (Changed a b value) = Unit {0}
+NotBlocked (Restarted mode) = Unit {0}
+NotBlocked (Written i x) = Unit {0}
+NotBlocked (PassedOn i a value) = Unit {0}
+
 pub record InOrder (c : Context) (p : Partition) (d : Decision) : Type 0 where
   pub is : Orderly c p d
 
@@ -504,28 +515,27 @@ module _ (m : Module) (s : SoundModule m) (o : ℕ) (some : o ≡ 0 → ⊥) whe
       no-one (inl e) = rw e
       no-one (inr e) = rw (e, and-false (eqb code 7))
 
-  same-joins : (code k i : ℕ) → i < m .table .size → (eqb code 7 ≡ false) ⊎ (eqb k (i + 1) ≡ false) → Follows code k i (part m i)
-  same-joins code k i l e = none-joins code k i (part m i) e (listed i l) (part-whole (waiters o (part m i)))
-
   -- a partition as it is noted
   noted-part : (l : List ℕ) (p : Partition) → Part l (waiters o p) → Part l (waiters o (noted p))
   noted-part l p a = part-trans a (part-of o some _ _ (same-queue o p (noted p) refl (λ _. refl)))
 
-  tick-follows : (k i : ℕ) → i < m .table .size → Follows 0 k i (part (tickModule m) i)
-  unfolding plainTick
-  tick-follows k i l =
-      let long : m .table .size ≤ length (m .partitions) = omega (arith, s .partitionsSize, s .table .size .1) in
-      let p = part m i in
-      let v = tick-valid (m .table .frame) (m .t) p (s .eachPartition i l) in
-      rw (tick-module-plain m (inr s), plain-part (m .table .size) (withTime (m .t + 1) m) long i l)
-      (none-joins 0 k i (noted (tickPartition (m .t + 1) p)) (inl refl) (v .lists) (noted-part (waiters o p) _ (tick-part o some (m .t + 1) p (listed i l))))
-
   -- a record of the module in which each queue is a part of what it was
-  abbrev Parts : Module → Type 0
+  abbrev pub Parts : Module → Type 0
   Parts q = (i : ℕ) → i < m .table .size → ListedIn (part q i) × Part (waiters o (part m i)) (waiters o (part q i))
 
-  parts-follow : (q : Module) → Parts q → (k i : ℕ) → i < m .table .size → Follows 0 k i (part q i)
-  parts-follow q h k i l = let g = h i l in none-joins 0 k i (part q i) (inl refl) (g .0) (g .1)
+  same-parts : Parts m
+  same-parts i l = (listed i l, part-whole (waiters o (part m i)))
+
+  parts-follow : (code : ℕ) → eqb code 7 ≡ false → (q : Module) → Parts q → (k i : ℕ) → i < m .table .size → Follows code k i (part q i)
+  parts-follow code e q h k i l = let g = h i l in none-joins code k i (part q i) (inl e) (g .0) (g .1)
+
+  pub tick-parts : Parts (tickModule m)
+  unfolding plainTick
+  tick-parts i l =
+      let long : m .table .size ≤ length (m .partitions) = omega (arith, s .partitionsSize, s .table .size .1) in
+      let p = part m i in
+      rw (tick-module-plain m (inr s), plain-part (m .table .size) (withTime (m .t + 1) m) long i l)
+      (tick-valid (m .table .frame) (m .t) p (s .eachPartition i l) .lists, noted-part (waiters o p) _ (tick-part o some (m .t + 1) p (listed i l)))
 
   -- a partition stored whose queue is a part of what it was
   store-parts : (q : Module) → Parts q → length (q .partitions) ≡ partitionLimit → (j : ℕ) → j < m .table .size → (p : Partition) → ListedIn p → Part (waiters o (part q j)) (waiters o p) → Parts (withPart j p q)
@@ -555,21 +565,15 @@ module _ (m : Module) (s : SoundModule m) (o : ℕ) (some : o ≡ 0 → ⊥) whe
     now-valid : Valid (m .table .frame) (m .t) now
     now-valid = s .eachPartition (k - 1) here
 
-    -- the caller's partition is stored, the others stay
-    puts : (code : ℕ) (p : Partition) → Follows code k (k - 1) (noted p) → (i : ℕ) → i < m .table .size → Follows code k i (getD (set (m .partitions) (k - 1) (noted p)) i noPartition)
-    puts code p new i l =
-        at-set (λ i q. Follows code k i q) (m .partitions) (k - 1) (noted p) noPartition (omega (arith, here, s .partitionsSize, s .table .size .1)) i new
-        (λ ne. same-joins code k i l (inr (ne-eqb k (i + 1) (λ e. ne (omega arith)))))
-
-    changes-follow : (p : Partition) → ListedIn p → Part (waiters o now) (waiters o p) → (i : ℕ) → i < m .table .size → Follows 0 k i (getD (set (m .partitions) (k - 1) (noted p)) i noPartition)
-    changes-follow p v a = puts 0 p (none-joins 0 k (k - 1) (noted p) (inl refl) v (noted-part (waiters o now) p a))
-
+    -- the caller begins to wait, the other partitions stay
     blocks-follow : (id : ℕ) (x : Process) → Between 1 (now .processCount) id → id ≡ running now → ready (process id now) ≡ true → (i : ℕ) → i < m .table .size → Follows 7 k i (getD (set (m .partitions) (k - 1) (noted (stored id x now))) i noPartition)
-    blocks-follow id x b is h =
+    blocks-follow id x b is h i l =
         let v = now-valid .lists in
         let q = stored id x now in
         let e : joining 7 k (k - 1) o now (noted q) ≡ cond (eqb (object (x .wait)) o) (id ∷ []) [] = rw (eq-eqb k (k - 1 + 1) (omega (arith, c .some)), ← is, waits-same now v id b x o some) in
-        puts 7 q (same-queue o q (noted q) refl (λ _. refl) ∙ joins-last o some now v id b x h ∙ sym (ap (λ (l : List ℕ). l ++ joining 7 k (k - 1) o now (noted q)) (others-stay o some now v id b x h) ∙ ap (λ (l : List ℕ). waiters o now ++ l) e))
+        at-set (λ i q. Follows 7 k i q) (m .partitions) (k - 1) (noted q) noPartition (omega (arith, here, s .partitionsSize, s .table .size .1)) i
+        (same-queue o q (noted q) refl (λ _. refl) ∙ joins-last o some now v id b x h ∙ sym (ap (λ (l : List ℕ). l ++ joining 7 k (k - 1) o now (noted q)) (others-stay o some now v id b x h) ∙ ap (λ (l : List ℕ). waiters o now ++ l) e))
+        (λ ne. none-joins 7 k i (part m i) (inr (ne-eqb k (i + 1) (λ e. ne (omega arith)))) (listed i l) (part-whole (waiters o (part m i))))
 
     -- the caller in NORMAL
     caller-is : (id : ℕ) → id ≡ running now → normalMode now ≡ true → Caller id now
@@ -579,43 +583,51 @@ module _ (m : Module) (s : SoundModule m) (o : ℕ) (some : o ≡ 0 → ⊥) whe
     unfolding waiters kept
     restart-part mode = record { by = λ _. false; is = sym (kept-no (λ _. false) (waiters o now) (λ _ _. refl)) }
 
-    same-parts : Parts m
-    same-parts i l = (listed i l, part-whole (waiters o (part m i)))
-
-    follows : (d : Decision) → SoundDecision (contextOf m k) now d → Bodily (portOf m k r) (numberOf (r .call)) d → Orderly (contextOf m k) now d → (i : ℕ) → i < m .table .size → Follows (replyOf d .code) k i (part (moduleAfter m k d) i)
-    follows (Refused n) h b g i l = same-joins n k i l (inl (low n b))
-      where
-        low : (n : ℕ) → bodyRefusal n ≡ true → eqb n 7 ≡ false
-        low n e = let u = leb-true n 5 (and-right (leb 1 n) (leb n 5) e) in ne-eqb n 7 (λ z. omega arith)
-    follows (Unchanged n e) h b g i l = same-joins 0 k i l (inl refl)
-    follows Ticked h b g i l = absurd b
-    follows (Blocked id x) h b g i l = blocks-follow id x (h .0) (g .0) (caller-is id (g .0) (g .1) .isReady) i l
-    follows (Changed x y n) h b g i l =
+    -- where nobody begins to wait, each queue is a part of what it was
+    pub decided-parts : (d : Decision) → SoundDecision (contextOf m k) now d → Bodily (portOf m k r) (numberOf (r .call)) d → Orderly (contextOf m k) now d → NotBlocked d → Parts (moduleAfter m k d)
+    decided-parts (Refused n) h b g f = same-parts
+    decided-parts (Unchanged n e) h b g f = same-parts
+    decided-parts Ticked h b g f = absurd b
+    decided-parts (Blocked id x) h b g f = absurd f
+    decided-parts (Changed x y n) h b g f =
         let v = change-valid (contextOf m k) (context-sound m s r c) now now-valid x (h .0) in
-        changes-follow (applied y (applied x now)) (change-valid (contextOf m k) (context-sound m s r c) (applied x now) v y (h .1) .lists)
-        (part-trans (change-part o some (contextOf m k) now now-valid x (h .0) (g .0)) (change-part o some (contextOf m k) (applied x now) v y (h .1) (g .1))) i l
-    follows (Restarted mode) h b g i l =
+        store-parts m same-parts (s .partitionsSize) (k - 1) here (applied y (applied x now)) (change-valid (contextOf m k) (context-sound m s r c) (applied x now) v y (h .1) .lists)
+        (part-trans (change-part o some (contextOf m k) now now-valid x (h .0) (g .0)) (change-part o some (contextOf m k) (applied x now) v y (h .1) (g .1)))
+    decided-parts (Restarted mode) h b g f =
         let u = erasedTo k channelLimit m in
         let v = nothing-valid (m .table .frame) (m .t) mode h in
         let p = nothingCreated mode in
-        parts-follow (restarted k p m) (refilled-keeps (λ i x. ListedIn x × Part (waiters o (part m i)) (waiters o x)) k (withPart (k - 1) p u) (part-sound u (erased-sound k channelLimit m (omega arith) s) (k - 1) here p v) channelLimit (λ i _ _. let-in-parts (channel (m .table) i .source - 1) i)
-        (store-parts u same-parts (s .partitionsSize) (k - 1) here p (v .lists) (restart-part mode))) k i l
-    follows (Written j x) h b g i l = same-joins 0 k i l (inl refl)
-    follows (PassedOn j a n) h b g i l =
+        refilled-keeps (λ i x. ListedIn x × Part (waiters o (part m i)) (waiters o x)) k (withPart (k - 1) p u) (part-sound u (erased-sound k channelLimit m (omega arith) s) (k - 1) here p v) channelLimit (λ i _ _. let-in-parts (channel (m .table) i .source - 1) i)
+        (store-parts u same-parts (s .partitionsSize) (k - 1) here p (v .lists) (restart-part mode))
+    decided-parts (Written j x) h b g f = same-parts
+    decided-parts (PassedOn j a n) h b g f =
         let t = transfer-sound m s r c j a n b in
         let w = on-queue m s r c j a n b in
         let e = otherEnd k (channel (m .table) j) - 1 in
         let q = withQueue j (moved a (queue m j)) m in
         let v = s .eachPartition e (w .inside) in
-        by-test (λ (x : Module). Follows 0 k i (part x i)) (endsWait a)
-        (λ _. parts-follow (withPart e (endedBy a (part m e)) q) (store-parts q same-parts (s .partitionsSize) e (w .inside) (endedBy a (part m e)) (ended-valid (m .table .frame) (m .t) (part m e) v (channel (m .table) j .size) (queue m j) a (t .1) (t .2) .lists) (ended-part o some (part m e) (v .lists) a (t .2))) k i l)
-        (λ _. same-joins 0 k i l (inl refl))
+        by-test Parts (endsWait a)
+        (λ _. store-parts q same-parts (s .partitionsSize) e (w .inside) (endedBy a (part m e)) (ended-valid (m .table .frame) (m .t) (part m e) v (channel (m .table) j .size) (queue m j) a (t .1) (t .2) .lists) (ended-part o some (part m e) (v .lists) a (t .2)))
+        (λ _. same-parts)
+
+    follows : (d : Decision) → SoundDecision (contextOf m k) now d → Bodily (portOf m k r) (numberOf (r .call)) d → Orderly (contextOf m k) now d → (i : ℕ) → i < m .table .size → Follows (replyOf d .code) k i (part (moduleAfter m k d) i)
+    follows (Blocked id x) h b g i l = blocks-follow id x (h .0) (g .0) (caller-is id (g .0) (g .1) .isReady) i l
+    follows (Refused n) h b g i l = parts-follow n (low n b) m same-parts k i l
+      where
+        low : (n : ℕ) → bodyRefusal n ≡ true → eqb n 7 ≡ false
+        low n e = let u = leb-true n 5 (and-right (leb 1 n) (leb n 5) e) in ne-eqb n 7 (λ z. omega arith)
+    follows (Unchanged n e) h b g i l = parts-follow 0 refl m same-parts k i l
+    follows Ticked h b g i l = absurd b
+    follows (Changed x y n) h b g i l = parts-follow 0 refl (moduleAfter m k (Changed x y n)) (decided-parts (Changed x y n) h b g tt) k i l
+    follows (Restarted mode) h b g i l = parts-follow 0 refl (moduleAfter m k (Restarted mode)) (decided-parts (Restarted mode) h b g tt) k i l
+    follows (Written j x) h b g i l = parts-follow 0 refl (moduleAfter m k (Written j x)) (decided-parts (Written j x) h b g tt) k i l
+    follows (PassedOn j a n) h b g i l = parts-follow 0 refl (moduleAfter m k (PassedOn j a n)) (decided-parts (PassedOn j a n) h b g tt) k i l
 
   pub event-follows : (r : Request) (i : ℕ) → i < m .table .size → Follows (replyOf (decision m r) .code) (numberOf (r .partition)) i (part (moduleAfter m (numberOf (r .partition)) (decision m r)) i)
   event-follows r =
       by-event m r (λ (d : Decision). (i : ℕ) → i < m .table .size → Follows (replyOf d .code) (numberOf (r .partition)) i (part (moduleAfter m (numberOf (r .partition)) d) i))
-      (λ n e i l. same-joins n (numberOf (r .partition)) i l (inl (let h = leb-true 8 n (and-left (leb 8 n) (leb n 13) e) in ne-eqb n 7 (λ z. omega arith))))
-      (λ _ _ _ i l. tick-follows (numberOf (r .partition)) i l)
+      (λ n e. parts-follow n (let h = leb-true 8 n (and-left (leb 8 n) (leb n 13) e) in ne-eqb n 7 (λ z. omega arith)) m same-parts (numberOf (r .partition)))
+      (λ _ _ _. parts-follow 0 refl (tickModule m) tick-parts (numberOf (r .partition)))
       (λ c. follows r c (made m s r c) (made-sound m s r c) (made-body m s r c) (call-order (contextOf m (numberOf (r .partition))) (part m (numberOf (r .partition) - 1)) (portOf m (numberOf (r .partition)) r) (numberOf (r .call)) r .is))
 
 -- every event of every reached record

@@ -419,7 +419,7 @@ decided-sound m s r =
     (λ q. applied-sound m s r q (made m s r q) (made-sound m s r q) (made-body m s r q))
 
 -- ---------------------------------------------------------------- every reached record
-empty-step : (e : EventT) → step emptyModule e .state ≡ emptyModule
+pub empty-step : (e : EventT) → step emptyModule e .state ≡ emptyModule
 unfolding step decision checked emptyModule emptyTable
 empty-step e = refl
 

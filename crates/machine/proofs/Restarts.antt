@@ -23,7 +23,7 @@ use Rattle.machine.specs.Ids.{kept}
 use Rattle.machine.specs.Messages.{noQueue, queueOf}
 use Rattle.machine.specs.Process.{object, carried, served}
 use Rattle.machine.specs.Partition.{process, waitsOn, waiters, changedAll, noted}
-use Rattle.machine.specs.Module.{channel, part, queue, withPart}
+use Rattle.machine.specs.Module.{noPartition, channel, part, queue, withPart}
 use Rattle.machine.specs.Channels.{queuing, queuingAt, leadsInto, admitted, refilledAt, refilledTo}
 use Rattle.machine.specs.Valid.{Between, contains, Distinct, ListedIn, Valid, SoundModule}
 use Rattle.machine.proofs.Tests.{by-test, not-both}
@@ -31,7 +31,7 @@ use Rattle.machine.proofs.Bounds.{either, same-or-not}
 use Rattle.machine.proofs.Tracking.{kept-all}
 use Rattle.machine.proofs.Keeping.{AllCreated, changed-process}
 use Rattle.machine.proofs.Kept.{waiters-distinct, take-in, firsts-created, firsts-distinct, let-in-valid}
-use Rattle.machine.proofs.Reached.{Fills, fills, refilled-table, refilled-sound, refilled-keeps}
+use Rattle.machine.proofs.Reached.{at-set, Fills, fills, refilled-table, refilled-sound, refilled-keeps}
 use Rattle.machine.proofs.Queues.{part-waits, queue-of, all-part, same-queue}
 use Rattle.machine.proofs.Senders.{on-queue}
 
@@ -198,4 +198,49 @@ module _ (k : ℕ) (m : Module) (s : SoundModule m) where
         (λ (ne : i ≡ n → ⊥). by-test (λ (x : Module). queue x i ≡ queueOf letIn) (filled k (refilledTo k n m .table) n)
         (λ _. getD-set-other (refilledTo k n m .queues) n i _ noQueue ne ∙ refilled-queue n (omega arith))
         (λ _. refilled-queue n (omega arith)))
+        (same-or-not i n)
+
+    -- its senders then: those past the first go on waiting
+    turn-senders : waiters senders (part (refilledTo k (suc i) m) from) ≡ drop (c .size) (waiters senders (part m from))
+    unfolding refilledTo
+    turn-senders =
+        let u = refilledTo k i m in
+        let e = refilled-sound k i m s in
+        let T = refilled-table k i m in
+        let on : filled k (u .table) i ≡ true = ap (λ (U : Table). filled k U i) T ∙ rw (lt-ltb i (m .table .channelCount) (f .there), f .kind, eq-eqb (c .destination) k (f .into)) in
+        let to : channel (u .table) i ≡ c = ap (λ (U : Table). channel U i) T in
+        let size : u .table .size ≡ m .table .size = ap (λ (U : Table). U .size) T in
+        let p = part u from in
+        let q = changedAll served (admitted i c p) p in
+        by-test (λ (x : Module). waiters senders (part x from) ≡ drop (c .size) (waiters senders (part m from))) (filled k (u .table) i)
+        (λ _. rw to (ap (waiters senders) (getD-set-same (u .partitions) from (noted q) noPartition (omega (arith, inside, e .partitionsSize, s .table .size .1)))
+        ∙ same-queue senders q (noted q) refl (λ _. refl)
+        ∙ let-in-queue-own (u .table .frame) (u .t) p (e .eachPartition from (omega (arith, inside))) senders (c .size) (λ z. omega arith)
+        ∙ ap (drop (c .size)) (unserved i (omega arith) .waits)))
+        (λ o. not-both _ on o)
+
+    pub refilled-senders : (n : ℕ) → i < n → waiters senders (part (refilledTo k n m) from) ≡ drop (c .size) (waiters senders (part m from))
+    unfolding refilledTo
+    refilled-senders zero h = absurd (omega arith)
+    refilled-senders (suc n) h = ⊎-elim
+        (λ (is : i ≡ n). ap (λ j. waiters senders (part (refilledTo k (suc j) m) from)) (sym is) ∙ turn-senders)
+        (λ (ne : i ≡ n → ⊥).
+        let u = refilledTo k n m in
+        let e = refilled-sound k n m s in
+        let T = refilled-table k n m in
+        let size : u .table .size ≡ m .table .size = ap (λ (U : Table). U .size) T in
+        let ih = refilled-senders n (omega (arith, ne)) in
+        let x = channel (u .table) n in
+        let j = x .source - 1 in
+        let p = part u j in
+        let o = object (Source (n + 1) 0) in
+        let q = changedAll served (admitted n x p) p in
+        by-test (λ (y : Module). waiters senders (part y from) ≡ drop (c .size) (waiters senders (part m from))) (filled k (u .table) n)
+        (λ t.
+        let b = e .table .eachChannel n (fills u e k n (u .table) refl t .there) .source in
+        let here : j < u .table .size = omega (arith, b .0, b .1) in
+        at-set (λ y z. y ≡ from → waiters senders z ≡ drop (c .size) (waiters senders (part m from))) (u .partitions) j (noted q) noPartition (omega (arith, here, e .partitionsSize, e .table .size .1)) from
+        (λ is. same-queue senders q (noted q) refl (λ _. refl) ∙ let-in-queue-other (u .table .frame) (u .t) p (e .eachPartition j here) o (x .size) senders (λ z. omega arith) (λ z. ne (omega arith)) ∙ ap (λ y. waiters senders (part u y)) is ∙ ih)
+        (λ _ _. ih) refl)
+        (λ _. ih))
         (same-or-not i n)

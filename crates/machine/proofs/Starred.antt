@@ -157,7 +157,7 @@ restart-keeps m e i w d =
     left-by x n a j y e b = rw e at b
 
 -- the queues of messages
-tick-queues : (n : ℕ) (m : Module) → Ti.tickTo n m .queues ≡ m .queues
+pub tick-queues : (n : ℕ) (m : Module) → Ti.tickTo n m .queues ≡ m .queues
 unfolding Ti.tickTo Ti.tickAt
 tick-queues zero m = refl
 tick-queues (suc n) m = by-test (λ (x : Module). x .queues ≡ m .queues) (Ti.dueAt n (Ti.tickTo n m)) (λ _. tick-queues n m) (λ _. tick-queues n m)

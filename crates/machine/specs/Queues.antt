@@ -1,7 +1,7 @@
 -- Queues, said over the number o of an object (`object`; 0 is none), for every kind of object at once: a waiter joins its object's queue last,
 -- ended waits leave it and the others keep their order, and the first is served first. The queue of an object is `waiters o p`. Nothing of the
 -- machine rests on it.
-use Prim.Native.Nat.{ℕ, _+_, _≤_, _<_}
+use Prim.Native.Nat.{ℕ, _+_, _-_, _≤_, _<_}
 use mathlib.Core.Path.{_≡_}
 use mathlib.Core.Bool.{Bool, true, false, cond, not, _&&_, _||_}
 use mathlib.Core.List.{List, [], _∷_, _++_}
@@ -17,7 +17,9 @@ use Rattle.machine.specs.declared.Buffer.{Buffer}
 use Rattle.machine.specs.declared.Blackboard.{Blackboard as BlackboardT}
 use Rattle.machine.specs.declared.Change.the-variants.{Ended, Handed}
 use Rattle.machine.specs.declared.Wait.{Wait}
-use Rattle.machine.specs.declared.Wait.the-variants.{Semaphore, Event, Sending, Receiving, Blackboard}
+use Rattle.machine.specs.declared.Wait.the-variants.{Semaphore, Event, Sending, Receiving, Blackboard, Source, Destination}
+use Rattle.machine.specs.declared.Channel.{Channel}
+use Rattle.machine.specs.declared.Table.{Table}
 use Rattle.machine.specs.declared.Event.{Event as EventT}
 use Rattle.machine.specs.declared.Module.{Module}
 use Rattle.machine.specs.Limits.{durationLimit}
@@ -28,7 +30,7 @@ use Rattle.machine.specs.Messages.{held}
 use Rattle.machine.specs.declared.Time.the-variants.{At}
 use Rattle.machine.specs.Buffers.{hasRoom, holds}
 use Rattle.machine.specs.Partition.{normalMode, process, semaphore, event, buffer, blackboard, stored, storedSemaphore, storedEvent, created, storedBuffer, storedBlackboard, arrivedLast, applied, tickPartition, enteredNormal, running, waitsOn, waiters}
-use Rattle.machine.specs.Module.{part}
+use Rattle.machine.specs.Module.{channel, part, queue}
 use Rattle.machine.specs.Step.{step}
 use Rattle.machine.specs.Valid.{Between, contains, Distinct, Reached}
 use Rattle.machine.specs.Starred.{own, callBy, Calling, Gives, WaitEnded}
@@ -97,6 +99,21 @@ queueNumber kind k = objectIn (Class.onto kind k 0)
 -- message of a buffer that holds one, and no reader waits while a blackboard shows one
 abbrev pub NoneWaits : Partition → Type 0
 NoneWaits p = (kind k : ℕ) → available kind k p ≡ true → waiters (queueNumber kind k) p ≡ []
+
+-- ---------------------------------------------------------------- who waits at the ends of queuing channels
+-- channel number k is a queuing one of the table, and this is its end
+pub record EndOf (T : Table) (end : Channel → ℕ) (k i : ℕ) : Type 0 where
+  pub there : Between 1 (T .channelCount) k
+  pub queuing : channel T (k - 1) .size ≡ 0 → ⊥
+  pub here : end (channel T (k - 1)) ≡ i + 1
+
+-- a process waits with a message only in the partition at the source of a queuing channel of the table, and for one only in that at its
+-- destination; nobody waits for what is there: no sender where the queue has room, no receiver where it holds a message
+pub record ChannelEnds (m : Module) : Type 0 where
+  pub sources : (i id k n : ℕ) → i < m .table .size → process id (part m i) .wait ≡ Source k n → EndOf (m .table) (λ c. c .source) k i
+  pub destinations : (i id k : ℕ) → i < m .table .size → process id (part m i) .wait ≡ Destination k → EndOf (m .table) (λ c. c .destination) k i
+  pub room : (i : ℕ) → i < m .table .channelCount → queue m i .len < channel (m .table) i .size → waiters (object (Source (i + 1) 0)) (own m (channel (m .table) i .source)) ≡ []
+  pub message : (i : ℕ) → i < m .table .channelCount → 0 < queue m i .len → waiters (object (Destination (i + 1))) (own m (channel (m .table) i .destination)) ≡ []
 
 -- ---------------------------------------------------------------- an event
 -- who joins queue o of partition number i + 1, whose record was p and is q, at an event of partition k that answers code: the process that ran,
@@ -228,6 +245,7 @@ pub record Queues : Type 0 where
   pub changes : (m : Module) → Reached m → (i : ℕ) → i < m .table .size → (o : ℕ) → (o ≡ 0 → ⊥) → QueueChanges o (part m i)
   -- who waits, in each partition of a reached record
   pub none : (m : Module) → Reached m → (i : ℕ) → i < m .table .size → NoneWaits (part m i)
+  pub ends : (m : Module) → Reached m → ChannelEnds m
   -- the calls
   pub calls : (m : Module) (k : ℕ) → Calling m k → (j : ℕ) → QueueCalls m k j
   pub messages : (m : Module) (k : ℕ) → Calling m k → (j : ℕ) → MessageCalls m k j

@@ -36,7 +36,10 @@ pub mod Queues
 pub mod Available
 pub mod Moves
 pub mod Senders
+pub mod Flows
+pub mod Passing
 pub mod Restarts
 pub mod Ends
 pub mod Account
 pub mod Families
+pub mod Channels

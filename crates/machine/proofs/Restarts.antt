@@ -50,7 +50,7 @@ drop-in (suc n) [] id h = h
 drop-in (suc n) (x ∷ l) id h = rw (drop-in n l id h) (or-true (eqb x id))
 
 -- in a list of which each occurs once, one past the first n is none of these
-apart-in : (n : ℕ) (l : List ℕ) → Distinct l → (id : ℕ) → contains id (drop n l) ≡ true → contains id (take n l) ≡ false
+pub apart-in : (n : ℕ) (l : List ℕ) → Distinct l → (id : ℕ) → contains id (drop n l) ≡ true → contains id (take n l) ≡ false
 unfolding contains Distinct
 apart-in zero l d id h = refl
 apart-in (suc n) [] d id h = refl
@@ -244,3 +244,16 @@ module _ (k : ℕ) (m : Module) (s : SoundModule m) where
         (λ _ _. ih) refl)
         (λ _. ih))
         (same-or-not i n)
+
+    -- who waits to send then keeps its wait
+    pub refilled-waits : (n y : ℕ) → object (process y (part (refilledTo k n m) from) .wait) ≡ senders → process y (part (refilledTo k n m) from) .wait ≡ process y (part m from) .wait
+    refilled-waits n y = refilled-keeps (λ j p. j ≡ from → object (process y p .wait) ≡ senders → process y p .wait ≡ process y (part m from) .wait) k m s n
+        (λ o _ _ size frame t p v h is on.
+        let u = object (Source (o + 1) 0) in
+        let l = take size (waiters u p) in
+        let eq = changed-process served l p (v .lists) (firsts-created frame t p v u size) (firsts-distinct frame t p v u size) y in
+        either (contains y l)
+        (λ c. absurd (let w : process y (changedAll served l p) ≡ served (process y p) = eq ∙ rw c in let z : object (process y (changedAll served l p) .wait) ≡ 0 = ap (λ (x : Process). object (x .wait)) w in omega arith))
+        (λ c. let z : process y (changedAll served l p) ≡ process y p = eq ∙ rw c in ap (λ (x : Process). x .wait) z ∙ h is (rw z at on)))
+        (λ j l is on. ap (λ d. process y (part m d) .wait) is)
+        from inside refl

@@ -349,7 +349,7 @@ module _ (kind j : ℕ) (of : OfSenders kind) (low : j ≤ 16) where
     mode-calm one = calm-checks _ _ (λ h. by-test (IsCalm n f p) (isNumber 3 f) (λ _. calm (tt, tt)) (λ e. calm (one, below-three f (not-false _ (h .0)) e)))
 
     pub call-calm : (x : Port) → Placed x → (r : Request) → r .a ≡ f → (kind ≡ 3 → n ≡ 24 → numberOf (r .a) ≡ j → ⊥) → (kind ≡ 3 → n ≡ 25 → numberOf (r .a) ≡ j → ⊥)
-        → (kind ≡ 6 → n ≡ 30 → queuing (x .channel) ≡ true → x .channel .source ≡ x .own → x .place + 1 ≡ j → ⊥) → IsCalm n f p (callDecision c x n r p)
+        → (kind ≡ 6 → n ≡ 30 → x .exists ≡ true → x .place + 1 ≡ j → ⊥) → IsCalm n f p (callDecision c x n r p)
     unfolding createProcess stop stopSelf suspend timedWait periodicWait setPriority getStatus createSemaphore createEvent blocked waitSemaphore waitEvent signal setEvent resetEvent write read channelChecks createBuffer sendBuffer receiveBuffer createBlackboard show readBlackboard clear send receive Passed
     call-calm x placed r is no-send no-receive no-send-channel =
         by-call c x n r p (IsCalm n f p)
@@ -381,7 +381,7 @@ module _ (kind j : ℕ) (of : OfSenders kind) (low : j ≤ 16) where
         (λ k _. calm-checks _ _ (λ h. let b = known-id k (p .blackboardCount) (h .0) in calm (tt, λ e. of .readers (omega (arith, b .1, v .objects .blackboards .numbered .few)))))
         (λ k _. await-known (p .blackboardCount) k _ _ _ _ _ (λ b e. of .readers (omega (arith, b .1, v .objects .blackboards .numbered .few))) (λ _. calm tt))
         (λ _. calm-checks _ _ (λ _. calm (tt, tt)))
-        (λ e. await-calm _ _ _ _ _ _ (λ h o. let l = placed (not-false _ (h .1 .0)) in no-send-channel (omega arith) e (not-false _ (h .1 .0)) (eqb-true _ _ (not-false _ (h .1 .1 .1 .0))) (omega arith)) (λ _. calm tt))
+        (λ e. await-calm _ _ _ _ _ _ (λ h o. let l = placed (not-false _ (h .1 .0)) in no-send-channel (omega arith) e (not-false _ (h .0)) (omega arith)) (λ _. calm tt))
         (λ e. await-calm _ _ _ _ _ _ (λ h o. let l = placed (not-false _ (h .1 .0)) in of .ends (omega arith)) (λ _. calm tt))
         (λ _. calm tt)
       where

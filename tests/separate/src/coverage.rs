@@ -6,11 +6,11 @@ use crate::events::Events;
 use crate::generate;
 use crate::line::LENGTH;
 use crate::machine::{Answer, Event, LAST_CALL, USED};
-use crate::record::{Channel, Mode, Module, Partition, Process, Wait};
+use crate::record::{Channel, Mode, Module, Partition, Process, QueueId, Wait};
 use crate::replay::{read_table, Lines};
 use std::io::{self, Write};
 
-const CALLS: usize = 30;
+const CALLS: usize = 32;
 const CODES: usize = 14;
 
 /// The codes that the documents allow for a tick (0) and for each call, but
@@ -46,6 +46,8 @@ pub const ALLOWED: [&[usize]; CALLS] = [
     &[0, 3, 8, 9, 13],
     &[0, 2, 3, 5, 7, 8, 9, 13],
     &[0, 3, 8, 9, 13],
+    &[0, 2, 3, 5, 7, 8, 9, 13],
+    &[0, 2, 3, 5, 7, 8, 9, 13],
 ];
 
 const NAMES: [&str; CALLS] = [
@@ -79,10 +81,12 @@ const NAMES: [&str; CALLS] = [
     "SHOW",
     "READ_BLACKBOARD",
     "CLEAR",
+    "SEND",
+    "RECEIVE",
 ];
 
 /// The kinds of wait, and the suspended mark of a process without wait.
-pub const WAITS: [&str; 10] = [
+pub const WAITS: [&str; 12] = [
     "normal",
     "delay",
     "timed",
@@ -92,12 +96,16 @@ pub const WAITS: [&str; 10] = [
     "sending",
     "receiving",
     "blackboard",
+    "sending channel",
+    "receiving channel",
     "suspended, no wait",
 ];
 
 /// What can happen to a wait. SIGNAL and SET_EVENT end one by signal, and so
-/// do SEND_BUFFER, RECEIVE_BUFFER and SHOW.
-pub const CHANGES: [&str; 13] = [
+/// do the calls that send and receive, and SHOW. A restart of a channel's
+/// destination ends waits of its senders; one of the waiter's own partition
+/// erases.
+pub const CHANGES: [&str; 15] = [
     "began",
     "suspended",
     "resumed",
@@ -105,12 +113,25 @@ pub const CHANGES: [&str; 13] = [
     "by time",
     "by stop",
     "by NORMAL",
+    "by restart",
     "erased",
     "by signal, suspended",
     "by time, suspended",
     "by stop, suspended",
     "by NORMAL, suspended",
+    "by restart, suspended",
     "erased, suspended",
+];
+
+/// The waits that a signal ends.
+const IN_A_QUEUE: [&str; 7] = [
+    "semaphore",
+    "event",
+    "sending",
+    "receiving",
+    "blackboard",
+    "sending channel",
+    "receiving channel",
 ];
 
 /// True if the rules let this happen to a wait. A periodic process is never
@@ -126,9 +147,10 @@ fn may_happen(wait: &str, change: &str) -> bool {
         _ => {}
     }
     match way {
-        "by signal" => ["semaphore", "event", "sending", "receiving", "blackboard"].contains(&wait),
+        "by signal" => IN_A_QUEUE.contains(&wait),
         "by time" => wait != "normal",
         "by NORMAL" => wait == "normal",
+        "by restart" => wait == "sending channel",
         _ => true,
     }
 }
@@ -139,7 +161,7 @@ pub const REASONS: [&str; 11] = [
     "partition below 0",
     "partition above P",
     "call below 0",
-    "call above 29",
+    "call above 31",
     "partition 0 with a call",
     "a partition with call 0",
     "unused a not 0",
@@ -323,19 +345,19 @@ impl Coverage {
 
     fn count_wait(&mut self, process: &Process, change: &str) {
         let wait = match process.wait {
-            Wait::Normal => 0,
-            Wait::Delay => 1,
-            Wait::Timed => 2,
-            Wait::Period => 3,
-            Wait::Semaphore(_) => 4,
-            Wait::Event(_) => 5,
-            Wait::Sending { .. } => 6,
-            Wait::Receiving(_) => 7,
-            Wait::Blackboard(_) => 8,
-            Wait::None if process.suspended => 9,
+            Wait::Normal => "normal",
+            Wait::Delay => "delay",
+            Wait::Timed => "timed",
+            Wait::Period => "period",
+            Wait::Semaphore(_) => "semaphore",
+            Wait::Event(_) => "event",
+            Wait::Sending { to, .. } => of_queue(to, "sending", "sending channel"),
+            Wait::Receiving(from) => of_queue(from, "receiving", "receiving channel"),
+            Wait::Blackboard(_) => "blackboard",
+            Wait::None if process.suspended => "suspended, no wait",
             Wait::None => return,
         };
-        self.waits[wait][place(&CHANGES, change)] += 1;
+        self.waits[place(&WAITS, wait)][place(&CHANGES, change)] += 1;
     }
 
     fn count_corner(&mut self, corner: &str, holds: bool) {
@@ -365,7 +387,7 @@ impl Coverage {
                 let channel = &before.channels()[event.fields[0] as usize - 1];
                 self.take_read_corners(channel, after.t());
             }
-            23.. => self.take_message_corners(event, answer, old, new),
+            23..=29 => self.take_message_corners(event, answer, old, new),
             _ => self.take_call_corners(event, old),
         }
         self.take_running_corners(answer, old, new);
@@ -423,20 +445,23 @@ impl Coverage {
             return;
         }
         self.count_corner("restart by a running process", old.mode == Mode::Normal);
-        let held = old.buffers.iter().any(|buffer| !buffer.messages.is_empty());
+        let held = old
+            .buffers
+            .iter()
+            .any(|buffer| !buffer.queue.messages.is_empty());
         self.count_corner("restart erases held messages", held);
         let shown = old.blackboards.iter().any(|board| board.message.is_some());
         self.count_corner("restart erases a shown message", shown);
         for (channel, later) in before.channels().iter().zip(after.channels()) {
-            let erased = channel.message.is_some() && later.message.is_none();
+            let erased = channel.message().is_some() && later.message().is_none();
             self.count_corner("restart erases a message", erased);
-            let kept = channel.source == own && later.message.is_some();
+            let kept = channel.source == own && later.message().is_some();
             self.count_corner("source's restart keeps a message", kept);
         }
     }
 
     fn take_read_corners(&mut self, channel: &Channel, t: i64) {
-        let age = channel.message.map(|message| t - message.written);
+        let age = channel.message().map(|message| t - message.written);
         self.count_corner("READ at age refresh", age == Some(channel.refresh));
         self.count_corner("READ at age refresh + 1", age == Some(channel.refresh + 1));
     }
@@ -564,8 +589,17 @@ fn ending(event: &Event, new: &Process) -> &'static str {
     match event.call {
         _ if !new.started => "by stop",
         0 => "by time",
-        16 | 18 | 24 | 25 | 27 => "by signal",
-        _ => "by NORMAL",
+        16 | 18 | 24 | 25 | 27 | 30 | 31 => "by signal",
+        _ if event.fields[0] == 3 => "by NORMAL",
+        _ => "by restart",
+    }
+}
+
+/// The name of a wait for a buffer or for a channel.
+fn of_queue<'a>(queue: QueueId, buffer: &'a str, channel: &'a str) -> &'a str {
+    match queue {
+        QueueId::Buffer(_) => buffer,
+        QueueId::Channel(_) => channel,
     }
 }
 
@@ -584,7 +618,7 @@ fn reason(module: &Module, event: &Event) -> usize {
         (event.partition < 0, "partition below 0"),
         (event.partition > partitions, "partition above P"),
         (event.call < 0, "call below 0"),
-        (event.call > LAST_CALL, "call above 29"),
+        (event.call > LAST_CALL, "call above 31"),
         (
             event.partition == 0 && event.call != 0,
             "partition 0 with a call",

@@ -210,7 +210,7 @@ fn passing_event(rng: &mut Rng, module: &Module) -> Event {
 fn passing_call(rng: &mut Rng, module: &Module, caller: Id) -> (i64, [i64; 4]) {
     let partition = module.partition(module.current());
     let id = rng.range(1, 4);
-    let held = !partition.buffers[id as usize - 1].messages.is_empty();
+    let held = !partition.buffers[id as usize - 1].queue.messages.is_empty();
     let call = match rng.below(16) {
         // Process 1 never waits: it takes what is held and sends where
         // nothing is.

@@ -51,13 +51,14 @@ fn every_wait_begins_and_ends_in_every_way_it_can() {
     let coverage = Coverage::of_seeds(1, 200, 1000);
     assert_eq!(coverage.missing_waits(), []);
     assert_eq!(coverage.unforeseen_waits(), []);
-    // began, suspended, resumed; by signal, by time, by stop, by NORMAL,
-    // erased; the same five while suspended
-    let for_normal = [1, 1, 1, 0, 0, 1, 1, 1, 0, 0, 1, 1, 1];
-    let for_a_time = [1, 1, 1, 0, 1, 1, 0, 1, 0, 1, 1, 0, 1];
-    let for_release = [1, 0, 0, 0, 1, 1, 0, 1, 0, 0, 0, 0, 0];
-    let in_a_queue = [1, 1, 1, 1, 1, 1, 0, 1, 1, 1, 1, 0, 1];
-    let mark_alone = [1, 0, 1, 0, 1, 1, 0, 1, 0, 0, 0, 0, 0];
+    // began, suspended, resumed; by signal, by time, by stop, by NORMAL, by
+    // restart, erased; the same six while suspended
+    let for_normal = [1, 1, 1, 0, 0, 1, 1, 0, 1, 0, 0, 1, 1, 0, 1];
+    let for_a_time = [1, 1, 1, 0, 1, 1, 0, 0, 1, 0, 1, 1, 0, 0, 1];
+    let for_release = [1, 0, 0, 0, 1, 1, 0, 0, 1, 0, 0, 0, 0, 0, 0];
+    let in_a_queue = [1, 1, 1, 1, 1, 1, 0, 0, 1, 1, 1, 1, 0, 0, 1];
+    let to_a_channel = [1, 1, 1, 1, 1, 1, 0, 1, 1, 1, 1, 1, 0, 1, 1];
+    let mark_alone = [1, 0, 1, 0, 1, 1, 0, 0, 1, 0, 0, 0, 0, 0, 0];
     let possible = [
         for_normal,
         for_a_time,
@@ -67,6 +68,8 @@ fn every_wait_begins_and_ends_in_every_way_it_can() {
         in_a_queue,
         in_a_queue,
         in_a_queue,
+        in_a_queue,
+        to_a_channel,
         in_a_queue,
         mark_alone,
     ];
@@ -79,12 +82,15 @@ fn every_wait_begins_and_ends_in_every_way_it_can() {
 fn a_run_of_nothing_names_every_wait_as_missing() {
     let missing = Coverage::new().missing_waits();
     // All but by signal where there is no queue, by time for NORMAL, by
-    // NORMAL for others, and the mark of those that cannot be suspended.
-    assert_eq!(missing.len(), 91);
+    // NORMAL for others, by restart for all but senders to a channel, and the
+    // mark of those that cannot be suspended.
+    assert_eq!(missing.len(), 91 + 13 + 11);
     assert!(missing.contains(&("sending", "by stop, suspended")));
     assert!(missing.contains(&("blackboard", "erased, suspended")));
+    assert!(missing.contains(&("sending channel", "by restart, suspended")));
     assert!(!missing.contains(&("period", "by time, suspended")));
-    assert_eq!(CHANGES.len() * WAITS.len(), 130);
+    assert!(!missing.contains(&("receiving channel", "by restart")));
+    assert_eq!(CHANGES.len() * WAITS.len(), 180);
 }
 
 #[test]

@@ -2,20 +2,28 @@
 //! inside it.
 
 use separate::events::Events;
+use separate::record::Channel;
 use separate::rng::Rng;
 use separate::{tables, Event, Module, Six};
 
-/// The least closed set around some partitions: with a channel's destination
-/// comes its source.
+/// True if a set may be closed as far as this channel goes: a sampling channel
+/// with its destination in the set has its source there; a queuing one has
+/// both ends in it or neither.
+fn is_closed(channel: &Channel, set: &[bool]) -> bool {
+    let (source, destination) = (set[channel.source], set[channel.destination]);
+    match channel.queue() {
+        Some(_) => source == destination,
+        None => source || !destination,
+    }
+}
+
+/// The least closed set around some partitions.
 fn close(module: &Module, set: &mut [bool]) {
-    loop {
-        let open = module
-            .channels()
-            .iter()
-            .find(|channel| set[channel.destination] && !set[channel.source]);
-        match open {
-            Some(channel) => set[channel.source] = true,
-            None => return,
+    let channels = module.channels();
+    while let Some(channel) = channels.iter().find(|it| !is_closed(it, set)) {
+        set[channel.source] = true;
+        if channel.queue().is_some() {
+            set[channel.destination] = true;
         }
     }
 }
@@ -42,8 +50,10 @@ fn assert_same_inside(left: &Module, right: &Module, set: &[bool]) {
     for partition in (1..set.len()).filter(|&partition| set[partition]) {
         assert_eq!(left.partition(partition), right.partition(partition));
     }
+    // A sampling channel's message and time, a queuing one's messages; who
+    // waits at an end stands in the partition's record.
     for (one, other) in left.channels().iter().zip(right.channels()) {
-        assert!(!set[one.destination] || one.message == other.message);
+        assert!(!set[one.destination] || one == other);
     }
     if set[left.current()] {
         assert_eq!(left.running(), right.running());
@@ -55,10 +65,13 @@ fn assert_same_inside(left: &Module, right: &Module, set: &[bool]) {
 struct Done {
     /// Free events of each run.
     free: [usize; 2],
-    /// Calls 23 to 29 among the free events of the first run.
+    /// Calls 23 to 31 among the free events of the first run.
     free_messages: usize,
-    /// Calls 23 to 29 among the common events.
+    /// Calls 23 to 31 among the common events.
     common_messages: usize,
+    /// Calls 30 and 31 among these.
+    free_queuing: usize,
+    common_queuing: usize,
 }
 
 /// Runs both lists and adds up what they did.
@@ -76,6 +89,7 @@ fn compare(seed: u64, count: usize, done: &mut Done) {
         let (event, answer) = left.next_event();
         let accepted = usize::from(answer.code == 0 || answer.code == 7);
         let messages = usize::from(event.call >= 23) * accepted;
+        let queuing = usize::from(event.call >= 30) * accepted;
         if common(&set, &event) {
             let other = right.module.step(&event);
             assert_eq!(
@@ -84,9 +98,12 @@ fn compare(seed: u64, count: usize, done: &mut Done) {
                 "seed {seed} event {event:?}"
             );
             done.common_messages += messages;
+            // Where all is common the two runs are the same.
+            done.common_queuing += queuing * usize::from(set[1..].contains(&false));
         } else {
             done.free[0] += accepted;
             done.free_messages += messages;
+            done.free_queuing += queuing;
         }
         for _ in 0..rng.below(3) {
             let event = right.choose();
@@ -102,10 +119,16 @@ fn compare(seed: u64, count: usize, done: &mut Done) {
 #[test]
 fn common_events_get_the_same_answers_and_leave_the_same_records() {
     let mut done = Done::default();
-    for seed in 0..600 {
-        compare(seed, 600, &mut done);
+    for seed in 0..1000 {
+        compare(seed, 900, &mut done);
     }
     // Both sides had many different free events that changed something.
     assert!(done.free.iter().all(|&free| free > 10_000));
     assert!(done.free_messages > 5_000 && done.common_messages > 5_000);
+    assert!(
+        done.free_queuing > 2_000 && done.common_queuing > 1_000,
+        "{} {}",
+        done.free_queuing,
+        done.common_queuing
+    );
 }

@@ -49,11 +49,11 @@ impl Coverage {
         self.count_corner("message 9,999,999 sent", taken && message == MOST_TIME);
         let waiting = buffer.receivers.len();
         self.count_corner("SEND_BUFFER to two waiting receivers or more", waiting > 1);
-        let equal = buffer.messages.contains(&message);
+        let equal = buffer.queue.messages.contains(&message);
         self.count_corner("equal messages held", taken && equal);
-        let last_place = buffer.messages.len() + 1 == *LIMITS.end() as usize;
+        let last_place = buffer.queue.messages.len() + 1 == *LIMITS.end() as usize;
         self.count_corner("16 messages held", taken && last_place);
-        let limit_1 = buffer.limit == 1;
+        let limit_1 = buffer.queue.limit == 1;
         self.count_corner("sender waits at limit 1", !taken && limit_1);
         self.count_corner("sender waits at a limit above 1", !taken && !limit_1);
     }
@@ -69,7 +69,7 @@ impl Coverage {
             "RECEIVE_BUFFER with two waiting senders or more",
             waiting > 1,
         );
-        let behind = waiting > 0 && buffer.limit > 1;
+        let behind = waiting > 0 && buffer.queue.limit > 1;
         self.count_corner("sender let in behind held messages", behind);
         let holds = old.process(old.running()).message != 0;
         let corner = "RECEIVE_BUFFER at once by a process with a message in its record";

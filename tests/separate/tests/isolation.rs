@@ -2,7 +2,9 @@
 //! inside it.
 
 use separate::events::Events;
+use separate::line::Line;
 use separate::record::Channel;
+use separate::replay::{read_table, Lines};
 use separate::rng::Rng;
 use separate::{tables, Event, Module, Six};
 
@@ -114,6 +116,51 @@ fn compare(seed: u64, count: usize, done: &mut Done) {
         }
     }
     assert_same_inside(&left.module, &right.module, &set);
+}
+
+/// The table and the events of a hand-made case.
+fn case(name: &str) -> (Module, Vec<Event>) {
+    let folder = concat!(env!("CARGO_MANIFEST_DIR"), "/../cases");
+    let input = std::fs::read(format!("{folder}/{name}.in")).expect("a case");
+    let mut lines = Lines::new(input.as_slice());
+    let module = read_table(&mut lines).expect("an accepted table");
+    let mut events = Vec::new();
+    while let Some(Line::Six(six)) = lines.next_line() {
+        events.push(Event::from_six(six));
+    }
+    (module, events)
+}
+
+/// The common events of a case with what must agree of their answers.
+fn common_answers(name: &str, set: &[bool]) -> Vec<(Event, Six)> {
+    let (mut module, events) = case(name);
+    let mut answers = Vec::new();
+    for event in events {
+        let answer = module.step(&event);
+        if common(set, &event) {
+            answers.push((event, visible(set, &event, answer.six())));
+        }
+    }
+    answers
+}
+
+#[test]
+fn a_queuing_channel_with_one_end_in_the_set_lets_answers_differ() {
+    let (left, right) = ("queuing-closed-needed-left", "queuing-closed-needed-right");
+    let set = [false, true, false];
+    let (module, _) = case(left);
+    assert_eq!(module, case(right).0);
+    // The source alone: a sampling channel would leave the set closed.
+    let [channel] = module.channels() else {
+        panic!("one channel");
+    };
+    assert!(set[channel.source] && !set[channel.destination]);
+    assert!(channel.queue().is_some() && !is_closed(channel, &set));
+    let (mut one, mut other) = (common_answers(left, &set), common_answers(right, &set));
+    let ends = (one.pop().expect("events"), other.pop().expect("events"));
+    assert_eq!(one, other);
+    assert_eq!(ends.0 .0, ends.1 .0);
+    assert_eq!((ends.0 .1[0], ends.1 .1[0]), (0, 2));
 }
 
 #[test]

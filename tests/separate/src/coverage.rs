@@ -1,6 +1,7 @@
 //! Counts what made-up inputs reach: answers, waits, reasons, corners.
 
 mod messages;
+mod queuing;
 
 use crate::events::Events;
 use crate::generate;
@@ -170,7 +171,7 @@ pub const REASONS: [&str; 11] = [
     "unused e not 0",
 ];
 
-pub const CORNERS: [&str; 54] = [
+pub const CORNERS: [&str; 92] = [
     "no current partition",
     "deadline missed",
     "deadline missed while waiting or suspended",
@@ -225,6 +226,54 @@ pub const CORNERS: [&str; 54] = [
     "START of a process with a message in its record",
     "restart erases held messages",
     "restart erases a shown message",
+    "WRITE of a queuing channel",
+    "READ of a queuing channel",
+    "SEND to a sampling channel",
+    "RECEIVE from a sampling channel",
+    "SEND to a channel of others",
+    "RECEIVE from a channel of others",
+    "SEND by the destination",
+    "RECEIVE by the source",
+    "SEND in a start mode",
+    "RECEIVE in a start mode",
+    "message 0 sent to a channel",
+    "message 9,999,999 sent to a channel",
+    "message 10,000,000 not sent to a channel",
+    "message 0 received from a channel",
+    "equal messages held by a channel",
+    "8 messages held by a channel",
+    "SEND to a partition in a start mode",
+    "SEND to two waiting receivers or more",
+    "RECEIVE with two waiting senders or more",
+    "sender to a channel waits at size 1",
+    "sender to a channel waits at a size above 1",
+    "sender to a channel let in behind held messages",
+    "sender to a channel gone from ahead of another",
+    "receiver from a channel gone from ahead of another",
+    "destination's restart lets two senders or more in",
+    "destination's restart leaves a sender waiting",
+    "destination's restart lets senders in and leaves room",
+    "destination's restart lets senders in on two channels or more",
+    "destination's restart lets senders of two partitions or more in",
+    "destination's restart lets senders in and was called by a process",
+    "destination's restart removes receivers",
+    "destination's restart after its source's erases messages",
+    "source's restart with a full queue and senders waiting",
+    "source's restart with messages held and none waiting",
+    "source's restart with receivers waiting",
+    "source's restart after its destination's keeps messages",
+    "restart removes senders and receivers",
+    "restart removes senders and lets others in",
+];
+
+/// Shapes that the channels of accepted tables have.
+pub const SHAPES: [&str; 6] = [
+    "channels of both kinds",
+    "queuing channels in a ring through three partitions or more",
+    "queuing channels from three partitions or more into one",
+    "queuing channels out of one partition into three or more",
+    "queuing channels with the same ends",
+    "queuing channels there and back",
 ];
 
 /// Where a table was refused, or that it was accepted.
@@ -246,6 +295,7 @@ pub struct Coverage {
     pub waits: [[u64; CHANGES.len()]; WAITS.len()],
     pub reasons: [u64; REASONS.len()],
     pub corners: [u64; CORNERS.len()],
+    pub shapes: [u64; SHAPES.len()],
     pub tables: [u64; TABLES.len()],
     pub events: u64,
 }
@@ -257,6 +307,7 @@ impl Coverage {
             waits: [[0; CHANGES.len()]; WAITS.len()],
             reasons: [0; REASONS.len()],
             corners: [0; CORNERS.len()],
+            shapes: [0; SHAPES.len()],
             tables: [0; TABLES.len()],
             events: 0,
         }
@@ -274,6 +325,7 @@ impl Coverage {
 
     fn take_events(&mut self, seed: u64, count: u64) {
         let (_, mut events) = Events::with_table(seed);
+        self.take_shapes(&events.module);
         let mut before = events.module.clone();
         for _ in 0..count {
             let (event, answer) = events.next_event();
@@ -388,6 +440,7 @@ impl Coverage {
                 self.take_read_corners(channel, after.t());
             }
             23..=29 => self.take_message_corners(event, answer, old, new),
+            30.. => self.take_queuing_corners(event, answer, before, after),
             _ => self.take_call_corners(event, old),
         }
         self.take_running_corners(answer, old, new);
@@ -458,6 +511,7 @@ impl Coverage {
             let kept = channel.source == own && later.message().is_some();
             self.count_corner("source's restart keeps a message", kept);
         }
+        self.take_restart_corners(before, own, after);
     }
 
     fn take_read_corners(&mut self, channel: &Channel, t: i64) {
@@ -529,6 +583,7 @@ impl Coverage {
         self.print_waits(out)?;
         print_list(out, "reasons for 13", &REASONS, &self.reasons)?;
         print_list(out, "corners", &CORNERS, &self.corners)?;
+        print_list(out, "channels", &SHAPES, &self.shapes)?;
         print_list(out, "tables", &TABLES, &self.tables)?;
         print_pairs(out, "allowed and not reached", &self.missing())?;
         print_pairs(out, "reached and not allowed", &self.unforeseen())?;

@@ -63,7 +63,7 @@ impl Events {
     pub fn of(module: Module, mut rng: Rng) -> Events {
         let queuing = module.channels.iter().any(|it| it.queue().is_some());
         let mostly = match rng.below(10) {
-            0..=5 if queuing => Mostly::Queuing,
+            0..=6 if queuing => Mostly::Queuing,
             4..=7 => Mostly::Passing,
             _ => Mostly::Anything,
         };
@@ -118,7 +118,7 @@ impl Events {
         let partition = self.module.partition(own);
         let weights = match partition.mode {
             Mode::Normal if partition.running() != 0 => self.normal_weights(own),
-            Mode::ColdStart | Mode::WarmStart => self.start_weights(),
+            Mode::ColdStart | Mode::WarmStart => self.start_weights(own),
             _ => return self.call_that_gets_9(own),
         };
         match self.rng.weighted(&weights) {
@@ -156,32 +156,46 @@ impl Events {
         weights
     }
 
-    /// Who is at an end of queuing channels mostly sends and receives, and
-    /// restarts more often where somebody waits there.
+    /// Who is at an end of queuing channels mostly sends and receives, where
+    /// no other process is READY mostly at once, and restarts more often where
+    /// somebody waits there.
     fn weigh_channels(&self, own: Id, weights: &mut Weights) {
-        let channels = &self.module.channels;
-        let queuing = channels.iter().filter(|it| it.queue().is_some());
-        let ends: Vec<_> = queuing.map(|it| (it.source, it.destination)).collect();
-        weights[0] = 12;
-        for weight in &mut weights[12..30] {
-            *weight = weight.div_ceil(4);
+        let alone = self.module.partition(own).arrival.len() < 2;
+        weights[0] = 20;
+        for call in [2, 3, 4, 6, 8, 9].into_iter().chain(12..30) {
+            weights[call] = weights[call].div_ceil(4);
         }
-        if ends.iter().any(|&(source, _)| source == own) {
-            weights[30] += 60;
+        for (n, channel) in (1..).zip(&self.module.channels) {
+            let Some(queue) = channel.queue() else {
+                continue;
+            };
+            let room = !queue.full() || self.waiters(n).1 > 0;
+            if channel.source == own && (room || !alone) {
+                weights[30] = 60;
+            }
+            if channel.destination == own && !(alone && queue.messages.is_empty()) {
+                weights[31] = 50;
+            }
         }
-        if ends.iter().any(|&(_, destination)| destination == own) {
-            weights[31] += 50;
-        }
-        if self.others_wait(own) {
-            weights[1] += 1;
-        }
+        weights[1] += usize::from(self.channels_wait(own)) + 4 * self.awaiting(own);
     }
 
-    /// True if somebody waits at an end of a channel of the partition.
-    fn others_wait(&self, own: Id) -> bool {
+    /// On how many channels somebody waits to send to the partition.
+    fn awaiting(&self, own: Id) -> usize {
+        let channels = (1..).zip(&self.module.channels);
+        channels
+            .filter(|&(n, channel)| channel.destination == own && self.waiters(n).0 > 0)
+            .count()
+    }
+
+    /// True if a queuing channel of the partition is full, or somebody waits
+    /// at one of its ends.
+    fn channels_wait(&self, own: Id) -> bool {
         (1..=self.module.channels.len()).any(|n| {
             let channel = &self.module.channels[n - 1];
-            (channel.source == own || channel.destination == own) && self.waiters(n) != (0, 0)
+            let full = channel.queue().is_some_and(MessageQueue::full);
+            (channel.source == own || channel.destination == own)
+                && (full || self.waiters(n) != (0, 0))
         })
     }
 
@@ -193,15 +207,21 @@ impl Events {
     }
 
     /// Where messages are passed more processes are started before NORMAL.
-    fn start_weights(&self) -> Weights {
+    fn start_weights(&self, own: Id) -> Weights {
         let mut weights = START_WEIGHTS;
         if self.mostly != Mostly::Anything {
             weights[2] *= 2;
             weights[3] *= 2;
         }
         if self.mostly == Mostly::Queuing {
-            weights[1] *= 2;
+            let processes = &self.module.partition(own).processes;
+            let few = processes.iter().filter(|it| it.started).count() < 5;
+            weights[1] = if few { 1 } else { 25 };
+            weights[1] += 6 * self.awaiting(own);
             weights[0] /= 4;
+            for weight in &mut weights[14..] {
+                *weight = weight.div_ceil(4);
+            }
         }
         weights
     }
@@ -373,16 +393,18 @@ impl Events {
     }
 
     /// Mostly NORMAL once a process is started; restarts and IDLE are rare,
-    /// less so where a suspended process waits in a queue, or another at an
-    /// end of a channel.
+    /// less so where a suspended process waits in a queue, or where a restart
+    /// tells on a queuing channel.
     fn mode(&mut self, own: Id) -> i64 {
         let partition = self.module.partition(own);
         let started = partition.processes.iter().any(|process| process.started);
-        let waits = partition.processes.iter().any(suspended_waiter) || self.others_wait(own);
+        let waits = partition.processes.iter().any(suspended_waiter) || self.channels_wait(own);
         let weights = match partition.mode {
             // 0, 1, 2, 3, out of range
             Mode::Normal if waits => [1, 25, 35, 20, 19],
             Mode::Normal => [1, 8, 10, 50, 31],
+            _ if self.awaiting(own) > 0 => [3, 20, 25, 40, 12],
+            _ if started && waits => [1, 5, 12, 72, 10],
             _ if started => [1, 2, 4, 83, 10],
             _ => [1, 5, 10, 14, 70],
         };
@@ -709,7 +731,7 @@ impl Events {
         let alone = self.module.partition(own).arrival.len() < 2;
         match self.rng.below(10) {
             0..=4 if !alone => self.rng.range(1, 3 * self.module.frame),
-            5..=6 if !alone => -1,
+            5..=7 if !alone => -1,
             _ => self.time_out(own),
         }
     }

@@ -8,7 +8,7 @@ use crate::table::{self, MOST_CHANNELS, MOST_FRAME, MOST_REFRESH, MOST_WINDOWS, 
 
 /// The numbers of an accepted table, line by line.
 pub fn accepted(rng: &mut Rng) -> Vec<Six> {
-    let partitions = rng.pick(&[1, 1, 2, 2, 2, 2, 3, 3, 3, 4, 4, 5, 6, 7, 8]);
+    let partitions = rng.pick(&[1, 1, 2, 2, 2, 2, 3, 3, 3, 3, 4, 4, 5, 6, 7, 8]);
     let most_more = MOST_WINDOWS - partitions;
     let more = match rng.below(8) {
         0..=3 => rng.range(0, 2),
@@ -91,7 +91,7 @@ fn spread(rng: &mut Rng, frame: i64, windows: i64) -> Vec<(i64, i64)> {
 
 /// Channels of both kinds for the most part, else of one.
 fn channel_lines(rng: &mut Rng, frame: i64, partitions: i64, channels: i64) -> Vec<Six> {
-    let queuing = rng.pick(&[0, 20, 50, 50, 80, 100]);
+    let queuing = rng.pick(&[0, 20, 50, 80, 100, 100]);
     let ends = ends(rng, partitions, channels);
     ends.iter()
         .map(|&(source, destination)| {
@@ -110,17 +110,17 @@ fn channel_lines(rng: &mut Rng, frame: i64, partitions: i64, channels: i64) -> V
 /// Sources and destinations: a ring, a star out of one partition or into one,
 /// all between the same two, or any.
 fn ends(rng: &mut Rng, partitions: i64, channels: i64) -> Vec<(i64, i64)> {
-    let shape = rng.below(9);
+    let shape = rng.below(10);
     let one = rng.range(1, partitions);
     let another = other(rng, partitions, one);
     (0..channels)
         .map(|n| match shape {
-            0 => (n % partitions + 1, (n + 1) % partitions + 1),
-            1 => (one, other(rng, partitions, one)),
-            2 => (other(rng, partitions, one), one),
-            3 => (one, another),
-            4 if rng.percent(50) => (one, another),
-            4 => (another, one),
+            0..=1 => (n % partitions + 1, (n + 1) % partitions + 1),
+            2 => (one, other(rng, partitions, one)),
+            3..=4 => (other(rng, partitions, one), one),
+            5 => (one, another),
+            6 if rng.percent(50) => (one, another),
+            6 => (another, one),
             _ => {
                 let source = rng.range(1, partitions);
                 (source, other(rng, partitions, source))

@@ -171,8 +171,9 @@ waiters blackboard 2
     assert_eq!(dump::text(&world.module), expected);
 }
 
-#[test]
-fn queuing_channels_with_their_messages_and_the_waiters_of_both_ends() {
+/// Two partitions with queuing channels there and back, with held messages and
+/// waiters of both ends.
+fn queuing() -> World {
     let table = [
         [10, 2, 2, 4, 0, 0],
         [0, 5, 1, 1, 0, 0],
@@ -202,6 +203,11 @@ fn queuing_channels_with_their_messages_and_the_waiters_of_both_ends() {
     ] {
         world.event(event);
     }
+    world
+}
+
+#[test]
+fn queuing_channels_with_their_messages_and_the_waiters_of_both_ends() {
     let expected = "\
 module t 5 current 2 running 0 frame 10 partitions 2 windows 2 channels 4
 window 1 start 0 duration 5 partition 1 flag 1
@@ -231,7 +237,7 @@ waiters sending channel 2
 waiters receiving channel 1
 waiters receiving channel 4 1
 ";
-    assert_eq!(dump::text(&world.module), expected);
+    assert_eq!(dump::text(&queuing().module), expected);
 }
 
 #[test]

@@ -1,6 +1,6 @@
 //! The generator reaches what it is there to reach.
 
-use separate::coverage::{Coverage, CHANGES, CORNERS, REASONS, TABLES, WAITS};
+use separate::coverage::{Coverage, CHANGES, CORNERS, REASONS, SHAPES, TABLES, WAITS};
 use separate::generate::{generate, Kind};
 use separate::line::{self, Line};
 use separate::replay::{final_record, read_table, replay, Lines};
@@ -43,6 +43,7 @@ fn every_pair_of_call_and_code_but_10_is_reached_within_200_seeds() {
     };
     assert_eq!(unreached(&REASONS, &coverage.reasons), Vec::<&str>::new());
     assert_eq!(unreached(&CORNERS, &coverage.corners), Vec::<&str>::new());
+    assert_eq!(unreached(&SHAPES, &coverage.shapes), Vec::<&str>::new());
     assert_eq!(unreached(&TABLES, &coverage.tables), Vec::<&str>::new());
 }
 
@@ -100,6 +101,7 @@ fn one_seed_gives_one_input() {
         Kind::Events,
         Kind::Busy,
         Kind::Passing,
+        Kind::Queuing,
         Kind::Ticks,
         Kind::Damaged,
     ] {
@@ -143,19 +145,29 @@ fn the_inputs_for_timing_stay_the_same_from_version_to_version() {
     assert_eq!(sum(&input(2, Kind::Ticks, 20_000)), 0x4EE9_173D_D80D_2EAE);
 }
 
-#[test]
-fn passing_lines_are_accepted_and_mostly_pass_messages() {
-    let bytes = input(3, Kind::Passing, 20_000);
+/// Every line is accepted, most are of these calls, and many wait.
+fn assert_mostly(kind: Kind, calls: &[i64]) {
+    let bytes = input(3, kind, 20_000);
     let codes = codes(&bytes);
     assert!(codes.iter().all(|code| [0, 7].contains(code)));
-    let passing = bytes
+    let of_these = bytes
         .chunks_exact(61)
         .filter(|bytes| match line::read(bytes) {
-            Line::Six(six) => [24, 25, 27, 28].contains(&six[1]),
+            Line::Six(six) => calls.contains(&six[1]),
             Line::Bad => panic!("a line that is no line"),
         });
-    assert!(passing.count() * 10 > codes.len() * 7);
+    assert!(of_these.count() * 10 > codes.len() * 7);
     assert!(codes.iter().filter(|&&code| code == 7).count() > 2_000);
+}
+
+#[test]
+fn passing_lines_are_accepted_and_mostly_pass_messages() {
+    assert_mostly(Kind::Passing, &[24, 25, 27, 28]);
+}
+
+#[test]
+fn queuing_lines_are_accepted_and_mostly_send_and_receive() {
+    assert_mostly(Kind::Queuing, &[30, 31]);
 }
 
 #[test]

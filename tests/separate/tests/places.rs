@@ -2,7 +2,7 @@
 
 mod common;
 
-use common::{line, World, CHANNELS, ONE, TWO};
+use common::{line, World, CHANNELS, TWO};
 use separate::machine::USED;
 use separate::{Event, Module};
 
@@ -307,8 +307,39 @@ fn a_list_of_event_records_keeps_each_answer_in_its_record() {
     assert!(list.module == single.module);
 }
 
+/// Fields of a call that is not refused for them, in a partition that has one
+/// of each object, at the source of channels 1 (sampling) and 3 (queuing) and
+/// at the destination of 2 and 4.
+fn good_fields(call: i64) -> [i64; 4] {
+    match call {
+        2 => [2, 5, -1, -1],
+        14 => [2, 1, 1, 0],
+        22 => [2, 0, 0, 0],
+        23 => [2, 1, 0, 0],
+        30 => [3, 1, 1, 0],
+        31 => [4, 1, 0, 0],
+        _ => {
+            let mut fields = [1; 4];
+            fields[USED[call as usize]..].fill(0);
+            fields
+        }
+    }
+}
+
 #[test]
 fn numbers_that_no_line_holds_are_judged_by_the_same_rules() {
+    let mut table = TWO.to_vec();
+    table[0][3] = 4;
+    for kind in [0, 1] {
+        table.extend([[1, 2, 5, kind, kind, 0], [2, 1, 5, kind, kind, 0]]);
+    }
+    let mut world = World::new(&table);
+    world.semaphore(0, 1);
+    world.flag();
+    world.buffer(1);
+    world.blackboard();
+    world.started(5);
+    world.normal();
     for call in 1..=31i64 {
         for field in 0..USED[call as usize] {
             for value in [
@@ -319,22 +350,7 @@ fn numbers_that_no_line_holds_are_judged_by_the_same_rules() {
                 i64::MAX - 1,
                 i64::MAX,
             ] {
-                let mut world = World::new(&ONE);
-                world.semaphore(0, 1);
-                world.flag();
-                world.buffer(1);
-                world.blackboard();
-                world.started(5);
-                world.normal();
-                let mut fields = [1; 4];
-                fields[USED[call as usize]..].fill(0);
-                if call == 2 {
-                    fields = [2, 5, -1, -1];
-                } else if call == 14 {
-                    fields = [2, 1, 1, 0];
-                } else if call == 23 {
-                    fields = [2, 1, 0, 0];
-                }
+                let mut fields = good_fields(call);
                 fields[field] = value;
                 world.refused(3, call, &fields);
             }

@@ -1,8 +1,9 @@
-//! The bodies of calls 1 to 29 ("Calls" of document 01; 23 to 29 of document
-//! 02, a). Checks run in the order written.
+//! The bodies of calls 1 to 31 ("Calls" of document 01; 23 to 31 of document
+//! 02, a and b). Checks run in the order written.
 
 mod channel;
 mod message;
+mod passing;
 mod process;
 mod queue;
 mod start;
@@ -23,6 +24,13 @@ pub const LIMITS: RangeInclusive<i64> = 1..=16;
 /// What a body with shared checks answers; `Err` is a refusal by one of them.
 type Checked = Result<Outcome, Outcome>;
 
+/// The answer, whether its checks refused or not.
+fn outcome(checked: Checked) -> Outcome {
+    match checked {
+        Ok(outcome) | Err(outcome) => outcome,
+    }
+}
+
 /// The number's refusal, written like the paper's "n: ...".
 fn refuse(code: i64) -> Outcome {
     Outcome::code(code)
@@ -39,8 +47,8 @@ fn after(t: i64, a: i64) -> Option<i64> {
 }
 
 /// The checks of a call that may wait in a queue. 3: id unknown. 5: start
-/// mode. 3: a field not good. Gives the id and the calling process.
-fn may_wait(known: Option<Id>, caller: Caller, good: bool) -> Result<(Id, Id), Outcome> {
+/// mode. 3: a field not good. Gives what is known and the calling process.
+fn may_wait<T>(known: Option<T>, caller: Caller, good: bool) -> Result<(T, Id), Outcome> {
     let of = known.ok_or(refuse(3))?;
     let Caller::Process(own) = caller else {
         return Err(refuse(5));
@@ -91,7 +99,8 @@ impl Partition {
         Ok(Outcome::WAITING)
     }
 
-    /// The bodies of the calls for semaphores, events, buffers, blackboards.
+    /// The bodies of the calls for semaphores, events, buffers, blackboards,
+    /// but for those that send and receive.
     fn object_body(&mut self, caller: Caller, t: i64, event: &Event) -> Checked {
         let [a, b, c, _] = event.fields;
         match event.call {
@@ -103,8 +112,6 @@ impl Partition {
             19 => Ok(self.reset_event(a)),
             20 => self.wait_event(caller, t, a, b),
             23 => self.create_buffer(a, b),
-            24 => self.send_buffer(caller, t, a, b, c),
-            25 => self.receive_buffer(caller, t, a, b),
             26 => self.create_blackboard(a),
             27 => Ok(self.show(a, b)),
             28 => self.read_blackboard(caller, t, a, b),
@@ -116,17 +123,25 @@ impl Partition {
 impl Module {
     /// The body of a call that passed 13, 8 and 9.
     pub(crate) fn body(&mut self, own: Id, caller: Caller, event: &Event) -> Outcome {
-        let [a, b, c, e] = event.fields;
-        let t = self.t;
+        let [a, b, c, _] = event.fields;
         match event.call {
-            1 => return self.set_partition_mode(own, a),
-            3 => return self.start(own, a, 0),
-            4 => return self.start(own, a, b),
-            21 => return self.write(own, a, b),
-            22 => return self.read(own, a),
-            _ => {}
+            1 => self.set_partition_mode(own, a),
+            3 => self.start(own, a, 0),
+            4 => self.start(own, a, b),
+            21 => self.write(own, a, b),
+            22 => self.read(own, a),
+            24 => outcome(self.send_buffer(own, caller, a, b, c)),
+            25 => outcome(self.receive_buffer(own, caller, a, b)),
+            30 => outcome(self.send(own, caller, a, b, c)),
+            31 => outcome(self.receive(own, caller, a, b)),
+            _ => self.partition_body(own, caller, event),
         }
-        let frame = self.frame;
+    }
+
+    /// The bodies that see nothing but their partition, t and M.
+    fn partition_body(&mut self, own: Id, caller: Caller, event: &Event) -> Outcome {
+        let [a, b, c, e] = event.fields;
+        let (t, frame) = (self.t, self.frame);
         let partition = &mut self.partitions[own - 1];
         match event.call {
             2 => partition.create_process(frame, a, b, c, e),
@@ -139,9 +154,7 @@ impl Module {
             11 => partition.resume(caller, a),
             12 => partition.set_priority(a, b),
             13 => partition.get_process_status(caller, a),
-            _ => match partition.object_body(caller, t, event) {
-                Ok(outcome) | Err(outcome) => outcome,
-            },
+            _ => outcome(partition.object_body(caller, t, event)),
         }
     }
 }

@@ -1,16 +1,17 @@
 //! Counts what made-up inputs reach: answers, waits, reasons, corners.
 
 mod messages;
+mod queuing;
 
 use crate::events::Events;
 use crate::generate;
 use crate::line::LENGTH;
 use crate::machine::{Answer, Event, LAST_CALL, USED};
-use crate::record::{Channel, Mode, Module, Partition, Process, Wait};
+use crate::record::{Channel, Mode, Module, Partition, Process, QueueId, Wait};
 use crate::replay::{read_table, Lines};
 use std::io::{self, Write};
 
-const CALLS: usize = 30;
+const CALLS: usize = 32;
 const CODES: usize = 14;
 
 /// The codes that the documents allow for a tick (0) and for each call, but
@@ -46,6 +47,8 @@ pub const ALLOWED: [&[usize]; CALLS] = [
     &[0, 3, 8, 9, 13],
     &[0, 2, 3, 5, 7, 8, 9, 13],
     &[0, 3, 8, 9, 13],
+    &[0, 2, 3, 5, 7, 8, 9, 13],
+    &[0, 2, 3, 5, 7, 8, 9, 13],
 ];
 
 const NAMES: [&str; CALLS] = [
@@ -79,10 +82,12 @@ const NAMES: [&str; CALLS] = [
     "SHOW",
     "READ_BLACKBOARD",
     "CLEAR",
+    "SEND",
+    "RECEIVE",
 ];
 
 /// The kinds of wait, and the suspended mark of a process without wait.
-pub const WAITS: [&str; 10] = [
+pub const WAITS: [&str; 12] = [
     "normal",
     "delay",
     "timed",
@@ -92,12 +97,16 @@ pub const WAITS: [&str; 10] = [
     "sending",
     "receiving",
     "blackboard",
+    "sending channel",
+    "receiving channel",
     "suspended, no wait",
 ];
 
 /// What can happen to a wait. SIGNAL and SET_EVENT end one by signal, and so
-/// do SEND_BUFFER, RECEIVE_BUFFER and SHOW.
-pub const CHANGES: [&str; 13] = [
+/// do the calls that send and receive, and SHOW. A restart of a channel's
+/// destination ends waits of its senders; one of the waiter's own partition
+/// erases.
+pub const CHANGES: [&str; 15] = [
     "began",
     "suspended",
     "resumed",
@@ -105,12 +114,25 @@ pub const CHANGES: [&str; 13] = [
     "by time",
     "by stop",
     "by NORMAL",
+    "by restart",
     "erased",
     "by signal, suspended",
     "by time, suspended",
     "by stop, suspended",
     "by NORMAL, suspended",
+    "by restart, suspended",
     "erased, suspended",
+];
+
+/// The waits that a signal ends.
+const IN_A_QUEUE: [&str; 7] = [
+    "semaphore",
+    "event",
+    "sending",
+    "receiving",
+    "blackboard",
+    "sending channel",
+    "receiving channel",
 ];
 
 /// True if the rules let this happen to a wait. A periodic process is never
@@ -126,9 +148,10 @@ fn may_happen(wait: &str, change: &str) -> bool {
         _ => {}
     }
     match way {
-        "by signal" => ["semaphore", "event", "sending", "receiving", "blackboard"].contains(&wait),
+        "by signal" => IN_A_QUEUE.contains(&wait),
         "by time" => wait != "normal",
         "by NORMAL" => wait == "normal",
+        "by restart" => wait == "sending channel",
         _ => true,
     }
 }
@@ -139,7 +162,7 @@ pub const REASONS: [&str; 11] = [
     "partition below 0",
     "partition above P",
     "call below 0",
-    "call above 29",
+    "call above 31",
     "partition 0 with a call",
     "a partition with call 0",
     "unused a not 0",
@@ -148,7 +171,7 @@ pub const REASONS: [&str; 11] = [
     "unused e not 0",
 ];
 
-pub const CORNERS: [&str; 54] = [
+pub const CORNERS: [&str; 92] = [
     "no current partition",
     "deadline missed",
     "deadline missed while waiting or suspended",
@@ -203,6 +226,54 @@ pub const CORNERS: [&str; 54] = [
     "START of a process with a message in its record",
     "restart erases held messages",
     "restart erases a shown message",
+    "WRITE of a queuing channel",
+    "READ of a queuing channel",
+    "SEND to a sampling channel",
+    "RECEIVE from a sampling channel",
+    "SEND to a channel of others",
+    "RECEIVE from a channel of others",
+    "SEND by the destination",
+    "RECEIVE by the source",
+    "SEND in a start mode",
+    "RECEIVE in a start mode",
+    "message 0 sent to a channel",
+    "message 9,999,999 sent to a channel",
+    "message 10,000,000 not sent to a channel",
+    "message 0 received from a channel",
+    "equal messages held by a channel",
+    "8 messages held by a channel",
+    "SEND to a partition in a start mode",
+    "SEND to two waiting receivers or more",
+    "RECEIVE with two waiting senders or more",
+    "sender to a channel waits at size 1",
+    "sender to a channel waits at a size above 1",
+    "sender to a channel let in behind held messages",
+    "sender to a channel gone from ahead of another",
+    "receiver from a channel gone from ahead of another",
+    "destination's restart lets two senders or more in",
+    "destination's restart leaves a sender waiting",
+    "destination's restart lets senders in and leaves room",
+    "destination's restart lets senders in on two channels or more",
+    "destination's restart lets senders of two partitions or more in",
+    "destination's restart lets senders in and was called by a process",
+    "destination's restart removes receivers",
+    "destination's restart after its source's erases messages",
+    "source's restart with a full queue and senders waiting",
+    "source's restart with messages held and none waiting",
+    "source's restart with receivers waiting",
+    "source's restart after its destination's keeps messages",
+    "restart removes senders and receivers",
+    "restart removes senders and lets others in",
+];
+
+/// Shapes that the channels of accepted tables have.
+pub const SHAPES: [&str; 6] = [
+    "channels of both kinds",
+    "queuing channels in a ring through three partitions or more",
+    "queuing channels from three partitions or more into one",
+    "queuing channels out of one partition into three or more",
+    "queuing channels with the same ends",
+    "queuing channels there and back",
 ];
 
 /// Where a table was refused, or that it was accepted.
@@ -224,6 +295,7 @@ pub struct Coverage {
     pub waits: [[u64; CHANGES.len()]; WAITS.len()],
     pub reasons: [u64; REASONS.len()],
     pub corners: [u64; CORNERS.len()],
+    pub shapes: [u64; SHAPES.len()],
     pub tables: [u64; TABLES.len()],
     pub events: u64,
 }
@@ -235,6 +307,7 @@ impl Coverage {
             waits: [[0; CHANGES.len()]; WAITS.len()],
             reasons: [0; REASONS.len()],
             corners: [0; CORNERS.len()],
+            shapes: [0; SHAPES.len()],
             tables: [0; TABLES.len()],
             events: 0,
         }
@@ -252,6 +325,7 @@ impl Coverage {
 
     fn take_events(&mut self, seed: u64, count: u64) {
         let (_, mut events) = Events::with_table(seed);
+        self.take_shapes(&events.module);
         let mut before = events.module.clone();
         for _ in 0..count {
             let (event, answer) = events.next_event();
@@ -323,19 +397,19 @@ impl Coverage {
 
     fn count_wait(&mut self, process: &Process, change: &str) {
         let wait = match process.wait {
-            Wait::Normal => 0,
-            Wait::Delay => 1,
-            Wait::Timed => 2,
-            Wait::Period => 3,
-            Wait::Semaphore(_) => 4,
-            Wait::Event(_) => 5,
-            Wait::Sending { .. } => 6,
-            Wait::Receiving(_) => 7,
-            Wait::Blackboard(_) => 8,
-            Wait::None if process.suspended => 9,
+            Wait::Normal => "normal",
+            Wait::Delay => "delay",
+            Wait::Timed => "timed",
+            Wait::Period => "period",
+            Wait::Semaphore(_) => "semaphore",
+            Wait::Event(_) => "event",
+            Wait::Sending { to, .. } => of_queue(to, "sending", "sending channel"),
+            Wait::Receiving(from) => of_queue(from, "receiving", "receiving channel"),
+            Wait::Blackboard(_) => "blackboard",
+            Wait::None if process.suspended => "suspended, no wait",
             Wait::None => return,
         };
-        self.waits[wait][place(&CHANGES, change)] += 1;
+        self.waits[place(&WAITS, wait)][place(&CHANGES, change)] += 1;
     }
 
     fn count_corner(&mut self, corner: &str, holds: bool) {
@@ -365,7 +439,8 @@ impl Coverage {
                 let channel = &before.channels()[event.fields[0] as usize - 1];
                 self.take_read_corners(channel, after.t());
             }
-            23.. => self.take_message_corners(event, answer, old, new),
+            23..=29 => self.take_message_corners(event, answer, old, new),
+            30.. => self.take_queuing_corners(event, answer, before, after),
             _ => self.take_call_corners(event, old),
         }
         self.take_running_corners(answer, old, new);
@@ -423,20 +498,24 @@ impl Coverage {
             return;
         }
         self.count_corner("restart by a running process", old.mode == Mode::Normal);
-        let held = old.buffers.iter().any(|buffer| !buffer.messages.is_empty());
+        let held = old
+            .buffers
+            .iter()
+            .any(|buffer| !buffer.queue.messages.is_empty());
         self.count_corner("restart erases held messages", held);
         let shown = old.blackboards.iter().any(|board| board.message.is_some());
         self.count_corner("restart erases a shown message", shown);
         for (channel, later) in before.channels().iter().zip(after.channels()) {
-            let erased = channel.message.is_some() && later.message.is_none();
+            let erased = channel.message().is_some() && later.message().is_none();
             self.count_corner("restart erases a message", erased);
-            let kept = channel.source == own && later.message.is_some();
+            let kept = channel.source == own && later.message().is_some();
             self.count_corner("source's restart keeps a message", kept);
         }
+        self.take_restart_corners(before, own, after);
     }
 
     fn take_read_corners(&mut self, channel: &Channel, t: i64) {
-        let age = channel.message.map(|message| t - message.written);
+        let age = channel.message().map(|message| t - message.written);
         self.count_corner("READ at age refresh", age == Some(channel.refresh));
         self.count_corner("READ at age refresh + 1", age == Some(channel.refresh + 1));
     }
@@ -504,6 +583,7 @@ impl Coverage {
         self.print_waits(out)?;
         print_list(out, "reasons for 13", &REASONS, &self.reasons)?;
         print_list(out, "corners", &CORNERS, &self.corners)?;
+        print_list(out, "channels", &SHAPES, &self.shapes)?;
         print_list(out, "tables", &TABLES, &self.tables)?;
         print_pairs(out, "allowed and not reached", &self.missing())?;
         print_pairs(out, "reached and not allowed", &self.unforeseen())?;
@@ -564,8 +644,17 @@ fn ending(event: &Event, new: &Process) -> &'static str {
     match event.call {
         _ if !new.started => "by stop",
         0 => "by time",
-        16 | 18 | 24 | 25 | 27 => "by signal",
-        _ => "by NORMAL",
+        16 | 18 | 24 | 25 | 27 | 30 | 31 => "by signal",
+        _ if event.fields[0] == 3 => "by NORMAL",
+        _ => "by restart",
+    }
+}
+
+/// The name of a wait for a buffer or for a channel.
+fn of_queue<'a>(queue: QueueId, buffer: &'a str, channel: &'a str) -> &'a str {
+    match queue {
+        QueueId::Buffer(_) => buffer,
+        QueueId::Channel(_) => channel,
     }
 }
 
@@ -584,7 +673,7 @@ fn reason(module: &Module, event: &Event) -> usize {
         (event.partition < 0, "partition below 0"),
         (event.partition > partitions, "partition above P"),
         (event.call < 0, "call below 0"),
-        (event.call > LAST_CALL, "call above 29"),
+        (event.call > LAST_CALL, "call above 31"),
         (
             event.partition == 0 && event.call != 0,
             "partition 0 with a call",

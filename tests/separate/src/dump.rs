@@ -1,6 +1,7 @@
 //! The whole record as text, one item per line; -1 for never.
 
-use crate::record::{Channel, Id, Module, Partition, Process, Wait, Window};
+use crate::record::{Channel, Id, Kind, MessageQueue, Module, Partition, Process};
+use crate::record::{QueueId, Wait, Window};
 use std::collections::VecDeque;
 use std::fmt::Display;
 use std::io::{self, Write};
@@ -19,6 +20,8 @@ pub fn dump(module: &Module, out: &mut impl Write) -> io::Result<()> {
     }
     for (partition, k) in module.partitions().iter().zip(1..) {
         dump_partition(partition, k, out)?;
+        dump_ports(module, k, "sending", |channel| channel.source, out)?;
+        dump_ports(module, k, "receiving", |channel| channel.destination, out)?;
     }
     Ok(())
 }
@@ -63,15 +66,26 @@ fn dump_channel(channel: &Channel, n: usize, out: &mut impl Write) -> io::Result
         source,
         destination,
         refresh,
-        message,
+        kind,
     } = channel;
-    let value = message.map_or(-1, |message| message.value);
-    let written = message.map_or(-1, |message| message.written);
-    writeln!(
+    write!(
         out,
-        "channel {n} source {source} destination {destination} refresh {refresh} \
-         message {value} written {written}"
-    )
+        "channel {n} source {source} destination {destination} refresh {refresh} "
+    )?;
+    match kind {
+        Kind::Sampling(message) => {
+            let value = message.map_or(-1, |message| message.value);
+            let written = message.map_or(-1, |message| message.written);
+            writeln!(out, "message {value} written {written}")
+        }
+        Kind::Queuing(queue) => dump_messages(queue, out),
+    }
+}
+
+/// The limit of a message queue, and what it holds, first to come out first.
+fn dump_messages(queue: &MessageQueue, out: &mut impl Write) -> io::Result<()> {
+    write!(out, "limit {} messages", queue.limit)?;
+    dump_numbers(&queue.messages, out)
 }
 
 fn dump_partition(partition: &Partition, k: usize, out: &mut impl Write) -> io::Result<()> {
@@ -105,9 +119,8 @@ fn dump_objects(partition: &Partition, out: &mut impl Write) -> io::Result<()> {
         writeln!(out, "event {id} name {name} up {up}")?;
     }
     for (buffer, id) in partition.buffers.iter().zip(1..) {
-        let (name, limit) = (buffer.name, buffer.limit);
-        write!(out, "buffer {id} name {name} limit {limit} messages")?;
-        dump_numbers(&buffer.messages, out)?;
+        write!(out, "buffer {id} name {} ", buffer.name)?;
+        dump_messages(&buffer.queue, out)?;
     }
     for (blackboard, id) in partition.blackboards.iter().zip(1..) {
         let (name, message) = (blackboard.name, blackboard.message.unwrap_or(-1));
@@ -128,6 +141,25 @@ fn dump_waiters(partition: &Partition, out: &mut impl Write) -> io::Result<()> {
     dump_queues("sending", senders, out)?;
     dump_queues("receiving", receivers, out)?;
     dump_queues("blackboard", blackboards, out)
+}
+
+/// Those who wait at the partition's ends of queuing channels, of one kind of
+/// end, by channel.
+fn dump_ports(
+    module: &Module,
+    k: Id,
+    wait: &str,
+    end: fn(&Channel) -> Id,
+    out: &mut impl Write,
+) -> io::Result<()> {
+    let ports = module.channels().iter().zip(&module.partition(k).ports);
+    for ((channel, waiters), n) in ports.zip(1..) {
+        if channel.queue().is_some() && end(channel) == k {
+            write!(out, "waiters {wait} channel {n}")?;
+            dump_numbers(waiters, out)?;
+        }
+    }
+    Ok(())
 }
 
 /// The queues of one kind of wait, by id.
@@ -176,9 +208,17 @@ fn dump_wait(wait: Wait, out: &mut impl Write) -> io::Result<()> {
         Wait::Period => writeln!(out, "period"),
         Wait::Semaphore(id) => writeln!(out, "semaphore {id}"),
         Wait::Event(id) => writeln!(out, "event {id}"),
-        Wait::Sending { buffer, message } => writeln!(out, "sending {buffer} {message}"),
-        Wait::Receiving(id) => writeln!(out, "receiving {id}"),
+        Wait::Sending { to, message } => writeln!(out, "sending {} {message}", words(to)),
+        Wait::Receiving(from) => writeln!(out, "receiving {}", words(from)),
         Wait::Blackboard(id) => writeln!(out, "blackboard {id}"),
+    }
+}
+
+/// A buffer's id, or `channel` and its number.
+fn words(queue: QueueId) -> String {
+    match queue {
+        QueueId::Buffer(id) => format!("{id}"),
+        QueueId::Channel(n) => format!("channel {n}"),
     }
 }
 

@@ -4,7 +4,8 @@
 use crate::calls::{LIMITS, MOST_TIME};
 use crate::line::{self, Line};
 use crate::machine::{Answer, Event, LAST_CALL, USED};
-use crate::record::{Blackboard, Buffer, Channel, EventFlag, Id, Mode, Module, Process, Semaphore};
+use crate::record::{Blackboard, Buffer, Channel, EventFlag, Id, Mode, Module, Process};
+use crate::record::{MessageQueue, Semaphore};
 use crate::replay::Lines;
 use crate::rng::Rng;
 use crate::tables;
@@ -18,21 +19,35 @@ pub struct Events {
     pub(crate) rng: Rng,
     /// Ticks still to come before the next choice.
     burst: usize,
-    /// True in runs that mostly queue for objects and pass messages.
-    passing: bool,
+    mostly: Mostly,
 }
+
+/// What a run mostly does.
+#[derive(Clone, Copy, PartialEq, Eq)]
+enum Mostly {
+    Anything,
+    /// Queues for objects and passes messages.
+    Passing,
+    /// Sends and receives over queuing channels.
+    Queuing,
+}
+
+/// Tells of a message queue and of how many wait to send and to receive.
+type WantedQueue = fn(&MessageQueue, (usize, usize)) -> bool;
 
 /// How often the tick and each call is chosen.
 type Weights = [usize; USED.len()];
 
 /// How often each call is made by a partition's main program: tick, 1, 2, ...
 const START_WEIGHTS: Weights = [
-    8, 5, 26, 13, 11, 2, 1, 4, 1, 1, 1, 4, 3, 3, 11, 1, 4, 10, 2, 2, 1, 4, 4, 12, 1, 1, 10, 4, 1, 2,
+    8, 5, 26, 13, 11, 2, 1, 4, 1, 1, 1, 4, 3, 3, 11, 1, 4, 10, 2, 2, 1, 4, 4, 12, 1, 1, 10, 4, 1,
+    2, 1, 1,
 ];
 
 /// How often each call is made by a running process.
 const NORMAL_WEIGHTS: Weights = [
     24, 1, 2, 8, 7, 3, 1, 6, 4, 6, 4, 8, 6, 6, 2, 11, 8, 2, 5, 5, 8, 7, 7, 2, 14, 11, 2, 6, 9, 5,
+    1, 1,
 ];
 
 impl Events {
@@ -46,12 +61,17 @@ impl Events {
 
     /// A source of events for a module.
     pub fn of(module: Module, mut rng: Rng) -> Events {
-        let passing = rng.percent(40);
+        let queuing = module.channels.iter().any(|it| it.queue().is_some());
+        let mostly = match rng.below(10) {
+            0..=6 if queuing => Mostly::Queuing,
+            4..=7 => Mostly::Passing,
+            _ => Mostly::Anything,
+        };
         Events {
             module,
             rng,
             burst: 0,
-            passing,
+            mostly,
         }
     }
 
@@ -98,7 +118,7 @@ impl Events {
         let partition = self.module.partition(own);
         let weights = match partition.mode {
             Mode::Normal if partition.running() != 0 => self.normal_weights(own),
-            Mode::ColdStart | Mode::WarmStart => self.start_weights(),
+            Mode::ColdStart | Mode::WarmStart => self.start_weights(own),
             _ => return self.call_that_gets_9(own),
         };
         match self.rng.weighted(&weights) {
@@ -123,21 +143,85 @@ impl Events {
             weights[1] += 2;
             weights[5] += 3;
         }
-        if self.passing {
-            weights[0] = 12;
-            for call in [5, 15, 16, 18, 20, 24, 25, 27, 28] {
-                weights[call] *= 2;
+        match self.mostly {
+            Mostly::Anything => {}
+            Mostly::Passing => {
+                weights[0] = 12;
+                for call in [5, 15, 16, 18, 20, 24, 25, 27, 28] {
+                    weights[call] *= 2;
+                }
             }
+            Mostly::Queuing => self.weigh_channels(own, &mut weights),
         }
         weights
     }
 
+    /// Who is at an end of queuing channels mostly sends and receives, where
+    /// no other process is READY mostly at once, and restarts more often where
+    /// somebody waits there.
+    fn weigh_channels(&self, own: Id, weights: &mut Weights) {
+        let alone = self.module.partition(own).arrival.len() < 2;
+        weights[0] = 20;
+        for call in [2, 3, 4, 6, 8, 9].into_iter().chain(12..30) {
+            weights[call] = weights[call].div_ceil(4);
+        }
+        for (n, channel) in (1..).zip(&self.module.channels) {
+            let Some(queue) = channel.queue() else {
+                continue;
+            };
+            let room = !queue.full() || self.waiters(n).1 > 0;
+            if channel.source == own && (room || !alone) {
+                weights[30] = 60;
+            }
+            if channel.destination == own && !(alone && queue.messages.is_empty()) {
+                weights[31] = 50;
+            }
+        }
+        weights[1] += usize::from(self.channels_wait(own)) + 4 * self.awaiting(own);
+    }
+
+    /// On how many channels somebody waits to send to the partition.
+    fn awaiting(&self, own: Id) -> usize {
+        let channels = (1..).zip(&self.module.channels);
+        channels
+            .filter(|&(n, channel)| channel.destination == own && self.waiters(n).0 > 0)
+            .count()
+    }
+
+    /// True if a queuing channel of the partition is full, or somebody waits
+    /// at one of its ends.
+    fn channels_wait(&self, own: Id) -> bool {
+        (1..=self.module.channels.len()).any(|n| {
+            let channel = &self.module.channels[n - 1];
+            let full = channel.queue().is_some_and(MessageQueue::full);
+            (channel.source == own || channel.destination == own)
+                && (full || self.waiters(n) != (0, 0))
+        })
+    }
+
+    /// How many wait to send and to receive on a channel.
+    fn waiters(&self, n: Id) -> (usize, usize) {
+        let channel = &self.module.channels[n - 1];
+        let at = |end: Id| self.module.partition(end).ports[n - 1].len();
+        (at(channel.source), at(channel.destination))
+    }
+
     /// Where messages are passed more processes are started before NORMAL.
-    fn start_weights(&self) -> Weights {
+    fn start_weights(&self, own: Id) -> Weights {
         let mut weights = START_WEIGHTS;
-        if self.passing {
+        if self.mostly != Mostly::Anything {
             weights[2] *= 2;
             weights[3] *= 2;
+        }
+        if self.mostly == Mostly::Queuing {
+            let processes = &self.module.partition(own).processes;
+            let few = processes.iter().filter(|it| it.started).count() < 5;
+            weights[1] = if few { 1 } else { 25 };
+            weights[1] += 6 * self.awaiting(own);
+            weights[0] /= 4;
+            for weight in &mut weights[14..] {
+                *weight = weight.div_ceil(4);
+            }
         }
         weights
     }
@@ -278,7 +362,7 @@ impl Events {
         }
     }
 
-    /// The fields of calls 23 to 29.
+    /// The fields of calls 23 to 31.
     fn message_fields(&mut self, own: Id, call: i64) -> [i64; 4] {
         match call {
             23 => [self.name(own, 23), self.limit(), 0, 0],
@@ -297,20 +381,30 @@ impl Events {
                 0,
             ],
             28 => [self.blackboard_to_read(own), self.time_out(own), 0, 0],
-            _ => [self.blackboard(own, |it| it.message.is_some()), 0, 0, 0],
+            29 => [self.blackboard(own, |it| it.message.is_some()), 0, 0, 0],
+            30 => [
+                self.channel_to_send(own),
+                self.passed_message(),
+                self.long_time_out(own),
+                0,
+            ],
+            _ => [self.channel_to_receive(own), self.long_time_out(own), 0, 0],
         }
     }
 
     /// Mostly NORMAL once a process is started; restarts and IDLE are rare,
-    /// less so where a suspended process waits in a queue.
+    /// less so where a suspended process waits in a queue, or where a restart
+    /// tells on a queuing channel.
     fn mode(&mut self, own: Id) -> i64 {
         let partition = self.module.partition(own);
         let started = partition.processes.iter().any(|process| process.started);
-        let suspended = partition.processes.iter().any(suspended_waiter);
+        let waits = partition.processes.iter().any(suspended_waiter) || self.channels_wait(own);
         let weights = match partition.mode {
             // 0, 1, 2, 3, out of range
-            Mode::Normal if suspended => [1, 25, 35, 20, 19],
+            Mode::Normal if waits => [1, 25, 35, 20, 19],
             Mode::Normal => [1, 8, 10, 50, 31],
+            _ if self.awaiting(own) > 0 => [3, 20, 25, 40, 12],
+            _ if started && waits => [1, 5, 12, 72, 10],
             _ if started => [1, 2, 4, 83, 10],
             _ => [1, 5, 10, 14, 70],
         };
@@ -508,7 +602,7 @@ impl Events {
     /// being filled.
     fn buffer_to_send(&mut self, own: Id) -> i64 {
         let wanted = self.rng.pick(&[
-            Buffer::full as fn(&Buffer) -> bool,
+            (|it| it.queue.full()) as fn(&Buffer) -> bool,
             |it| !it.senders.is_empty(),
             |it| !it.receivers.is_empty(),
             is_being_filled,
@@ -520,7 +614,7 @@ impl Events {
     /// A buffer to receive from: often an empty one, or one with waiters.
     fn buffer_to_receive(&mut self, own: Id) -> i64 {
         let wanted = self.rng.pick(&[
-            |it: &Buffer| it.messages.is_empty(),
+            |it: &Buffer| it.queue.messages.is_empty(),
             |it: &Buffer| !it.senders.is_empty(),
             |it: &Buffer| !it.receivers.is_empty(),
         ]);
@@ -544,18 +638,73 @@ impl Events {
         self.blackboard(own, wanted)
     }
 
-    /// A channel to write to, mostly with the partition as its source.
+    /// A channel to write to, mostly a sampling one with the partition as its
+    /// source.
     fn source_channel(&mut self, own: Id) -> i64 {
         pick_id(&mut self.rng, &self.module.channels, |channel| {
-            channel.source == own
+            channel.source == own && channel.queue().is_none()
         })
+    }
+
+    /// A queuing channel to send to: often a full one, or one with waiters;
+    /// one with room where no other process is READY.
+    fn channel_to_send(&mut self, own: Id) -> i64 {
+        let choices: [WantedQueue; 4] = [
+            |queue, _| !queue.full(),
+            |queue, _| queue.full(),
+            |_, (senders, _)| senders > 0,
+            |_, (_, receivers)| receivers > 0,
+        ];
+        let wanted = choices[self.first_if_alone(own, choices.len())];
+        self.queuing_channel(|channel| channel.source == own, wanted)
+    }
+
+    /// A queuing channel to receive from: often an empty one, or one with
+    /// waiters; one with messages where no other process is READY.
+    fn channel_to_receive(&mut self, own: Id) -> i64 {
+        let choices: [WantedQueue; 4] = [
+            |queue, _| !queue.messages.is_empty(),
+            |queue, _| queue.messages.is_empty(),
+            |_, (senders, _)| senders > 0,
+            |_, (_, receivers)| receivers > 0,
+        ];
+        let wanted = choices[self.first_if_alone(own, choices.len())];
+        self.queuing_channel(|channel| channel.destination == own, wanted)
+    }
+
+    /// The first of some choices where no other process is READY, else any.
+    fn first_if_alone(&mut self, own: Id, choices: usize) -> usize {
+        let alone = self.module.partition(own).arrival.len() < 2;
+        match alone && self.rng.percent(90) {
+            true => 0,
+            false => self.rng.below(choices),
+        }
+    }
+
+    /// A queuing channel of the partition, with such messages and so many
+    /// waiters of each end if there is one.
+    fn queuing_channel(&mut self, own: impl Fn(&Channel) -> bool, wanted: WantedQueue) -> i64 {
+        let queue = |channel: &'_ Channel| channel.queue().is_some() && own(channel);
+        let channels = &self.module.channels;
+        let mut fit: Vec<bool> = channels.iter().map(&queue).collect();
+        let best = |n: Id| {
+            let held = channels[n - 1].queue();
+            fit[n - 1] && held.is_some_and(|held| wanted(held, self.waiters(n)))
+        };
+        let best: Vec<bool> = (1..=fit.len()).map(best).collect();
+        if best.contains(&true) {
+            fit = best;
+        }
+        pick_id(&mut self.rng, &fit, |&fits| fits)
     }
 
     /// A channel to read from, one about to grow old first.
     fn destination_channel(&mut self, own: Id) -> i64 {
         let (t, near) = (self.module.t, self.near_refresh(own));
         pick_id(&mut self.rng, &self.module.channels, |channel| {
-            channel.destination == own && (!near || about_to_age(channel, t))
+            channel.destination == own
+                && channel.queue().is_none()
+                && (!near || about_to_age(channel, t))
         })
     }
 
@@ -574,6 +723,16 @@ impl Events {
             0 => self.rng.pick(&[-1, MOST_TIME + 1, FAR]),
             1 => self.rng.pick(&[0, MOST_TIME]),
             _ => self.rng.range(0, 1000),
+        }
+    }
+
+    /// A time-out that lasts into other partitions' windows more often.
+    fn long_time_out(&mut self, own: Id) -> i64 {
+        let alone = self.module.partition(own).arrival.len() < 2;
+        match self.rng.below(10) {
+            0..=4 if !alone => self.rng.range(1, 3 * self.module.frame),
+            5..=7 if !alone => -1,
+            _ => self.time_out(own),
         }
     }
 
@@ -609,13 +768,15 @@ fn pick_id<T>(rng: &mut Rng, items: &[T], wanted: impl Fn(&T) -> bool) -> i64 {
 }
 
 fn about_to_age(channel: &Channel, t: i64) -> bool {
-    let age = channel.message.map_or(-1, |message| t - message.written);
+    let age = channel.message().map_or(-1, |message| t - message.written);
     age == channel.refresh || age == channel.refresh + 1
 }
 
 /// True of a buffer of the greatest limit that holds some messages.
 fn is_being_filled(buffer: &Buffer) -> bool {
-    buffer.limit as i64 == *LIMITS.end() && buffer.messages.len() > 3 && !buffer.full()
+    buffer.queue.limit as i64 == *LIMITS.end()
+        && buffer.queue.messages.len() > 3
+        && !buffer.queue.full()
 }
 
 fn may_suspend(process: &Process) -> bool {

@@ -5,7 +5,7 @@ use crate::events::Events;
 use crate::line;
 use crate::rng::Rng;
 use crate::tables::{self, NUMBER_DAMAGES};
-use crate::timing::{print_busy, print_passing, print_ticks};
+use crate::timing::{print_busy, print_passing, print_queuing, print_ticks};
 use std::io::{self, Write};
 
 #[derive(Clone, Copy, Debug, PartialEq, Eq)]
@@ -14,6 +14,7 @@ pub enum Kind {
     Events,
     Busy,
     Passing,
+    Queuing,
     Ticks,
     Damaged,
 }
@@ -25,6 +26,7 @@ impl Kind {
             "events" => Some(Kind::Events),
             "busy" => Some(Kind::Busy),
             "passing" => Some(Kind::Passing),
+            "queuing" => Some(Kind::Queuing),
             "ticks" => Some(Kind::Ticks),
             "damaged" => Some(Kind::Damaged),
             _ => None,
@@ -39,6 +41,7 @@ pub fn generate(seed: u64, kind: Kind, count: u64, out: &mut impl Write) -> io::
         Kind::Events => print_events(seed, count, out),
         Kind::Busy => print_busy(seed, count, out),
         Kind::Passing => print_passing(seed, count, out),
+        Kind::Queuing => print_queuing(seed, count, out),
         Kind::Ticks => print_ticks(seed, count, out),
         Kind::Damaged => print_damaged(seed, count, out),
     }

@@ -1,5 +1,5 @@
-//! The module record ("Module record" of document 01; buffers and blackboards
-//! of document 02, a).
+//! The module record ("Module record" of document 01; buffers, blackboards and
+//! queuing channels of document 02, a and b).
 
 use std::collections::VecDeque;
 
@@ -54,15 +54,23 @@ pub enum Wait {
     Period,
     Semaphore(Id),
     Event(Id),
-    /// For room in a buffer; the message is kept with the wait.
+    /// For room in a message queue; the message is kept with the wait.
     Sending {
-        buffer: Id,
+        to: QueueId,
         message: i64,
     },
-    /// For a message of a buffer.
-    Receiving(Id),
+    /// For a message of a message queue.
+    Receiving(QueueId),
     /// For a message on a blackboard.
     Blackboard(Id),
+}
+
+/// A message queue, as one of its ends names it: a buffer of the partition or
+/// a queuing channel.
+#[derive(Clone, Copy, Debug, PartialEq, Eq)]
+pub enum QueueId {
+    Buffer(Id),
+    Channel(Id),
 }
 
 impl Wait {
@@ -155,22 +163,35 @@ pub struct EventFlag {
     pub queue: VecDeque<Id>,
 }
 
-/// A buffer: its messages, first in first out, and the ids that wait to send
-/// while it is full or to receive while it is empty.
+/// The messages of a buffer or of a queuing channel, first in first out.
 #[derive(Clone, Debug, PartialEq, Eq)]
-pub struct Buffer {
-    pub name: i64,
+pub struct MessageQueue {
     /// The most messages that it holds.
     pub limit: usize,
     pub messages: VecDeque<i64>,
-    pub senders: VecDeque<Id>,
-    pub receivers: VecDeque<Id>,
 }
 
-impl Buffer {
+impl MessageQueue {
+    pub fn empty(limit: usize) -> MessageQueue {
+        MessageQueue {
+            limit,
+            messages: VecDeque::with_capacity(limit),
+        }
+    }
+
     pub fn full(&self) -> bool {
         self.messages.len() == self.limit
     }
+}
+
+/// A buffer: its messages, and the ids that wait to send while it is full or
+/// to receive while it is empty.
+#[derive(Clone, Debug, PartialEq, Eq)]
+pub struct Buffer {
+    pub name: i64,
+    pub queue: MessageQueue,
+    pub senders: VecDeque<Id>,
+    pub receivers: VecDeque<Id>,
 }
 
 /// A blackboard: the message that it shows, and the ids that wait for one.
@@ -189,13 +210,16 @@ pub struct Partition {
     pub events: Vec<EventFlag>,
     pub buffers: Vec<Buffer>,
     pub blackboards: Vec<Blackboard>,
+    /// For each channel, the ids that wait at its end in this partition: to
+    /// send at its source, to receive at its destination.
+    pub ports: Vec<VecDeque<Id>>,
     /// The READY processes in order of arrival.
     pub arrival: VecDeque<Id>,
 }
 
 impl Partition {
     /// Fresh: COLD_START with nothing created.
-    pub fn fresh() -> Partition {
+    pub fn fresh(channels: usize) -> Partition {
         Partition {
             mode: Mode::ColdStart,
             processes: Vec::with_capacity(PROCESSES),
@@ -203,6 +227,7 @@ impl Partition {
             events: Vec::with_capacity(EVENTS),
             buffers: Vec::with_capacity(BUFFERS),
             blackboards: Vec::with_capacity(BLACKBOARDS),
+            ports: vec![VecDeque::new(); channels],
             arrival: VecDeque::with_capacity(PROCESSES),
         }
     }
@@ -259,9 +284,25 @@ impl Partition {
             Wait::None | Wait::Normal | Wait::Delay | Wait::Timed | Wait::Period => None,
             Wait::Semaphore(of) => Some(&mut self.semaphores[of - 1].queue),
             Wait::Event(of) => Some(&mut self.events[of - 1].queue),
-            Wait::Sending { buffer, .. } => Some(&mut self.buffers[buffer - 1].senders),
-            Wait::Receiving(of) => Some(&mut self.buffers[of - 1].receivers),
+            Wait::Sending { to, .. } => Some(self.senders(to)),
+            Wait::Receiving(from) => Some(self.receivers(from)),
             Wait::Blackboard(of) => Some(&mut self.blackboards[of - 1].queue),
+        }
+    }
+
+    /// The ids that wait to send to a message queue.
+    pub fn senders(&mut self, to: QueueId) -> &mut VecDeque<Id> {
+        match to {
+            QueueId::Buffer(of) => &mut self.buffers[of - 1].senders,
+            QueueId::Channel(of) => &mut self.ports[of - 1],
+        }
+    }
+
+    /// The ids that wait to receive from a message queue.
+    pub fn receivers(&mut self, from: QueueId) -> &mut VecDeque<Id> {
+        match from {
+            QueueId::Buffer(of) => &mut self.buffers[of - 1].receivers,
+            QueueId::Channel(of) => &mut self.ports[of - 1],
         }
     }
 
@@ -314,13 +355,15 @@ impl Partition {
         running
     }
 
-    /// Erases what modes 0, 1 and 2 erase inside the partition.
+    /// Erases what modes 0, 1 and 2 erase inside the partition, those who wait
+    /// at its ends of channels too.
     pub fn erase(&mut self) {
         self.processes.clear();
         self.semaphores.clear();
         self.events.clear();
         self.buffers.clear();
         self.blackboards.clear();
+        self.ports.iter_mut().for_each(VecDeque::clear);
         self.arrival.clear();
     }
 }
@@ -348,12 +391,38 @@ pub struct Message {
     pub written: i64,
 }
 
+/// What a channel of each kind keeps.
+#[derive(Clone, Debug, PartialEq, Eq)]
+pub enum Kind {
+    /// The latest message.
+    Sampling(Option<Message>),
+    Queuing(MessageQueue),
+}
+
 #[derive(Clone, Debug, PartialEq, Eq)]
 pub struct Channel {
     pub source: Id,
     pub destination: Id,
     pub refresh: i64,
-    pub message: Option<Message>,
+    pub kind: Kind,
+}
+
+impl Channel {
+    /// The message of a sampling channel, if there is one.
+    pub fn message(&self) -> Option<Message> {
+        match self.kind {
+            Kind::Sampling(message) => message,
+            Kind::Queuing(_) => None,
+        }
+    }
+
+    /// The messages of a queuing channel.
+    pub fn queue(&self) -> Option<&MessageQueue> {
+        match &self.kind {
+            Kind::Sampling(_) => None,
+            Kind::Queuing(queue) => Some(queue),
+        }
+    }
 }
 
 /// The whole module. Its fields are open to look at, but only table reading
@@ -390,12 +459,13 @@ impl Module {
         windows: Vec<Window>,
         channels: Vec<Channel>,
     ) -> Module {
+        let fresh = |_| Partition::fresh(channels.len());
         let mut module = Module {
             t: 0,
             frame,
             windows,
+            partitions: (0..partitions).map(fresh).collect(),
             channels,
-            partitions: (0..partitions).map(|_| Partition::fresh()).collect(),
             current: 0,
         };
         module.current = module.owner(0);

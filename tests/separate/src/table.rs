@@ -1,13 +1,16 @@
 //! Table reading ("Tables and lines").
 
 use crate::line::{Line, Six};
-use crate::record::{Channel, Id, Module, Window};
+use crate::record::{Channel, Id, Kind, MessageQueue, Module, Window};
+use std::ops::RangeInclusive;
 
 pub const MOST_FRAME: i64 = 10_000;
 pub const MOST_PARTITIONS: i64 = 8;
 pub const MOST_WINDOWS: i64 = 32;
 pub const MOST_CHANNELS: i64 = 16;
 pub const MOST_REFRESH: i64 = 9_999_999;
+/// How many messages a queuing channel may hold.
+pub const SIZES: RangeInclusive<i64> = 1..=8;
 
 /// Why a table was refused: 11 or 12, with the line number (0 for the final
 /// check).
@@ -127,25 +130,29 @@ fn read_windows<F: FnMut() -> Option<Line>>(
     Ok(windows)
 }
 
-/// Channel: source, other destination (both 1..P), refresh 1..9,999,999,
-/// three 0.
+/// Channel: source, other destination (both 1..P), refresh 1..9,999,999, kind
+/// 0 (sampling) or 1 (queuing), how many messages (1..8, 0 for sampling), 0.
 fn read_channels<F: FnMut() -> Option<Line>>(
     lines: &mut Counted<F>,
     head: &Head,
 ) -> Result<Vec<Channel>, Refusal> {
     let mut channels = Vec::with_capacity(head.channels as usize);
     for _ in 0..head.channels {
-        let [source, destination, refresh, zeros @ ..] = lines.six()?;
+        let [source, destination, refresh, kind, size, zero] = lines.six()?;
         lines.rule((1..=head.partitions).contains(&source))?;
         lines.rule((1..=head.partitions).contains(&destination))?;
         lines.rule(destination != source)?;
         lines.rule((1..=MOST_REFRESH).contains(&refresh))?;
-        lines.rule(zeros == [0, 0, 0])?;
+        lines.rule(kind == 0 && size == 0 || kind == 1 && SIZES.contains(&size))?;
+        lines.rule(zero == 0)?;
         channels.push(Channel {
             source: source as Id,
             destination: destination as Id,
             refresh,
-            message: None,
+            kind: match kind {
+                0 => Kind::Sampling(None),
+                _ => Kind::Queuing(MessageQueue::empty(size as usize)),
+            },
         });
     }
     Ok(channels)

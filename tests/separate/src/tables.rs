@@ -4,11 +4,11 @@
 use crate::line::{self, Line, Six};
 use crate::record::Module;
 use crate::rng::Rng;
-use crate::table::{self, MOST_CHANNELS, MOST_FRAME, MOST_REFRESH, MOST_WINDOWS};
+use crate::table::{self, MOST_CHANNELS, MOST_FRAME, MOST_REFRESH, MOST_WINDOWS, SIZES};
 
 /// The numbers of an accepted table, line by line.
 pub fn accepted(rng: &mut Rng) -> Vec<Six> {
-    let partitions = rng.pick(&[1, 1, 2, 2, 2, 2, 3, 3, 3, 4, 4, 5, 6, 7, 8]);
+    let partitions = rng.pick(&[1, 1, 2, 2, 2, 2, 3, 3, 3, 3, 4, 4, 5, 6, 7, 8]);
     let most_more = MOST_WINDOWS - partitions;
     let more = match rng.below(8) {
         0..=3 => rng.range(0, 2),
@@ -23,7 +23,7 @@ pub fn accepted(rng: &mut Rng) -> Vec<Six> {
     };
     let mut lines = vec![[frame, partitions, windows, channels, 0, 0]];
     lines.extend(window_lines(rng, frame, partitions, windows));
-    lines.extend((0..channels).map(|_| channel_line(rng, frame, partitions)));
+    lines.extend(channel_lines(rng, frame, partitions, channels));
     lines
 }
 
@@ -89,12 +89,52 @@ fn spread(rng: &mut Rng, frame: i64, windows: i64) -> Vec<(i64, i64)> {
     places
 }
 
-fn channel_line(rng: &mut Rng, frame: i64, partitions: i64) -> Six {
-    let source = rng.range(1, partitions);
-    let destination = (source + rng.range(0, partitions - 2)) % partitions + 1;
-    let near = rng.range(1, 2 * frame);
-    let refresh = rng.pick(&[1, 2, 3, 5, 8, near, near, MOST_REFRESH]);
-    [source, destination, refresh, 0, 0, 0]
+/// Channels of both kinds for the most part, else of one.
+fn channel_lines(rng: &mut Rng, frame: i64, partitions: i64, channels: i64) -> Vec<Six> {
+    let queuing = rng.pick(&[0, 20, 50, 80, 100, 100]);
+    let ends = ends(rng, partitions, channels);
+    ends.iter()
+        .map(|&(source, destination)| {
+            let near = rng.range(1, 2 * frame);
+            let refresh = rng.pick(&[1, 2, 3, 5, 8, near, near, MOST_REFRESH]);
+            let size = rng.pick(&[1, 1, 1, 2, 2, 3, 4, *SIZES.end()]);
+            if rng.percent(queuing) {
+                [source, destination, refresh, 1, size, 0]
+            } else {
+                [source, destination, refresh, 0, 0, 0]
+            }
+        })
+        .collect()
+}
+
+/// Sources and destinations: a ring, a star out of one partition or into one,
+/// all between the same two, or any.
+fn ends(rng: &mut Rng, partitions: i64, channels: i64) -> Vec<(i64, i64)> {
+    let shape = rng.below(10);
+    let one = rng.range(1, partitions);
+    let another = other(rng, partitions, one);
+    (0..channels)
+        .map(|n| match shape {
+            0..=1 => (n % partitions + 1, (n + 1) % partitions + 1),
+            2 => (one, other(rng, partitions, one)),
+            3..=4 => (other(rng, partitions, one), one),
+            5 => (one, another),
+            6 if rng.percent(50) => (one, another),
+            6 => (another, one),
+            _ => {
+                let source = rng.range(1, partitions);
+                (source, other(rng, partitions, source))
+            }
+        })
+        .collect()
+}
+
+/// Any partition but this one; this one where there is no other.
+fn other(rng: &mut Rng, partitions: i64, than: i64) -> i64 {
+    match partitions {
+        1 => than,
+        _ => (than + rng.range(0, partitions - 2)) % partitions + 1,
+    }
 }
 
 /// The text of a table.
@@ -113,7 +153,7 @@ pub fn module(lines: &[Six]) -> Result<Module, table::Refusal> {
 pub type NumberDamage = fn(&mut Rng, &mut [Six]) -> bool;
 
 /// Every reason for 12 with a line number, and the final check.
-pub const NUMBER_DAMAGES: [(&str, NumberDamage); 23] = [
+pub const NUMBER_DAMAGES: [(&str, NumberDamage); 27] = [
     ("line 1: M below 1", |rng, table| {
         set(table, 0, 0, rng.pick(&[0, -1]))
     }),
@@ -193,9 +233,25 @@ pub const NUMBER_DAMAGES: [(&str, NumberDamage); 23] = [
         let value = rng.pick(&[10_000_000, 999_999_999]);
         set_channel(rng, table, 2, value)
     }),
-    ("channel: a last field not 0", |rng, table| {
-        let (field, value) = (3 + rng.below(3), rng.pick(&[1, -1, 999_999_999]));
-        set_channel(rng, table, field, value)
+    ("channel: kind not 0 or 1", |rng, table| {
+        let value = rng.pick(&[2, -1, 999_999_999]);
+        set_channel(rng, table, 3, value)
+    }),
+    ("channel: sampling with a size", |rng, table| {
+        let value = rng.pick(&[1, 8, -1, 999_999_999]);
+        set_channel_of(rng, table, 0, 4, value)
+    }),
+    ("channel: queuing with a size below 1", |rng, table| {
+        let value = rng.pick(&[0, -1]);
+        set_channel_of(rng, table, 1, 4, value)
+    }),
+    ("channel: queuing with a size above 8", |rng, table| {
+        let value = rng.pick(&[9, 10, 999_999_999]);
+        set_channel_of(rng, table, 1, 4, value)
+    }),
+    ("channel: the last field not 0", |rng, table| {
+        let value = rng.pick(&[1, -1, 999_999_999]);
+        set_channel(rng, table, 5, value)
     }),
     ("final check: a partition without flag", take_flags),
 ];
@@ -208,6 +264,15 @@ fn set(table: &mut [Six], line: usize, field: usize, value: i64) -> bool {
 
 fn set_channel(rng: &mut Rng, table: &mut [Six], field: usize, value: i64) -> bool {
     any_channel(rng, table).is_some_and(|at| set(table, at, field, value))
+}
+
+/// Makes a channel one of the kind, of size 1 if it becomes queuing, and sets
+/// a number of it.
+fn set_channel_of(rng: &mut Rng, table: &mut [Six], kind: i64, field: usize, value: i64) -> bool {
+    any_channel(rng, table).is_some_and(|at| {
+        table[at][3..5].copy_from_slice(&[kind, kind]);
+        set(table, at, field, value)
+    })
 }
 
 fn any_window(rng: &mut Rng, table: &[Six]) -> usize {

@@ -1,10 +1,11 @@
-//! Inputs for timing: busy lines, passed messages and ticks.
+//! Inputs for timing: busy lines, messages within and between partitions, and
+//! ticks.
 
 use crate::calls::MOST_TIME;
 use crate::generate::print_table;
 use crate::line;
 use crate::machine::{Answer, Event};
-use crate::record::{Id, Module, Partition};
+use crate::record::{Channel, Id, MessageQueue, Module, Partition};
 use crate::rng::Rng;
 use crate::tables;
 use std::io::{self, Write};
@@ -68,17 +69,19 @@ fn set_up<'a, W: Write>(numbers: &[line::Six], out: &'a mut W) -> io::Result<Set
     })
 }
 
-/// Every partition gets what `begin` makes and enters NORMAL, then the lines.
+/// In a table every partition gets what `begin` makes and enters NORMAL, then
+/// the lines.
 fn print_lines<W: Write>(
-    (seed, count, partitions): (u64, u64, Id),
+    (seed, count): (u64, u64),
     out: &mut W,
+    table: fn(&mut Rng) -> Vec<line::Six>,
     begin: fn(&mut SetUp<W>, &mut Rng, Id) -> io::Result<()>,
     event: fn(&mut Rng, &Module) -> Event,
 ) -> io::Result<()> {
     let mut rng = Rng::new(seed);
-    let numbers = full_table(&mut rng, partitions as i64);
+    let numbers = table(&mut rng);
     let mut set_up = set_up(&numbers, out)?;
-    for own in 1..=partitions {
+    for own in 1..=set_up.module.partitions().len() {
         set_up.reach(own)?;
         begin(&mut set_up, &mut rng, own)?;
         set_up.call(own, 1, [3, 0, 0, 0])?;
@@ -93,7 +96,8 @@ fn print_lines<W: Write>(
 /// Many processes in several partitions, then busy lines. Process 1 of each
 /// partition never waits, so that its partition always has a caller.
 pub(crate) fn print_busy(seed: u64, count: u64, out: &mut impl Write) -> io::Result<()> {
-    print_lines((seed, count, 4), out, begin_busy, busy_event)
+    let table = |rng: &mut Rng| full_table(rng, 4);
+    print_lines((seed, count), out, table, begin_busy, busy_event)
 }
 
 fn begin_busy<W: Write>(set_up: &mut SetUp<W>, rng: &mut Rng, own: Id) -> io::Result<()> {
@@ -188,7 +192,8 @@ fn busy_fields(rng: &mut Rng, module: &Module, partition: &Partition, call: i64)
 /// As the busy lines, but most calls pass messages, over four buffers and two
 /// blackboards of each partition.
 pub(crate) fn print_passing(seed: u64, count: u64, out: &mut impl Write) -> io::Result<()> {
-    print_lines((seed, count, 4), out, begin_passing, passing_event)
+    let table = |rng: &mut Rng| full_table(rng, 4);
+    print_lines((seed, count), out, table, begin_passing, passing_event)
 }
 
 fn begin_passing<W: Write>(set_up: &mut SetUp<W>, rng: &mut Rng, own: Id) -> io::Result<()> {
@@ -210,7 +215,7 @@ fn passing_event(rng: &mut Rng, module: &Module) -> Event {
 fn passing_call(rng: &mut Rng, module: &Module, caller: Id) -> (i64, [i64; 4]) {
     let partition = module.partition(module.current());
     let id = rng.range(1, 4);
-    let held = !partition.buffers[id as usize - 1].messages.is_empty();
+    let held = !partition.buffers[id as usize - 1].queue.messages.is_empty();
     let call = match rng.below(16) {
         // Process 1 never waits: it takes what is held and sends where
         // nothing is.
@@ -242,9 +247,80 @@ fn passing_fields(rng: &mut Rng, buffer: i64, call: i64) -> [i64; 4] {
     }
 }
 
+/// As the busy lines, but most calls send and receive over queuing channels,
+/// two out of each partition and two into it.
+pub(crate) fn print_queuing(seed: u64, count: u64, out: &mut impl Write) -> io::Result<()> {
+    let begin = start_processes;
+    print_lines((seed, count), out, queuing_table, begin, queuing_event)
+}
+
+/// Where all but process 1 wait, other partitions come sooner.
+fn queuing_event(rng: &mut Rng, module: &Module) -> Event {
+    let ticks = match module.running() {
+        1 => 60,
+        _ => 5,
+    };
+    tick_or_call(rng, module, ticks, queuing_call)
+}
+
+/// Two rings of queuing channels: to the next partition, and to the one after
+/// it.
+fn queuing_table(rng: &mut Rng) -> Vec<line::Six> {
+    let partitions = 4;
+    let mut table = full_table(rng, partitions);
+    table.truncate(table.len() - partitions as usize);
+    table[0][3] = 2 * partitions;
+    for ahead in [0, 1] {
+        for source in 1..=partitions {
+            let destination = (source + ahead) % partitions + 1;
+            let size = rng.pick(&[1, 2, 4, 8]);
+            table.push([source, destination, 1, 1, size, 0]);
+        }
+    }
+    table
+}
+
+/// A call that mostly sends or receives and gets 0 or 7. Process 1 never
+/// waits: it sends where there is room and takes what is held.
+fn queuing_call(rng: &mut Rng, module: &Module, caller: Id) -> (i64, [i64; 4]) {
+    let own = module.current();
+    let may_wait = caller != 1;
+    let to = any_channel(rng, module, |channel, queue| {
+        channel.source == own && (may_wait || !queue.full())
+    });
+    let from = any_channel(rng, module, |channel, queue| {
+        channel.destination == own && (may_wait || !queue.messages.is_empty())
+    });
+    let (message, time_out) = (rng.range(0, MOST_TIME), rng.pick(&[-1, 10, 40]));
+    let send = to.map(|n| (30, [n, message, time_out, 0]));
+    let receive = from.map(|n| (31, [n, time_out, 0, 0]));
+    let periodic = module.partition(own).process(caller).periodic();
+    let call = match rng.below(16) {
+        0..=6 => send.or(receive),
+        7..=14 => receive.or(send),
+        _ if periodic => Some((10, [0; 4])),
+        _ => None,
+    };
+    call.unwrap_or((13, [rng.range(1, 16), 0, 0, 0]))
+}
+
+/// The number of a queuing channel of this sort, if there is one.
+fn any_channel(
+    rng: &mut Rng,
+    module: &Module,
+    wanted: impl Fn(&Channel, &MessageQueue) -> bool,
+) -> Option<i64> {
+    let fits = |it: &&Channel| it.queue().is_some_and(|queue| wanted(it, queue));
+    let channels = module.channels().iter();
+    let numbers = (1..).zip(channels).filter(|(_, channel)| fits(channel));
+    let numbers: Vec<i64> = numbers.map(|(n, _)| n).collect();
+    (!numbers.is_empty()).then(|| rng.pick(&numbers))
+}
+
 /// Every partition in NORMAL with processes that wait long, then ticks.
 pub(crate) fn print_ticks(seed: u64, count: u64, out: &mut impl Write) -> io::Result<()> {
-    print_lines((seed, count, 8), out, begin_waiting, |_, _| Event::TICK)
+    let table = |rng: &mut Rng| full_table(rng, 8);
+    print_lines((seed, count), out, table, begin_waiting, |_, _| Event::TICK)
 }
 
 fn begin_waiting<W: Write>(set_up: &mut SetUp<W>, rng: &mut Rng, own: Id) -> io::Result<()> {

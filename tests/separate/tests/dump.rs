@@ -171,6 +171,75 @@ waiters blackboard 2
     assert_eq!(dump::text(&world.module), expected);
 }
 
+/// Two partitions with queuing channels there and back, with held messages and
+/// waiters of both ends.
+fn queuing() -> World {
+    let table = [
+        [10, 2, 2, 4, 0, 0],
+        [0, 5, 1, 1, 0, 0],
+        [5, 5, 2, 1, 0, 0],
+        [1, 2, 9, 1, 2, 0],
+        [2, 1, 9, 1, 8, 0],
+        [1, 2, 9, 0, 0, 0],
+        [1, 2, 9, 1, 1, 0],
+    ];
+    let mut world = World::new(&table);
+    for priority in [1, 9, 8, 7] {
+        world.started(priority);
+    }
+    world.normal();
+    for message in [0, 9_999_999] {
+        world.done(30, &[1, message, 0]);
+    }
+    world.waits(30, &[1, 55, 7]);
+    world.waits(31, &[2, -1]);
+    world.waits(30, &[1, 44, -1]);
+    world.ticks(5);
+    for event in [
+        [2, 2, 1, 5, -1, -1],
+        [2, 3, 1, 0, 0, 0],
+        [2, 1, 3, 0, 0, 0],
+        [2, 31, 4, 6, 0, 0],
+    ] {
+        world.event(event);
+    }
+    world
+}
+
+#[test]
+fn queuing_channels_with_their_messages_and_the_waiters_of_both_ends() {
+    let expected = "\
+module t 5 current 2 running 0 frame 10 partitions 2 windows 2 channels 4
+window 1 start 0 duration 5 partition 1 flag 1
+window 2 start 5 duration 5 partition 2 flag 1
+channel 1 source 1 destination 2 refresh 9 limit 2 messages 0 9999999
+channel 2 source 2 destination 1 refresh 9 limit 8 messages
+channel 3 source 1 destination 2 refresh 9 message -1 written -1
+channel 4 source 1 destination 2 refresh 9 limit 1 messages
+partition 1 mode 3 processes 4 semaphores 0 events 0 buffers 0 blackboards 0
+process 1 name 1 base 1 current 1 period -1 capacity -1 release -1 deadline -1 wake -1 delay 0 \
+suspended 0 missed 0 code 0 message 0 started 1 wait none
+process 2 name 2 base 9 current 9 period -1 capacity -1 release -1 deadline -1 wake 7 delay 0 \
+suspended 0 missed 0 code 0 message 0 started 1 wait sending channel 1 55
+process 3 name 3 base 8 current 8 period -1 capacity -1 release -1 deadline -1 wake -1 delay 0 \
+suspended 0 missed 0 code 0 message 0 started 1 wait receiving channel 2
+process 4 name 4 base 7 current 7 period -1 capacity -1 release -1 deadline -1 wake -1 delay 0 \
+suspended 0 missed 0 code 0 message 0 started 1 wait sending channel 1 44
+arrival 1
+waiters sending channel 1 2 4
+waiters sending channel 4
+waiters receiving channel 2 3
+partition 2 mode 3 processes 1 semaphores 0 events 0 buffers 0 blackboards 0
+process 1 name 1 base 5 current 5 period -1 capacity -1 release -1 deadline -1 wake 11 delay 0 \
+suspended 0 missed 0 code 0 message 0 started 1 wait receiving channel 4
+arrival
+waiters sending channel 2
+waiters receiving channel 1
+waiters receiving channel 4 1
+";
+    assert_eq!(dump::text(&queuing().module), expected);
+}
+
 #[test]
 fn waiting_for_normal_and_two_in_the_arrival_list() {
     let mut world = World::one();

@@ -1,6 +1,6 @@
 //! The generator reaches what it is there to reach.
 
-use separate::coverage::{Coverage, CHANGES, CORNERS, REASONS, TABLES, WAITS};
+use separate::coverage::{Coverage, CHANGES, CORNERS, REASONS, SHAPES, TABLES, WAITS};
 use separate::generate::{generate, Kind};
 use separate::line::{self, Line};
 use separate::replay::{final_record, read_table, replay, Lines};
@@ -43,6 +43,7 @@ fn every_pair_of_call_and_code_but_10_is_reached_within_200_seeds() {
     };
     assert_eq!(unreached(&REASONS, &coverage.reasons), Vec::<&str>::new());
     assert_eq!(unreached(&CORNERS, &coverage.corners), Vec::<&str>::new());
+    assert_eq!(unreached(&SHAPES, &coverage.shapes), Vec::<&str>::new());
     assert_eq!(unreached(&TABLES, &coverage.tables), Vec::<&str>::new());
 }
 
@@ -51,13 +52,14 @@ fn every_wait_begins_and_ends_in_every_way_it_can() {
     let coverage = Coverage::of_seeds(1, 200, 1000);
     assert_eq!(coverage.missing_waits(), []);
     assert_eq!(coverage.unforeseen_waits(), []);
-    // began, suspended, resumed; by signal, by time, by stop, by NORMAL,
-    // erased; the same five while suspended
-    let for_normal = [1, 1, 1, 0, 0, 1, 1, 1, 0, 0, 1, 1, 1];
-    let for_a_time = [1, 1, 1, 0, 1, 1, 0, 1, 0, 1, 1, 0, 1];
-    let for_release = [1, 0, 0, 0, 1, 1, 0, 1, 0, 0, 0, 0, 0];
-    let in_a_queue = [1, 1, 1, 1, 1, 1, 0, 1, 1, 1, 1, 0, 1];
-    let mark_alone = [1, 0, 1, 0, 1, 1, 0, 1, 0, 0, 0, 0, 0];
+    // began, suspended, resumed; by signal, by time, by stop, by NORMAL, by
+    // restart, erased; the same six while suspended
+    let for_normal = [1, 1, 1, 0, 0, 1, 1, 0, 1, 0, 0, 1, 1, 0, 1];
+    let for_a_time = [1, 1, 1, 0, 1, 1, 0, 0, 1, 0, 1, 1, 0, 0, 1];
+    let for_release = [1, 0, 0, 0, 1, 1, 0, 0, 1, 0, 0, 0, 0, 0, 0];
+    let in_a_queue = [1, 1, 1, 1, 1, 1, 0, 0, 1, 1, 1, 1, 0, 0, 1];
+    let to_a_channel = [1, 1, 1, 1, 1, 1, 0, 1, 1, 1, 1, 1, 0, 1, 1];
+    let mark_alone = [1, 0, 1, 0, 1, 1, 0, 0, 1, 0, 0, 0, 0, 0, 0];
     let possible = [
         for_normal,
         for_a_time,
@@ -67,6 +69,8 @@ fn every_wait_begins_and_ends_in_every_way_it_can() {
         in_a_queue,
         in_a_queue,
         in_a_queue,
+        in_a_queue,
+        to_a_channel,
         in_a_queue,
         mark_alone,
     ];
@@ -79,12 +83,15 @@ fn every_wait_begins_and_ends_in_every_way_it_can() {
 fn a_run_of_nothing_names_every_wait_as_missing() {
     let missing = Coverage::new().missing_waits();
     // All but by signal where there is no queue, by time for NORMAL, by
-    // NORMAL for others, and the mark of those that cannot be suspended.
-    assert_eq!(missing.len(), 91);
+    // NORMAL for others, by restart for all but senders to a channel, and the
+    // mark of those that cannot be suspended.
+    assert_eq!(missing.len(), 91 + 13 + 11);
     assert!(missing.contains(&("sending", "by stop, suspended")));
     assert!(missing.contains(&("blackboard", "erased, suspended")));
+    assert!(missing.contains(&("sending channel", "by restart, suspended")));
     assert!(!missing.contains(&("period", "by time, suspended")));
-    assert_eq!(CHANGES.len() * WAITS.len(), 130);
+    assert!(!missing.contains(&("receiving channel", "by restart")));
+    assert_eq!(CHANGES.len() * WAITS.len(), 180);
 }
 
 #[test]
@@ -94,6 +101,7 @@ fn one_seed_gives_one_input() {
         Kind::Events,
         Kind::Busy,
         Kind::Passing,
+        Kind::Queuing,
         Kind::Ticks,
         Kind::Damaged,
     ] {
@@ -137,19 +145,29 @@ fn the_inputs_for_timing_stay_the_same_from_version_to_version() {
     assert_eq!(sum(&input(2, Kind::Ticks, 20_000)), 0x4EE9_173D_D80D_2EAE);
 }
 
-#[test]
-fn passing_lines_are_accepted_and_mostly_pass_messages() {
-    let bytes = input(3, Kind::Passing, 20_000);
+/// Every line is accepted, most are of these calls, and many wait.
+fn assert_mostly(kind: Kind, calls: &[i64]) {
+    let bytes = input(3, kind, 20_000);
     let codes = codes(&bytes);
     assert!(codes.iter().all(|code| [0, 7].contains(code)));
-    let passing = bytes
+    let of_these = bytes
         .chunks_exact(61)
         .filter(|bytes| match line::read(bytes) {
-            Line::Six(six) => [24, 25, 27, 28].contains(&six[1]),
+            Line::Six(six) => calls.contains(&six[1]),
             Line::Bad => panic!("a line that is no line"),
         });
-    assert!(passing.count() * 10 > codes.len() * 7);
+    assert!(of_these.count() * 10 > codes.len() * 7);
     assert!(codes.iter().filter(|&&code| code == 7).count() > 2_000);
+}
+
+#[test]
+fn passing_lines_are_accepted_and_mostly_pass_messages() {
+    assert_mostly(Kind::Passing, &[24, 25, 27, 28]);
+}
+
+#[test]
+fn queuing_lines_are_accepted_and_mostly_send_and_receive() {
+    assert_mostly(Kind::Queuing, &[30, 31]);
 }
 
 #[test]

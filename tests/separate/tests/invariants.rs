@@ -2,7 +2,7 @@
 
 use separate::events::Events;
 use separate::line;
-use separate::record::{Mode, Module, Partition, Process, Wait};
+use separate::record::{MessageQueue, Mode, Module, Partition, Process, QueueId, Wait};
 use separate::{Answer, Event};
 use std::collections::VecDeque;
 
@@ -63,21 +63,51 @@ fn check_queue(partition: &Partition, queue: &VecDeque<usize>, waits: impl Fn(Wa
     assert_eq!(queued, waiting);
 }
 
+/// A sender waits only where the queue is full, a receiver only where it is
+/// empty; so never both.
+fn check_messages(queue: &MessageQueue, senders: &VecDeque<usize>, receivers: &VecDeque<usize>) {
+    assert!(queue.messages.len() <= queue.limit);
+    assert!(senders.is_empty() || queue.full());
+    assert!(receivers.is_empty() || queue.messages.is_empty());
+    for message in &queue.messages {
+        assert!((0..=9_999_999).contains(message));
+    }
+}
+
+fn sends(wait: Wait, queue: QueueId) -> bool {
+    matches!(wait, Wait::Sending { to, .. } if to == queue)
+}
+
 fn check_buffer(partition: &Partition, id: usize) {
     let buffer = &partition.buffers[id - 1];
-    let sends = |wait| matches!(wait, Wait::Sending { buffer, .. } if buffer == id);
-    check_queue(partition, &buffer.senders, sends);
+    let own = QueueId::Buffer(id);
+    check_queue(partition, &buffer.senders, |wait| sends(wait, own));
     check_queue(partition, &buffer.receivers, |wait| {
-        wait == Wait::Receiving(id)
+        wait == Wait::Receiving(own)
     });
-    assert!((1..=16).contains(&buffer.limit));
-    assert!(buffer.messages.len() <= buffer.limit);
-    // A sender waits only where the buffer is full, a receiver only where it
-    // is empty; so never both.
-    assert!(buffer.senders.is_empty() || buffer.full());
-    assert!(buffer.receivers.is_empty() || buffer.messages.is_empty());
-    for message in &buffer.messages {
-        assert!((0..=9_999_999).contains(message));
+    assert!((1..=16).contains(&buffer.queue.limit));
+    check_messages(&buffer.queue, &buffer.senders, &buffer.receivers);
+}
+
+/// At a queuing channel's source its senders wait, at its destination its
+/// receivers; elsewhere, and for a sampling channel, nobody.
+fn check_channel(module: &Module, n: usize) {
+    let channel = &module.channels()[n - 1];
+    let own = QueueId::Channel(n);
+    for (partition, k) in module.partitions().iter().zip(1..) {
+        let (source, destination) = (k == channel.source, k == channel.destination);
+        check_queue(partition, &partition.ports[n - 1], |wait| {
+            source && sends(wait, own) || destination && wait == Wait::Receiving(own)
+        });
+    }
+    let port = |k: usize| &module.partition(k).ports[n - 1];
+    let (senders, receivers) = (port(channel.source), port(channel.destination));
+    match channel.queue() {
+        Some(queue) => {
+            assert!((1..=8).contains(&queue.limit));
+            check_messages(queue, senders, receivers);
+        }
+        None => assert!(senders.is_empty() && receivers.is_empty()),
     }
 }
 
@@ -121,9 +151,27 @@ fn check_partition(partition: &Partition, t: i64) {
     }
 }
 
+/// Every wait in a queue is in a queue.
+fn check_all_queued(partition: &Partition) {
+    let waiting = partition.processes.iter().filter(|it| it.wait.queued());
+    let objects = partition.semaphores.iter().map(|it| it.queue.len());
+    let objects = objects.chain(partition.events.iter().map(|it| it.queue.len()));
+    let objects = objects.chain(partition.blackboards.iter().map(|it| it.queue.len()));
+    let buffers = partition.buffers.iter();
+    let buffers = buffers.map(|it| it.senders.len() + it.receivers.len());
+    let ports = partition.ports.iter().map(VecDeque::len);
+    let queued: usize = objects.chain(buffers).chain(ports).sum();
+    assert_eq!(waiting.count(), queued);
+}
+
 fn check(module: &Module) {
     for partition in module.partitions() {
         check_partition(partition, module.t());
+        check_all_queued(partition);
+        assert_eq!(partition.ports.len(), module.channels().len());
+    }
+    for n in 1..=module.channels().len() {
+        check_channel(module, n);
     }
     let place = module.t() % module.frame();
     let owners: Vec<_> = module
@@ -171,14 +219,14 @@ fn the_record_stays_whole_and_refusals_leave_it_the_same() {
     }
 }
 
-/// A message of an accepted send, and who waits with it.
+/// A message of an accepted send, and who waits with it: partition and id.
 #[derive(Clone, Copy, Debug)]
 struct Sent {
     message: i64,
-    waiting: Option<usize>,
+    waiting: Option<(usize, usize)>,
 }
 
-/// What went into a buffer and what came out of it, each in order.
+/// What went into a message queue and what came out of it, each in order.
 #[derive(Clone, Debug, Default)]
 struct Account {
     sent: Vec<Sent>,
@@ -187,27 +235,28 @@ struct Account {
 
 impl Account {
     /// A send answered 0 or 7, or a receive answered 0.
-    fn take_call(&mut self, event: &Event, answer: &Answer, caller: usize) {
+    fn take_call(&mut self, event: &Event, answer: &Answer, caller: (usize, usize)) {
         match (event.call, answer.code) {
-            (24, 0 | 7) => self.sent.push(Sent {
+            (24 | 30, 0 | 7) => self.sent.push(Sent {
                 message: event.fields[1],
                 waiting: (answer.code == 7).then_some(caller),
             }),
-            (25, 0) => self.received.push(answer.value),
+            (25 | 31, 0) => self.received.push(answer.value),
             _ => {}
         }
     }
 
     /// A waiting sender's wait ended: its message was let in, or, by a
     /// time-out or STOP, it is as if never sent.
-    fn end_send(&mut self, id: usize, event: &Event) {
-        let waiting = self.sent.iter().position(|sent| sent.waiting == Some(id));
-        let at = waiting.expect("a send that waits");
+    fn end_send(&mut self, sender: (usize, usize), event: &Event) {
+        let mut sent = self.sent.iter();
+        let at = sent.position(|sent| sent.waiting == Some(sender));
+        let at = at.expect("a send that waits");
         match event.call {
             0 | 5 => {
                 self.sent.remove(at);
             }
-            25 => self.sent[at].waiting = None,
+            1 | 25 | 31 => self.sent[at].waiting = None,
             call => panic!("call {call} ended a sender's wait"),
         }
     }
@@ -216,85 +265,157 @@ impl Account {
     fn end_receive(&mut self, process: &Process, event: &Event) {
         match event.call {
             0 | 5 => {}
-            24 => self.received.push(process.message),
+            24 | 30 => self.received.push(process.message),
             call => panic!("call {call} ended a receiver's wait"),
         }
     }
 
+    /// A restart of the source: what waits to be sent is as if never sent.
+    fn restart_source(&mut self) {
+        self.sent.retain(|sent| sent.waiting.is_none());
+    }
+
+    /// A restart of the destination: the messages held go.
+    fn restart_destination(&mut self, held: usize) {
+        let from = self.received.len();
+        self.sent.drain(from..from + held);
+    }
+
     /// Sent = received, then held, then kept with the waiting senders.
-    fn check(&self, partition: &Partition, id: usize) {
-        let buffer = &partition.buffers[id - 1];
-        let kept = buffer
-            .senders
-            .iter()
-            .map(|&id| match partition.process(id).wait {
-                Wait::Sending { message, .. } => message,
-                wait => panic!("a sender that waits so: {wait:?}"),
-            });
+    fn check(&self, queue: &MessageQueue, senders: &VecDeque<usize>, source: &Partition) {
+        let kept = senders.iter().map(|&id| match source.process(id).wait {
+            Wait::Sending { message, .. } => message,
+            wait => panic!("a sender that waits so: {wait:?}"),
+        });
         let mut expected = self.received.clone();
-        expected.extend(&buffer.messages);
+        expected.extend(&queue.messages);
         expected.extend(kept);
         let sent: Vec<_> = self.sent.iter().map(|sent| sent.message).collect();
-        assert_eq!(sent, expected, "buffer {id}");
+        assert_eq!(sent, expected);
     }
 }
 
-/// The accounts of a partition's buffers, since they were created.
-#[derive(Clone, Debug, Default)]
-struct Accounts(Vec<Account>);
+/// The accounts of every partition's buffers, since they were created, and of
+/// all channels.
+#[derive(Clone, Debug)]
+struct Accounts {
+    buffers: Vec<Vec<Account>>,
+    channels: Vec<Account>,
+}
 
 impl Accounts {
-    fn take(&mut self, event: &Event, answer: &Answer, old: &Partition, new: &Partition) {
-        self.0.resize_with(new.buffers.len(), Account::default);
-        if [24, 25].contains(&event.call) && [0, 7].contains(&answer.code) {
-            let account = &mut self.0[event.fields[0] as usize - 1];
-            account.take_call(event, answer, old.running());
-        }
-        for id in 1..=new.processes.len().min(old.processes.len()) {
-            self.take_process(event, id, old.process(id), new.process(id));
-        }
-        for (account, id) in self.0.iter().zip(1..) {
-            account.check(new, id);
+    fn of(module: &Module) -> Accounts {
+        Accounts {
+            buffers: vec![vec![]; module.partitions().len()],
+            channels: vec![Account::default(); module.channels().len()],
         }
     }
 
-    fn take_process(&mut self, event: &Event, id: usize, old: &Process, new: &Process) {
+    fn account(&mut self, own: usize, queue: QueueId) -> &mut Account {
+        match queue {
+            QueueId::Buffer(id) => &mut self.buffers[own - 1][id - 1],
+            QueueId::Channel(n) => &mut self.channels[n - 1],
+        }
+    }
+
+    fn take(&mut self, event: &Event, answer: &Answer, before: &Module, after: &Module) {
+        for (accounts, partition) in self.buffers.iter_mut().zip(after.partitions()) {
+            accounts.resize_with(partition.buffers.len(), Account::default);
+        }
+        if [0, 7].contains(&answer.code) && event.call != 0 {
+            self.take_call(event, answer, before);
+        }
+        for (k, (old, new)) in (1..).zip(before.partitions().iter().zip(after.partitions())) {
+            for (id, (old, new)) in (1..).zip(old.processes.iter().zip(&new.processes)) {
+                self.take_process(event, (k, id), old, new);
+            }
+        }
+        self.check(after);
+    }
+
+    fn take_call(&mut self, event: &Event, answer: &Answer, before: &Module) {
+        let (own, of) = (event.partition as usize, event.fields[0] as usize);
+        let caller = (own, before.partition(own).running());
+        let queue = match event.call {
+            1 if event.fields[0] != 3 => return self.restart(own, before),
+            24 | 25 => QueueId::Buffer(of),
+            30 | 31 => QueueId::Channel(of),
+            _ => return,
+        };
+        self.account(own, queue).take_call(event, answer, caller);
+    }
+
+    fn restart(&mut self, own: usize, before: &Module) {
+        for (account, channel) in self.channels.iter_mut().zip(before.channels()) {
+            if channel.source == own {
+                account.restart_source();
+            }
+            if channel.destination == own {
+                let held = channel.queue().map_or(0, |queue| queue.messages.len());
+                account.restart_destination(held);
+            }
+        }
+    }
+
+    fn take_process(&mut self, event: &Event, who: (usize, usize), old: &Process, new: &Process) {
         if old.wait == new.wait {
             return;
         }
         match old.wait {
-            Wait::Sending { buffer, .. } => self.0[buffer - 1].end_send(id, event),
-            Wait::Receiving(buffer) => self.0[buffer - 1].end_receive(new, event),
+            Wait::Sending { to, .. } => self.account(who.0, to).end_send(who, event),
+            Wait::Receiving(from) => self.account(who.0, from).end_receive(new, event),
             _ => {}
         }
+    }
+
+    fn check(&self, module: &Module) {
+        for (accounts, partition) in self.buffers.iter().zip(module.partitions()) {
+            for (account, buffer) in accounts.iter().zip(&partition.buffers) {
+                account.check(&buffer.queue, &buffer.senders, partition);
+            }
+        }
+        let channels = module.channels().iter().zip(&self.channels);
+        for (n, (channel, account)) in channels.enumerate() {
+            let source = module.partition(channel.source);
+            if let Some(queue) = channel.queue() {
+                account.check(queue, &source.ports[n], source);
+            }
+        }
+    }
+
+    /// How many messages were received from buffers and from channels.
+    fn received(&self) -> [usize; 2] {
+        let buffers = self.buffers.iter().flatten();
+        let received = |account: &Account| account.received.len();
+        [
+            buffers.map(received).sum(),
+            self.channels.iter().map(received).sum(),
+        ]
     }
 }
 
 #[test]
-fn what_was_sent_to_a_buffer_is_received_held_or_kept_in_order() {
-    let mut received = 0;
-    for seed in 2000..2200 {
-        let mut accounts = vec![];
-        run(seed, 800, |event, answer, before, after| {
-            accounts.resize_with(after.partitions().len(), Accounts::default);
-            let records = before.partitions().iter().zip(after.partitions());
-            for (k, (accounts, (old, new))) in (1..).zip(accounts.iter_mut().zip(records)) {
-                if event.partition == 0 || event.partition == k {
-                    accounts.take(event, answer, old, new);
-                }
-            }
+fn what_was_sent_to_a_buffer_or_a_channel_is_received_held_or_kept_in_order() {
+    let mut received = [0, 0];
+    for seed in 2000..2300 {
+        let mut accounts = None;
+        run(seed, 1000, |event, answer, before, after| {
+            let accounts = accounts.get_or_insert_with(|| Accounts::of(before));
+            accounts.take(event, answer, before, after);
         });
-        let all = accounts.iter().flat_map(|accounts| &accounts.0);
-        received += all.map(|account| account.received.len()).sum::<usize>();
+        let [buffers, channels] = accounts.expect("some events").received();
+        received = [received[0] + buffers, received[1] + channels];
     }
-    assert!(received > 1_000, "{received} messages received");
+    assert!(received.iter().all(|&n| n > 1_000), "{received:?} received");
 }
 
 /// True if the event handed its message over to a process that waited for one.
 fn handed_over(event: &Event, old: &Process, new: &Process) -> bool {
+    let of = event.fields[0] as usize;
     let waited = match event.call {
-        24 => old.wait == Wait::Receiving(event.fields[0] as usize),
-        27 => old.wait == Wait::Blackboard(event.fields[0] as usize),
+        24 => old.wait == Wait::Receiving(QueueId::Buffer(of)),
+        27 => old.wait == Wait::Blackboard(of),
+        30 => old.wait == Wait::Receiving(QueueId::Channel(of)),
         _ => false,
     };
     waited && new.wait == Wait::None

@@ -2,20 +2,30 @@
 //! inside it.
 
 use separate::events::Events;
+use separate::line::Line;
+use separate::record::Channel;
+use separate::replay::{read_table, Lines};
 use separate::rng::Rng;
-use separate::{tables, Event, Module, Six};
+use separate::{tables, Answer, Event, Module, Six};
 
-/// The least closed set around some partitions: with a channel's destination
-/// comes its source.
+/// True if a set may be closed as far as this channel goes: a sampling channel
+/// with its destination in the set has its source there; a queuing one has
+/// both ends in it or neither.
+fn is_closed(channel: &Channel, set: &[bool]) -> bool {
+    let (source, destination) = (set[channel.source], set[channel.destination]);
+    match channel.queue() {
+        Some(_) => source == destination,
+        None => source || !destination,
+    }
+}
+
+/// The least closed set around some partitions.
 fn close(module: &Module, set: &mut [bool]) {
-    loop {
-        let open = module
-            .channels()
-            .iter()
-            .find(|channel| set[channel.destination] && !set[channel.source]);
-        match open {
-            Some(channel) => set[channel.source] = true,
-            None => return,
+    let channels = module.channels();
+    while let Some(channel) = channels.iter().find(|it| !is_closed(it, set)) {
+        set[channel.source] = true;
+        if channel.queue().is_some() {
+            set[channel.destination] = true;
         }
     }
 }
@@ -42,8 +52,10 @@ fn assert_same_inside(left: &Module, right: &Module, set: &[bool]) {
     for partition in (1..set.len()).filter(|&partition| set[partition]) {
         assert_eq!(left.partition(partition), right.partition(partition));
     }
+    // A sampling channel's message and time, a queuing one's messages; who
+    // waits at an end stands in the partition's record.
     for (one, other) in left.channels().iter().zip(right.channels()) {
-        assert!(!set[one.destination] || one.message == other.message);
+        assert!(!set[one.destination] || one == other);
     }
     if set[left.current()] {
         assert_eq!(left.running(), right.running());
@@ -55,10 +67,26 @@ fn assert_same_inside(left: &Module, right: &Module, set: &[bool]) {
 struct Done {
     /// Free events of each run.
     free: [usize; 2],
-    /// Calls 23 to 29 among the free events of the first run.
-    free_messages: usize,
-    /// Calls 23 to 29 among the common events.
-    common_messages: usize,
+    /// Calls 23 to 31 among the free events of the first run and among the
+    /// common events.
+    messages: [usize; 2],
+    /// Calls 30 and 31 among these, where not all events are common.
+    queuing: [usize; 2],
+}
+
+fn is_accepted(answer: &Answer) -> bool {
+    answer.code == 0 || answer.code == 7
+}
+
+impl Done {
+    /// An event of the first run that was accepted.
+    fn take(&mut self, event: &Event, set: &[bool]) {
+        let place = usize::from(common(set, event));
+        self.free[0] += 1 - place;
+        self.messages[place] += usize::from(event.call >= 23);
+        let all = !set[1..].contains(&false);
+        self.queuing[place] += usize::from(event.call >= 30 && !all);
+    }
 }
 
 /// Runs both lists and adds up what they did.
@@ -74,8 +102,9 @@ fn compare(seed: u64, count: usize, done: &mut Done) {
     let mut right = Events::of(module, Rng::new(!seed));
     for _ in 0..count {
         let (event, answer) = left.next_event();
-        let accepted = usize::from(answer.code == 0 || answer.code == 7);
-        let messages = usize::from(event.call >= 23) * accepted;
+        if is_accepted(&answer) {
+            done.take(&event, &set);
+        }
         if common(&set, &event) {
             let other = right.module.step(&event);
             assert_eq!(
@@ -83,29 +112,71 @@ fn compare(seed: u64, count: usize, done: &mut Done) {
                 visible(&set, &event, other.six()),
                 "seed {seed} event {event:?}"
             );
-            done.common_messages += messages;
-        } else {
-            done.free[0] += accepted;
-            done.free_messages += messages;
         }
         for _ in 0..rng.below(3) {
             let event = right.choose();
             if !common(&set, &event) {
                 let answer = right.module.step(&event);
-                done.free[1] += usize::from(answer.code == 0 || answer.code == 7);
+                done.free[1] += usize::from(is_accepted(&answer));
             }
         }
     }
     assert_same_inside(&left.module, &right.module, &set);
 }
 
+/// The table and the events of a hand-made case.
+fn case(name: &str) -> (Module, Vec<Event>) {
+    let folder = concat!(env!("CARGO_MANIFEST_DIR"), "/../cases");
+    let input = std::fs::read(format!("{folder}/{name}.in")).expect("a case");
+    let mut lines = Lines::new(input.as_slice());
+    let module = read_table(&mut lines).expect("an accepted table");
+    let mut events = Vec::new();
+    while let Some(Line::Six(six)) = lines.next_line() {
+        events.push(Event::from_six(six));
+    }
+    (module, events)
+}
+
+/// The common events of a case with what must agree of their answers.
+fn common_answers(name: &str, set: &[bool]) -> Vec<(Event, Six)> {
+    let (mut module, events) = case(name);
+    let mut answers = Vec::new();
+    for event in events {
+        let answer = module.step(&event);
+        if common(set, &event) {
+            answers.push((event, visible(set, &event, answer.six())));
+        }
+    }
+    answers
+}
+
+#[test]
+fn a_queuing_channel_with_one_end_in_the_set_lets_answers_differ() {
+    let (left, right) = ("queuing-closed-needed-left", "queuing-closed-needed-right");
+    let set = [false, true, false];
+    let (module, _) = case(left);
+    assert_eq!(module, case(right).0);
+    // The source alone: a sampling channel would leave the set closed.
+    let [channel] = module.channels() else {
+        panic!("one channel");
+    };
+    assert!(set[channel.source] && !set[channel.destination]);
+    assert!(channel.queue().is_some() && !is_closed(channel, &set));
+    let (mut one, mut other) = (common_answers(left, &set), common_answers(right, &set));
+    let ends = (one.pop().expect("events"), other.pop().expect("events"));
+    assert_eq!(one, other);
+    assert_eq!(ends.0 .0, ends.1 .0);
+    assert_eq!((ends.0 .1[0], ends.1 .1[0]), (0, 2));
+}
+
 #[test]
 fn common_events_get_the_same_answers_and_leave_the_same_records() {
     let mut done = Done::default();
-    for seed in 0..600 {
-        compare(seed, 600, &mut done);
+    for seed in 0..1000 {
+        compare(seed, 900, &mut done);
     }
     // Both sides had many different free events that changed something.
     assert!(done.free.iter().all(|&free| free > 10_000));
-    assert!(done.free_messages > 5_000 && done.common_messages > 5_000);
+    assert!(done.messages.iter().all(|&calls| calls > 5_000));
+    assert!(done.queuing.iter().all(|&calls| calls > 2_000));
 }

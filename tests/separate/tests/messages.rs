@@ -4,7 +4,7 @@
 mod common;
 
 use common::{creation_by_name_is_checked, World, TWO};
-use separate::record::{Buffer, Wait};
+use separate::record::{Buffer, MessageQueue, QueueId, Wait};
 
 /// One partition with a buffer and a blackboard; after NORMAL process 1 runs
 /// last, at priority 1, and the others in the order of their ids.
@@ -33,7 +33,12 @@ fn waiting(world: &World, id: i64) -> (Wait, Option<i64>, i64, i64, bool) {
 }
 
 fn sending(buffer: usize, message: i64) -> Wait {
-    Wait::Sending { buffer, message }
+    let to = QueueId::Buffer(buffer);
+    Wait::Sending { to, message }
+}
+
+fn receiving(buffer: usize) -> Wait {
+    Wait::Receiving(QueueId::Buffer(buffer))
 }
 
 // 23 CREATE_BUFFER, 26 CREATE_BLACKBOARD
@@ -90,8 +95,10 @@ fn a_created_buffer_is_empty() {
     assert_eq!(world.call(23, &[200, 9]), [0, 1, 0]);
     let expected = Buffer {
         name: 200,
-        limit: 9,
-        messages: [].into(),
+        queue: MessageQueue {
+            limit: 9,
+            messages: [].into(),
+        },
         senders: [].into(),
         receivers: [].into(),
     };
@@ -278,7 +285,7 @@ fn receive_checks_unknown_then_start_mode_then_time_out() {
     world.refused(3, 25, &[1, 10_000_000]);
     assert_eq!(world.call(25, &[1, 0]), [0, 5, 0]);
     world.waits(25, &[1, 9_999_999]);
-    let expected = (Wait::Receiving(1), Some(9_999_999), 0, 0, false);
+    let expected = (receiving(1), Some(9_999_999), 0, 0, false);
     assert_eq!(waiting(&world, 1), expected);
 }
 
@@ -563,7 +570,7 @@ fn a_periodic_process_may_wait_to_send_to_receive_and_to_read() {
     world.waits(28, &[1, 7]);
     for (id, wait) in [
         (1, sending(1, 20)),
-        (2, Wait::Receiving(2)),
+        (2, receiving(2)),
         (3, Wait::Blackboard(1)),
     ] {
         let process = world.process(id);

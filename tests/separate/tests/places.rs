@@ -2,7 +2,7 @@
 
 mod common;
 
-use common::{line, World, CHANNELS, ONE, TWO};
+use common::{line, World, CHANNELS, TWO};
 use separate::machine::USED;
 use separate::{Event, Module};
 
@@ -35,16 +35,16 @@ fn the_empty_record_answers_13_to_everything() {
 fn a_partition_not_0_to_p_is_13() {
     let mut world = running();
     for partition in [-1, 3, 9, i64::MIN, i64::MAX] {
-        for call in [0, 1, 29] {
+        for call in [0, 1, 31] {
             world.refused_event(13, line(partition, call, &[]));
         }
     }
 }
 
 #[test]
-fn a_call_not_0_to_29_is_13() {
+fn a_call_not_0_to_31_is_13() {
     let mut world = running();
-    for call in [-1, 30, i64::MIN, i64::MAX] {
+    for call in [-1, 32, i64::MIN, i64::MAX] {
         for partition in [0, 1, 2] {
             world.refused_event(13, line(partition, call, &[]));
         }
@@ -54,7 +54,7 @@ fn a_call_not_0_to_29_is_13() {
 #[test]
 fn just_one_of_partition_and_call_0_is_13() {
     let mut world = running();
-    for call in 1..=29 {
+    for call in 1..=31 {
         world.refused_event(13, line(0, call, &[]));
     }
     world.refused_event(13, line(1, 0, &[]));
@@ -65,6 +65,7 @@ fn just_one_of_partition_and_call_0_is_13() {
 fn an_unused_field_not_0_is_13() {
     let used = [
         0, 1, 4, 1, 2, 1, 0, 1, 1, 1, 0, 1, 2, 1, 3, 2, 1, 1, 1, 1, 2, 2, 1, 2, 3, 2, 1, 2, 2, 1,
+        3, 2,
     ];
     assert_eq!(USED, used);
     let mut world = running();
@@ -117,7 +118,7 @@ fn place_8_comes_before_9_and_the_body() {
 fn place_9_comes_before_the_body() {
     let mut world = World::one();
     world.done(1, &[0]);
-    for call in 1..=29 {
+    for call in 1..=31 {
         world.refused(9, call, &[]);
     }
     world.refused(9, 1, &[9]);
@@ -129,7 +130,7 @@ fn normal_with_nothing_running_is_9() {
     let mut world = World::one();
     world.create(5, -1, -1);
     world.normal();
-    for call in 1..=29 {
+    for call in 1..=31 {
         world.refused(9, call, &[]);
     }
     world.ticks(25);
@@ -139,7 +140,7 @@ fn normal_with_nothing_running_is_9() {
 #[test]
 fn unknown_id_is_3_before_start_mode_5() {
     let mut world = World::one();
-    for call in [15, 20, 24, 25, 28] {
+    for call in [15, 20, 24, 25, 28, 30, 31] {
         world.refused(3, call, &[1, 0]);
     }
     world.semaphore(0, 1);
@@ -182,7 +183,7 @@ fn running_shows_where_the_events_partition_is_0_or_current() {
     assert_eq!(world.event([1, 1, 3, 0, 0, 0]), [1, 0, 0, 0, 1, 1]);
     assert_eq!(world.event([1, 10, 1, 0, 0, 0]), [13, 0, 0, 0, 1, 1]);
     assert_eq!(world.event([1, 0, 0, 0, 0, 0]), [13, 0, 0, 0, 1, 1]);
-    assert_eq!(world.event([1, 30, 0, 0, 0, 0]), [13, 0, 0, 0, 1, 1]);
+    assert_eq!(world.event([1, 32, 0, 0, 0, 0]), [13, 0, 0, 0, 1, 1]);
     // Partition 0 shows it whatever the code.
     assert_eq!(world.event([0, 5, 0, 0, 0, 0]), [13, 0, 0, 0, 1, 1]);
     assert_eq!(world.event([0, 0, 0, 0, 0, 7]), [13, 0, 0, 0, 1, 1]);
@@ -306,9 +307,40 @@ fn a_list_of_event_records_keeps_each_answer_in_its_record() {
     assert!(list.module == single.module);
 }
 
+/// Fields of a call that is not refused for them, in a partition that has one
+/// of each object, at the source of channels 1 (sampling) and 3 (queuing) and
+/// at the destination of 2 and 4.
+fn good_fields(call: i64) -> [i64; 4] {
+    match call {
+        2 => [2, 5, -1, -1],
+        14 => [2, 1, 1, 0],
+        22 => [2, 0, 0, 0],
+        23 => [2, 1, 0, 0],
+        30 => [3, 1, 1, 0],
+        31 => [4, 1, 0, 0],
+        _ => {
+            let mut fields = [1; 4];
+            fields[USED[call as usize]..].fill(0);
+            fields
+        }
+    }
+}
+
 #[test]
 fn numbers_that_no_line_holds_are_judged_by_the_same_rules() {
-    for call in 1..=29i64 {
+    let mut table = TWO.to_vec();
+    table[0][3] = 4;
+    for kind in [0, 1] {
+        table.extend([[1, 2, 5, kind, kind, 0], [2, 1, 5, kind, kind, 0]]);
+    }
+    let mut world = World::new(&table);
+    world.semaphore(0, 1);
+    world.flag();
+    world.buffer(1);
+    world.blackboard();
+    world.started(5);
+    world.normal();
+    for call in 1..=31i64 {
         for field in 0..USED[call as usize] {
             for value in [
                 i64::MIN,
@@ -318,22 +350,7 @@ fn numbers_that_no_line_holds_are_judged_by_the_same_rules() {
                 i64::MAX - 1,
                 i64::MAX,
             ] {
-                let mut world = World::new(&ONE);
-                world.semaphore(0, 1);
-                world.flag();
-                world.buffer(1);
-                world.blackboard();
-                world.started(5);
-                world.normal();
-                let mut fields = [1; 4];
-                fields[USED[call as usize]..].fill(0);
-                if call == 2 {
-                    fields = [2, 5, -1, -1];
-                } else if call == 14 {
-                    fields = [2, 1, 1, 0];
-                } else if call == 23 {
-                    fields = [2, 1, 0, 0];
-                }
+                let mut fields = good_fields(call);
                 fields[field] = value;
                 world.refused(3, call, &fields);
             }

@@ -277,6 +277,7 @@ fn generate_prints_what_the_library_makes() {
         ("events", Kind::Events),
         ("damaged", Kind::Damaged),
         ("passing", Kind::Passing),
+        ("queuing", Kind::Queuing),
     ] {
         let mut expected = Vec::new();
         generate(9, kind, 50, &mut expected).expect("a vector takes every byte");
@@ -308,4 +309,7 @@ fn coverage_names_what_was_not_reached() {
     assert!(printed.contains("  call 0 tick code 13\n"));
     assert!(printed.contains("  call 24 SEND_BUFFER code 7\n"));
     assert!(printed.contains("  sending: by stop, suspended\n"));
+    assert!(printed.contains("  call 31 RECEIVE code 7\n"));
+    assert!(printed.contains("  sending channel: by restart\n"));
+    assert!(printed.contains("  source's restart with receivers waiting: 0\n"));
 }

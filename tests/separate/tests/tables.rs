@@ -53,7 +53,7 @@ fn an_accepted_table_gives_the_fresh_record() {
                 channel.source,
                 channel.destination,
                 channel.refresh,
-                channel.message,
+                channel.message(),
             )
         })
         .collect();
@@ -146,6 +146,64 @@ fn channel_line_ranges() {
             (12, line),
             "line {line} field {field} value {value}"
         );
+    }
+}
+
+#[test]
+fn a_channel_line_has_kind_0_and_size_0_or_kind_1_and_a_size_of_1_to_8() {
+    let read = |kind, size, refresh| {
+        let mut table = CHANNELS;
+        table[5] = [2, 1, refresh, kind, size, 0];
+        read(&text(&table)).map(|module| module.channels()[1].clone())
+    };
+    for size in 1..=8 {
+        for refresh in [1, 9_999_999] {
+            let channel = read(1, size, refresh).expect("an accepted table");
+            let queue = channel.queue().expect("a queuing channel");
+            assert_eq!((queue.limit as i64, queue.messages.len()), (size, 0));
+            assert_eq!((channel.refresh, channel.message()), (refresh, None));
+        }
+    }
+    let sampling = read(0, 0, 5).expect("an accepted table");
+    assert!(sampling.queue().is_none());
+    for (kind, size, refresh) in [
+        (1, 0, 5),
+        (1, -1, 5),
+        (1, 9, 5),
+        (1, 999_999_999, 5),
+        (0, 1, 5),
+        (0, 8, 5),
+        (0, -1, 5),
+        (2, 0, 5),
+        (2, 1, 5),
+        (-1, 0, 5),
+        (-1, 1, 5),
+        (1, 1, 0),
+        (1, 1, -1),
+        (1, 1, 10_000_000),
+    ] {
+        let refused = Err(Refusal { code: 12, line: 6 });
+        assert_eq!(read(kind, size, refresh), refused, "{kind} {size}");
+    }
+}
+
+#[test]
+fn the_sixth_field_and_the_ends_of_a_queuing_channel() {
+    let mut table = CHANNELS;
+    table[4] = [1, 2, 5, 1, 8, 0];
+    assert!(read(&text(&table)).is_ok());
+    for (field, value) in [
+        (0, 0),
+        (0, 2),
+        (0, 4),
+        (1, 0),
+        (1, 1),
+        (1, 4),
+        (5, 1),
+        (5, -1),
+        (5, 999_999_999),
+    ] {
+        assert_eq!(refusal(&changed(&table, 4, field, value)), (12, 5));
     }
 }
 
@@ -295,9 +353,17 @@ fn every_number_damage_breaks_an_accepted_table_with_12() {
 #[test]
 fn made_up_tables_are_accepted_and_varied() {
     let (mut gaps, mut single, mut flags, mut largest) = (0, 0, 0, 0);
+    let (mut both, mut eight) = (0, 0);
     for seed in 0..2000 {
         let table = tables::accepted(&mut Rng::new(seed));
         let module = tables::module(&table).expect("an accepted table");
+        let sizes: Vec<_> = module
+            .channels()
+            .iter()
+            .map(|channel| channel.queue().map_or(0, |queue| queue.limit))
+            .collect();
+        both += usize::from(sizes.contains(&0) && sizes.iter().any(|&size| size > 0));
+        eight += usize::from(sizes.contains(&8));
         let windows = module.windows();
         let owned: i64 = windows.iter().map(|window| window.duration).sum();
         gaps += usize::from(owned < module.frame());
@@ -312,4 +378,5 @@ fn made_up_tables_are_accepted_and_varied() {
         }
     }
     assert!(gaps > 100 && single > 5 && flags > 100 && largest > 10);
+    assert!(both > 400 && eight > 100, "{both} {eight}");
 }

@@ -1,75 +1,46 @@
 //! Calls 23 to 29: buffers and blackboards (document 02, a).
 
+use super::passing::Route;
 use super::{in_t, may_wait, refuse, Checked, D, LIMITS};
 use crate::machine::{Caller, Outcome};
-use crate::record::{Blackboard, Buffer, Id, Partition, Wait, BLACKBOARDS, BUFFERS, PROCESSES};
+use crate::record::{Blackboard, Buffer, Id, MessageQueue, Module, Partition, Wait};
+use crate::record::{BLACKBOARDS, BUFFERS, PROCESSES};
 use std::collections::VecDeque;
+
+impl Module {
+    /// 24 SEND_BUFFER id, message, a.
+    pub(super) fn send_buffer(
+        &mut self,
+        own: Id,
+        caller: Caller,
+        id: i64,
+        message: i64,
+        a: i64,
+    ) -> Checked {
+        let good = D.contains(&message) && in_t(a);
+        let (of, sender) = may_wait(self.partition(own).buffer_id(id), caller, good)?;
+        self.pass_in(Route::of_buffer(own, of), sender, message, a)
+    }
+
+    /// 25 RECEIVE_BUFFER id, a.
+    pub(super) fn receive_buffer(&mut self, own: Id, caller: Caller, id: i64, a: i64) -> Checked {
+        let (of, receiver) = may_wait(self.partition(own).buffer_id(id), caller, in_t(a))?;
+        self.pass_out(Route::of_buffer(own, of), receiver, a)
+    }
+}
 
 impl Partition {
     /// 23 CREATE_BUFFER name, limit.
     pub(super) fn create_buffer(&mut self, name: i64, limit: i64) -> Checked {
         let names = self.buffers.iter().map(|buffer| buffer.name);
         self.may_create(names, BUFFERS, name, LIMITS.contains(&limit))?;
-        let limit = limit as usize;
         self.buffers.push(Buffer {
             name,
-            limit,
-            messages: VecDeque::with_capacity(limit),
+            queue: MessageQueue::empty(limit as usize),
             senders: VecDeque::with_capacity(PROCESSES),
             receivers: VecDeque::with_capacity(PROCESSES),
         });
         Ok(Outcome::value(self.buffers.len() as i64, 0))
-    }
-
-    /// 24 SEND_BUFFER id, message, a. Its senders wait when it is full.
-    pub(super) fn send_buffer(
-        &mut self,
-        caller: Caller,
-        t: i64,
-        id: i64,
-        message: i64,
-        a: i64,
-    ) -> Checked {
-        let good = D.contains(&message) && in_t(a);
-        let (of, own) = may_wait(self.buffer_id(id), caller, good)?;
-        let buffer = &mut self.buffers[of - 1];
-        if let Some(first) = buffer.receivers.pop_front() {
-            self.hand_over(first, message);
-            return Ok(Outcome::DONE);
-        }
-        if !buffer.full() {
-            buffer.messages.push_back(message);
-            return Ok(Outcome::DONE);
-        }
-        let wait = Wait::Sending {
-            buffer: of,
-            message,
-        };
-        self.wait_in_queue(own, wait, t, a)
-    }
-
-    /// 25 RECEIVE_BUFFER id, a. First in first out; its receivers wait when
-    /// it is empty.
-    pub(super) fn receive_buffer(&mut self, caller: Caller, t: i64, id: i64, a: i64) -> Checked {
-        let (of, own) = may_wait(self.buffer_id(id), caller, in_t(a))?;
-        let Some(message) = self.buffers[of - 1].messages.pop_front() else {
-            return self.wait_in_queue(own, Wait::Receiving(of), t, a);
-        };
-        self.let_sender_in(of);
-        Ok(Outcome::value(message, 0))
-    }
-
-    /// The first waiting sender's message goes in, last of those held, and
-    /// its wait ends.
-    fn let_sender_in(&mut self, of: Id) {
-        let buffer = &mut self.buffers[of - 1];
-        let Some(first) = buffer.senders.pop_front() else {
-            return;
-        };
-        if let Wait::Sending { message, .. } = self.processes[first - 1].wait {
-            buffer.messages.push_back(message);
-        }
-        self.end_wait_by_signal(first);
     }
 
     /// 26 CREATE_BLACKBOARD name (empty).

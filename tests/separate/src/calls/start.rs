@@ -48,14 +48,6 @@ impl Module {
         Outcome::DONE
     }
 
-    fn erase_messages_into(&mut self, destination: Id) {
-        for channel in &mut self.channels {
-            if channel.destination == destination {
-                channel.message = None;
-            }
-        }
-    }
-
     /// 3 START id; 4 DELAYED_START id, delay.
     pub(super) fn start(&mut self, own: Id, id: i64, delay: i64) -> Outcome {
         let clock = self.clock(own);

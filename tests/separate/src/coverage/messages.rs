@@ -49,11 +49,11 @@ impl Coverage {
         self.count_corner("message 9,999,999 sent", taken && message == MOST_TIME);
         let waiting = buffer.receivers.len();
         self.count_corner("SEND_BUFFER to two waiting receivers or more", waiting > 1);
-        let equal = buffer.messages.contains(&message);
+        let equal = buffer.queue.messages.contains(&message);
         self.count_corner("equal messages held", taken && equal);
-        let last_place = buffer.messages.len() + 1 == *LIMITS.end() as usize;
+        let last_place = buffer.queue.messages.len() + 1 == *LIMITS.end() as usize;
         self.count_corner("16 messages held", taken && last_place);
-        let limit_1 = buffer.limit == 1;
+        let limit_1 = buffer.queue.limit == 1;
         self.count_corner("sender waits at limit 1", !taken && limit_1);
         self.count_corner("sender waits at a limit above 1", !taken && !limit_1);
     }
@@ -69,7 +69,7 @@ impl Coverage {
             "RECEIVE_BUFFER with two waiting senders or more",
             waiting > 1,
         );
-        let behind = waiting > 0 && buffer.limit > 1;
+        let behind = waiting > 0 && buffer.queue.limit > 1;
         self.count_corner("sender let in behind held messages", behind);
         let holds = old.process(old.running()).message != 0;
         let corner = "RECEIVE_BUFFER at once by a process with a message in its record";
@@ -88,9 +88,9 @@ impl Coverage {
     }
 
     /// A waiter that got a message and had one in its record before.
-    fn take_hand_over(&mut self, event: &Event, old: &Process, new: &Process) {
+    pub(super) fn take_hand_over(&mut self, event: &Event, old: &Process, new: &Process) {
         let waited = matches!(old.wait, Wait::Receiving(_) | Wait::Blackboard(_));
-        let given = waited && new.wait == Wait::None && [24, 27].contains(&event.call);
+        let given = waited && new.wait == Wait::None && [24, 27, 30].contains(&event.call);
         let over = given && old.message != 0 && old.message != new.message;
         self.count_corner("message over an earlier one in a waiter's record", over);
         let by_0 = over && new.message == 0;
@@ -99,6 +99,7 @@ impl Coverage {
 
     /// Edges that are refused with 3, all else being good.
     pub(super) fn take_refused_corners(&mut self, before: &Module, event: &Event, answer: &Answer) {
+        self.take_refused_channels(before, event, answer);
         if answer.code != 3 {
             return;
         }
@@ -138,11 +139,14 @@ impl Coverage {
             let corner = "receiver gone from ahead of another";
             self.count_corner(corner, receiver && (stop || tick));
         }
+        if event.call == 0 || event.call == 5 {
+            self.take_ports(old, new);
+        }
     }
 }
 
 /// True if one is no longer in the queue that stood ahead of one still there.
-fn gone_from_ahead(old: &VecDeque<Id>, new: &VecDeque<Id>) -> bool {
+pub(super) fn gone_from_ahead(old: &VecDeque<Id>, new: &VecDeque<Id>) -> bool {
     let mut from_the_gone = old.iter().skip_while(|id| new.contains(id));
     from_the_gone.any(|id| new.contains(id))
 }

@@ -165,6 +165,7 @@ impl World {
     /// The messages that a buffer holds, first to come out first.
     pub fn held(&self, id: i64) -> Vec<i64> {
         self.partition().buffers[id as usize - 1]
+            .queue
             .messages
             .iter()
             .copied()
@@ -201,7 +202,7 @@ impl World {
     }
 
     pub fn message(&self, channel: usize) -> Option<Message> {
-        self.module.channels()[channel - 1].message
+        self.module.channels()[channel - 1].message()
     }
 }
 

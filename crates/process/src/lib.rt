@@ -86,6 +86,8 @@ pub fn waits_for_nothing(w: Wait) -> bool
         Wait::Sending(_, _) => false,
         Wait::Receiving(_) => false,
         Wait::Blackboard(_) => false,
+        Wait::Source(_, _) => false,
+        Wait::Destination(_) => false,
     }
 }
 
@@ -103,6 +105,8 @@ pub fn is_for_normal(w: Wait) -> bool
         Wait::Sending(_, _) => false,
         Wait::Receiving(_) => false,
         Wait::Blackboard(_) => false,
+        Wait::Source(_, _) => false,
+        Wait::Destination(_) => false,
     }
 }
 
@@ -121,6 +125,8 @@ pub fn object_of(w: Wait) -> u16
         Wait::Sending(k, _) => 768 + k as u16,
         Wait::Receiving(k) => 1024 + k as u16,
         Wait::Blackboard(k) => 1280 + k as u16,
+        Wait::Source(k, _) => 1536 + k as u16,
+        Wait::Destination(k) => 1792 + k as u16,
     }
 }
 
@@ -140,6 +146,8 @@ pub fn carried_by(x: Process) -> u32
         Wait::Sending(_, m) => m,
         Wait::Receiving(_) => 0,
         Wait::Blackboard(_) => 0,
+        Wait::Source(_, m) => m,
+        Wait::Destination(_) => 0,
     }
 }
 

@@ -17,6 +17,12 @@ returns-9 c = rw (c .before .w4 .given .1)
 returns-10 : tie.Need-returns-10
 returns-10 c = rw (c .before .w5 .given .1)
 
+returns-11 : tie.Need-returns-11
+returns-11 c = rw (c .before .w6 .given .1)
+
+returns-12 : tie.Need-returns-12
+returns-12 c = rw (c .before .w7 .given .1)
+
 pub object-of-spec : {M : Type 1} → statement M
 object-of-spec =
     tie.close
@@ -46,8 +52,16 @@ object-of-spec =
     (λ c. search needs)
     (λ c. search needs)
     (λ c. search needs)
+    (λ c. search needs)
+    (λ c. search needs)
+    (λ c. search needs)
+    (λ c. search needs)
+    (λ c. search needs)
+    (λ c. search needs)
     returns-6
     returns-7
     returns-8
     returns-9
-    returns-10)
+    returns-10
+    returns-11
+    returns-12)

@@ -1,11 +1,14 @@
--- Loops over the processes, from the first up, and for the soonest time from the last down; records at their places; two changes in order.
+-- Loops over the processes, from the first up, and for the soonest time from the last down; the first who wait on an object; records at their
+-- places; two changes in order.
 -- Assumes nothing.
 use Prim.Native.Nat.{ℕ, zero, suc, _+_, _-_, _≤_, _<_, max}
 use mathlib.Core.Path.{_≡_, refl, sym, ap, ap₂, _∙_}
-use mathlib.Core.Bool.{true, false, _||_}
-use mathlib.Core.List.{List, [], _∷_}
+use mathlib.Core.Bool.{Bool, true, false, _||_}
+use mathlib.Core.List.{List, [], _∷_, _++_, map, map-append}
 use native.Mathlib.Omega.{arith}
-use lib.ListN.{length, getD, set}
+use native.Mathlib.Numerals.{add-one}
+use lib.ListN.{length, getD, set, take, drop, length-take, length-map}
+use lib.Seq.{take-append-le, take-all, take-suc, getD-take}
 use lib.Dec.{eqb}
 use borrow.Author.Tests.{eq-eqb, ne-eqb, eqb-true, eqb-false}
 use Rattle.machine.specs.declared.Ids.{Ids}
@@ -14,18 +17,22 @@ use Rattle.machine.specs.declared.Semaphore.{Semaphore}
 use Rattle.machine.specs.declared.EventState.{EventState}
 use Rattle.machine.specs.declared.Buffer.{Buffer}
 use Rattle.machine.specs.declared.Blackboard.{Blackboard}
-use Rattle.machine.specs.declared.QueueChange.{QueueChange}
+use Rattle.machine.specs.declared.Transfer.{Transfer}
+use Rattle.machine.specs.declared.Transfer.the-variants.{Put, HandedTo, Taken, LetIn}
 use Rattle.machine.specs.declared.Partition.{Partition}
 use Rattle.machine.specs.declared.Change.{Change}
-use Rattle.machine.specs.Limits.{processLimit, semaphoreLimit, eventLimit, bufferLimit, blackboardLimit}
-use Rattle.machine.specs.Ids.{follow}
+use Rattle.machine.specs.Limits.{messageLimit, processLimit, semaphoreLimit, eventLimit, bufferLimit, blackboardLimit}
+use Rattle.machine.specs.Ids.{members, idsOf, kept, follow}
+use Rattle.machine.specs.Messages.{queueOf, put}
 use Rattle.machine.specs.Process.{blankProcess, due, ticked, ready, onObject}
-use Rattle.machine.specs.Partition.{within, byId, process, buffer, noBuffer, movedIn, withProcesses, withSemaphores, withEvents, withBuffers, withBlackboards, stored, created, storedSemaphore, storedEvent, storedBuffer, storedBlackboard, applied, eachFrom, sooner, soonestFrom}
-use Rattle.machine.proofs.Bounds.{either, inside, outside-zero, outside-high, named-in, named-out, stored-in, created-in, semaphore-in, event-in, buffer-in, blackboard-in}
+use Rattle.machine.specs.Partition.{within, byId, process, buffer, noBuffer, movedIn, withProcesses, withSemaphores, withEvents, withBuffers, withBlackboards, stored, created, storedSemaphore, storedEvent, storedBuffer, storedBlackboard, endedBy, applied, eachFrom, sooner, soonestFrom}
+use Rattle.machine.proofs.Bounds.{either, inside, outside-zero, outside-high, named-in, named-out, stored-in, created-in, semaphore-in, event-in, buffer-in, blackboard-in, stored-out}
+use Rattle.machine.proofs.Lists.{next-member, no-member, members-of, put-queueOf}
 use Rattle.machine.proofs.Folds.{soonest-more}
 use Rattle.machine.proofs.Quiet.{stored-same, ticked-same}
 use Rattle.machine.proofs.Tests.{or-left, or-right}
 use Rattle.partition.specs.Places.{slotOf}
+use Rattle.partition.specs.Waits.{endedId, endedAs}
 
 pub soonest-down : (n id s : ℕ) (p : Partition) → 0 < id → id ≤ n → s ≡ soonestFrom (n - id) (id + 1) p
     → sooner (process id p .times .wake) (sooner (process id p .times .deadline) s) ≡ soonestFrom (n - (id - 1)) (id - 1 + 1) p
@@ -46,6 +53,46 @@ each-start f n id p z =
     let a : n - id ≡ n = omega arith in
     let b : id + 1 ≡ 1 = omega arith in
     ap₂ (λ (x y : ℕ). eachFrom f x y p) a b
+
+-- ---------------------------------------------------------------- the first who wait
+-- the first id from place i on of which f says true
+module _ (f : ℕ → Bool) (q : Ids) (i : ℕ) where
+  pub first-here : i < length (members q) → f (getD (q .items) i 0) ≡ true → getD (kept f (drop i (members q))) 0 0 ≡ getD (q .items) i 0
+  unfolding kept
+  first-here h e = rw (next-member q i h, e)
+
+  pub first-later : i < length (members q) → f (getD (q .items) i 0) ≡ false → getD (kept f (drop i (members q))) 0 0 ≡ getD (kept f (drop (i + 1) (members q))) 0 0
+  unfolding kept
+  first-later h e = rw (next-member q i h, e)
+
+  pub first-none : length (members q) ≤ i → getD (kept f (drop i (members q))) 0 0 ≡ 0
+  unfolding kept
+  first-none h = rw (no-member q i h)
+
+-- the first n of a list that was made of ids
+module _ (q : Ids) (l : List ℕ) (n : ℕ) (e : q ≡ idsOf l) where
+  size : q .len ≡ length l
+  size = ap (λ (r : Ids). r .len) e
+
+  pub fewer : n < q .len → take n (q .items) ≡ take n l
+  fewer h = ap (λ (r : Ids). take n (r .items)) e ∙ take-append-le n l _ (omega (arith, size))
+
+  pub not-fewer : q .len ≤ n → members q ≡ take n l
+  not-fewer h = members-of q l e ∙ sym (take-all n l (omega (arith, size)))
+
+-- the messages of the ids before place i, as a loop puts them into a queue
+module _ (f : ℕ → ℕ) (q : Ids) (i : ℕ) where
+  pub gathered-more : i < length (members q) → i < messageLimit → put (f (getD (q .items) i 0)) (queueOf (map f (take i (members q)))) ≡ queueOf (map f (take (i + 1) (members q)))
+  gathered-more more low =
+      let x = getD (q .items) i 0 in
+      let l = take i (members q) in
+      let inside : i < q .len = omega (arith, length-take (q .len) (q .items)) in
+      let short : length (map f l) < messageLimit = omega (arith, length-map l f, length-take i (members q)) in
+      let next : take (i + 1) (members q) ≡ l ++ (x ∷ []) = rw (add-one, take-suc (members q) i 0, getD-take (q .len) (q .items) i 0 inside) in
+      put-queueOf (map f l) (f x) short ∙ rw next (ap queueOf (sym (map-append f l (x ∷ []))))
+
+  pub gathered-all : length (members q) ≤ i → queueOf (map f (take i (members q))) ≡ queueOf (map f (members q))
+  gathered-all h = rw (take-all i (members q) h)
 
 -- ---------------------------------------------------------------- the place of an id
 -- inside a list the default does not matter
@@ -132,10 +179,29 @@ module _ (id k : ℕ) (p : Partition) where
   blackboard-at b n e h en = kind-at blackboardLimit id k e h (p .blackboards) b (p .blackboardCount) n en (λ l m. withBlackboards l m p) ∙ sym (blackboard-in id b p (slot-in blackboardLimit id k e h))
 
   -- the messages of a buffer moved where they lie
-  pub moved-at : (a : QueueChange) (o : Buffer) (n : ℕ) → k ≡ slotOf bufferLimit id → k < bufferLimit → n ≡ max (p .bufferCount) (k + 1) → withBuffers (set (p .buffers) k (movedIn a (getD (p .buffers) k o))) n p ≡ storedBuffer id (movedIn a (buffer id p)) p
+  pub moved-at : (a : Transfer) (o : Buffer) (n : ℕ) → k ≡ slotOf bufferLimit id → k < bufferLimit → n ≡ max (p .bufferCount) (k + 1) → withBuffers (set (p .buffers) k (movedIn a (getD (p .buffers) k o))) n p ≡ storedBuffer id (movedIn a (buffer id p)) p
   moved-at a o n e h en =
       rw (set-default (movedIn a) (p .buffers) k o noBuffer)
       (buffer-at (movedIn a (getD (p .buffers) k noBuffer)) n e h en ∙ ap (λ (b : Buffer). storedBuffer id (movedIn a b) p) (named-at bufferLimit id k e noBuffer (p .buffers) h))
+
+-- ---------------------------------------------------------------- a transfer
+-- it ends the wait of the process that it names
+ended-stored : (a : Transfer) (p : Partition) → stored (endedId a) (endedAs a (process (endedId a) p)) p ≡ endedBy a p
+ended-stored (Put m) p = stored-out 0 _ p (outside-zero processLimit 0 refl)
+ended-stored (HandedTo id m) p = refl
+ended-stored Taken p = stored-out 0 _ p (outside-zero processLimit 0 refl)
+ended-stored (LetIn id m) p = refl
+
+module _ (a : Transfer) (id : ℕ) (p : Partition) (named : id ≡ endedId a) where
+  pub ended : (x : Process) → x ≡ endedAs a (process id p) → stored id x p ≡ endedBy a p
+  ended x r = rw (r, named) (ended-stored a p)
+
+  module _ (k : ℕ) (e : k ≡ slotOf processLimit id) where
+    pub ended-at : (x : Process) → k < processLimit → x ≡ endedAs a (getD (p .processes) k blankProcess) → stored id x p ≡ endedBy a p
+    ended-at x h r = ended x (r ∙ ap (endedAs a) (named-at processLimit id k e blankProcess (p .processes) h))
+
+    pub none-ended : processLimit ≤ k → p ≡ endedBy a p
+    none-ended h = sym (stored-out id _ p (slot-out processLimit id k e h)) ∙ ended _ refl
 
 -- ---------------------------------------------------------------- two changes
 -- what is left of two changes after n of them, where c is the next and b the second

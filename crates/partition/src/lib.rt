@@ -2,15 +2,17 @@
 ghost use mathlib.Core.Path.{_≡_};
 ghost use Prim.Native.Nat.{_+_, _≤_, _<_, max};
 ghost use mathlib.Core.Bool.{cond, _||_};
-ghost use lib.ListN.{length};
+ghost use mathlib.Core.List.{map};
+ghost use lib.ListN.{length, take};
 ghost use lib.Dec.{eqb};
 ghost use Rattle.partition.specs.Places.{slotOf};
-ghost use Rattle.partition.specs.Waits.{servedWith};
+ghost use Rattle.partition.specs.Waits.{servedWith, endedId, endedAs};
 ghost use Rattle.machine.specs.Limits.{processLimit};
 ghost use Rattle.machine.specs.Ids.{members, idsOf, appended, removed, follow};
+ghost use Rattle.machine.specs.Messages.{queueOf};
 ghost use Rattle.machine.specs.Process as Pr;
-ghost use Rattle.machine.specs.Process.{due, ready, onObject, ticked, entered};
-ghost use Rattle.machine.specs.Partition.{process, stored, arrivedLast, preferred, running, waiters, changedAll, tickPartition, enteredNormal, soonestOf, noted, sooner, nothingCreated, storedEvent, storedBuffer, emptyBuffer, created, applied, partitionAfter};
+ghost use Rattle.machine.specs.Process.{carried, due, ready, onObject, ticked, served, entered};
+ghost use Rattle.machine.specs.Partition.{process, stored, arrivedLast, preferred, running, waiters, firstWaiter, changedAll, tickPartition, enteredNormal, soonestOf, noted, sooner, nothingCreated, storedEvent, storedBuffer, emptyBuffer, created, endedBy, applied, partitionAfter};
 use machine::Buffer;
 use machine::Change;
 use machine::Choice;
@@ -21,6 +23,8 @@ use machine::Ids;
 use machine::Module;
 use machine::Partition;
 use machine::Process;
+use machine::Queue;
+use machine::Transfer;
 
 fn wide(id: u8) -> u32
     ensures { λ r. ⌜ r ≡ id ⌝ }
@@ -172,6 +176,55 @@ pub fn queue_of(p: Partition, object: u16) -> Ids
         i = i + 1;
     }
     found
+}
+
+// The first of the queue of an object, 0 for none.
+pub fn first_waiter(p: Partition, object: u16) -> u8
+    ensures { λ r. ⌜ r ≡ firstWaiter object p ⌝ }
+{
+    let waiting = p.waiting;
+    let n = count(waiting);
+    let mut i: usize = 0;
+    while i < n {
+        let id = waiting.items[i];
+        let k = slot(wide(id), Module::PROCESSES);
+        let mut x = Process::blank();
+        if k < Module::PROCESSES {
+            x = p.processes[k];
+        }
+        if is_on(x, object) {
+            return id;
+        }
+        i = i + 1;
+    }
+    0
+}
+
+// The first n of the queue of an object.
+fn first_waiters(p: Partition, object: u16, n: u8) -> Ids
+    ensures { λ r. ⌜ members r ≡ take n (waiters object p) ⌝ }
+{
+    let mut ids = queue_of(p, object);
+    if n < ids.len {
+        ids.len = n;
+    }
+    ids
+}
+
+// The messages that are kept with their waits.
+pub fn waiting_messages(p: Partition, object: u16, n: u8) -> Queue
+    ensures { λ r. ⌜ r ≡ queueOf (map (λ id. carried (process id p)) (take n (waiters object p))) ⌝ }
+{
+    let ids = first_waiters(p, object, n);
+    let len = count(ids);
+    let mut q = Queue::empty();
+    let mut i: usize = 0;
+    while i < len {
+        let x = process_at(p, wide(ids.items[i]));
+        q = messages::put(q, process::carried_by(x));
+        i = i + 1;
+    }
+    q
 }
 
 // The sooner of a process's wake time and deadline, and a number.
@@ -342,6 +395,46 @@ fn end_waits(p: Partition, ids: Ids, hands: bool, m: u32) -> Partition
     q
 }
 
+// The waits of the first n of the queue of an object end with wake code 0; soonest is set too.
+pub fn let_in(p: Partition, object: u16, n: u8) -> Partition
+    ensures { λ r. ⌜ r ≡ noted (changedAll served (take n (waiters object p)) p) ⌝ }
+{
+    note(end_waits(p, first_waiters(p, object, n), false, 0))
+}
+
+// The process whose wait a transfer ends, 0 for none.
+fn ended_id(a: Transfer) -> u32
+    ensures { λ r. ⌜ r ≡ endedId a ⌝ }
+{
+    match a {
+        Transfer::Put(_) => 0,
+        Transfer::HandedTo(id, _) => wide(id),
+        Transfer::Taken => 0,
+        Transfer::LetIn(id, _) => wide(id),
+    }
+}
+
+// Its record then.
+fn ended_as(x: Process, a: Transfer) -> Process
+    ensures { λ r. ⌜ r ≡ endedAs a x ⌝ }
+{
+    match a {
+        Transfer::Put(_) => x,
+        Transfer::HandedTo(_, m) => process::hand(x, m),
+        Transfer::Taken => x,
+        Transfer::LetIn(_, _) => process::wait_ended(x, 0),
+    }
+}
+
+// The partition of those who wait after a transfer; soonest is set too.
+pub fn after_transfer(p: Partition, a: Transfer) -> Partition
+    ensures { λ r. ⌜ r ≡ noted (endedBy a p) ⌝ }
+{
+    let id = ended_id(a);
+    let x = process_at(p, id);
+    note(store(p, id, ended_as(x, a)))
+}
+
 // Whether a wake time or a deadline has come.
 fn is_touched(x: Process, t: u32) -> bool
     ensures { λ r. ⌜ r ≡ (due t (x .times .wake) || due t (x .times .deadline)) ⌝ }
@@ -460,6 +553,14 @@ fn change(p: Partition, a: Change, b: Change) -> Partition
                     q.buffers[i] = v;
                     q.bufferCount = counted(q.bufferCount, i);
                 }
+                let j = slot(ended_id(m), Module::PROCESSES);
+                if j < Module::PROCESSES {
+                    let old = q.processes[j];
+                    let x = ended_as(old, m);
+                    q.processes[j] = x;
+                    q.arrival = arrival_with(q.arrival, old, x, j);
+                    q.waiting = waiting_with(q.waiting, old, x, j);
+                }
             }
             Change::StoredBlackboard(k, b) => {
                 let i = slot(k, Module::BLACKBOARDS);
@@ -491,5 +592,6 @@ pub fn after(p: Partition, d: Decision) -> Partition
         Decision::Changed(a, b, _) => change(p, a, b),
         Decision::Restarted(mode) => note(nothing_created(mode)),
         Decision::Written(_, _) => note(p),
+        Decision::Passed(_, _, _) => note(p),
     }
 }

@@ -23,30 +23,36 @@ returns-6 c = rw (c .note4 .ensures, c .before .nothing-created .ensures, c .bef
 returns-7 : tie.Need-returns-7
 returns-7 c = rw (c .note5 .ensures, c .before .enum-told4 .given .1)
 
+returns-8 : tie.Need-returns-8
+returns-8 c = rw (c .note6 .ensures, c .before .enum-told5 .given .1)
+
 pub after-spec : {M : Type 1} → statement M
 after-spec =
     tie.close
     (tie.spec
     (λ c. search needs)
-    (λ c κs. search needs)
+    (λ _ _. tt)
     (λ c. search needs)
-    (λ c κs. search needs)
+    (λ _ _. tt)
     (λ c. search needs)
-    (λ c κs. search needs)
+    (λ _ _. tt)
     (λ c. search needs)
-    (λ c κs. search needs)
-    (λ c κs. search needs)
+    (λ _ _. tt)
+    (λ _ _. tt)
     (λ c. search needs)
-    (λ c κs. search needs)
+    (λ _ _. tt)
     (λ c. search needs)
-    (λ c κs. search needs)
-    (λ c κs. search needs)
+    (λ _ _. tt)
+    (λ _ _. tt)
     (λ c. search needs)
-    (λ c κs. search needs)
+    (λ _ _. tt)
+    (λ c. search needs)
+    (λ _ _. tt)
     returns
     returns-2
     returns-3
     returns-4
     returns-5
     returns-6
-    returns-7)
+    returns-7
+    returns-8)

@@ -4,7 +4,7 @@ ghost use mathlib.Core.Bool.{_&&_, _||_};
 ghost use mathlib.Core.List.{[], _∷_};
 ghost use lib.Dec.{eqb, ltb};
 ghost use Rattle.machine.specs.Fields.{isNumber};
-ghost use Rattle.machine.specs.Decisions.{coded, codeOf, replyOf, changes, restarts, writtenAt, messageOf, noMessage, changed, blocked, creationChecks, waitChecks, unknown};
+ghost use Rattle.machine.specs.Decisions.{coded, codeOf, replyOf, changes, restarts, writtenAt, messageOf, passedAt, transferOf, noMessage, changed, blocked, creationChecks, waitChecks, unknown};
 use machine::Change;
 use machine::Context;
 use machine::Decision;
@@ -14,6 +14,7 @@ use machine::Module;
 use machine::Process;
 use machine::Reply;
 use machine::Time;
+use machine::Transfer;
 
 // ---------------------------------------------------------------- decisions
 fn reply(code: u8, value: u32, extra: Time) -> Reply
@@ -41,6 +42,7 @@ pub fn reply_of(d: Decision) -> Reply
         Decision::Changed(_, _, value) => reply(0, value, Time::At(0)),
         Decision::Restarted(_) => reply_with(0),
         Decision::Written(_, _) => reply_with(0),
+        Decision::Passed(_, _, value) => reply(0, value, Time::At(0)),
     }
 }
 
@@ -56,6 +58,7 @@ pub fn does_change(d: Decision) -> bool
         Decision::Changed(_, _, _) => true,
         Decision::Restarted(_) => true,
         Decision::Written(_, _) => false,
+        Decision::Passed(_, _, _) => false,
     }
 }
 
@@ -70,6 +73,7 @@ pub fn is_restart(d: Decision) -> bool
         Decision::Changed(_, _, _) => false,
         Decision::Restarted(_) => true,
         Decision::Written(_, _) => false,
+        Decision::Passed(_, _, _) => false,
     }
 }
 
@@ -85,6 +89,7 @@ pub fn written_at(d: Decision) -> usize
         Decision::Changed(_, _, _) => Module::CHANNELS,
         Decision::Restarted(_) => Module::CHANNELS,
         Decision::Written(i, _) => i as usize,
+        Decision::Passed(_, _, _) => Module::CHANNELS,
     }
 }
 
@@ -110,6 +115,39 @@ pub fn message_of(d: Decision) -> Message
         Decision::Changed(_, _, _) => no_message(),
         Decision::Restarted(_) => no_message(),
         Decision::Written(_, x) => x,
+        Decision::Passed(_, _, _) => no_message(),
+    }
+}
+
+// The place of the channel on which it makes a transfer, past the last for none.
+pub fn passed_at(d: Decision) -> usize
+    ensures { λ r. ⌜ r ≡ passedAt d ⌝ }
+{
+    match d {
+        Decision::Refused(_) => Module::CHANNELS,
+        Decision::Unchanged(_, _) => Module::CHANNELS,
+        Decision::Ticked => Module::CHANNELS,
+        Decision::Blocked(_, _) => Module::CHANNELS,
+        Decision::Changed(_, _, _) => Module::CHANNELS,
+        Decision::Restarted(_) => Module::CHANNELS,
+        Decision::Written(_, _) => Module::CHANNELS,
+        Decision::Passed(i, _, _) => i as usize,
+    }
+}
+
+// The transfer that it makes there.
+pub fn transfer_of(d: Decision) -> Transfer
+    ensures { λ r. ⌜ r ≡ transferOf d ⌝ }
+{
+    match d {
+        Decision::Refused(_) => Transfer::Taken,
+        Decision::Unchanged(_, _) => Transfer::Taken,
+        Decision::Ticked => Transfer::Taken,
+        Decision::Blocked(_, _) => Transfer::Taken,
+        Decision::Changed(_, _, _) => Transfer::Taken,
+        Decision::Restarted(_) => Transfer::Taken,
+        Decision::Written(_, _) => Transfer::Taken,
+        Decision::Passed(_, a, _) => a,
     }
 }
 

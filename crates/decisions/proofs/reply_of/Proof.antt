@@ -23,10 +23,15 @@ returns-6 c = rw (c .before .enum-told3 .given .1, c .reply-with4 .ensures)
 returns-7 : tie.Need-returns-7
 returns-7 c = rw (c .before .enum-told4 .given .1, c .reply-with5 .ensures)
 
+returns-8 : tie.Need-returns-8
+returns-8 c = rw (c .before .before .d4 .given .1, c .reply3 .ensures)
+
 pub reply-of-spec : {M : Type 1} → statement M
 reply-of-spec =
     tie.close
     (tie.spec
+    (λ c. search needs)
+    (λ c κs. search needs)
     (λ c. search needs)
     (λ c κs. search needs)
     (λ c. search needs)
@@ -47,4 +52,5 @@ reply-of-spec =
     returns-4
     returns-5
     returns-6
-    returns-7)
+    returns-7
+    returns-8)

@@ -3,9 +3,9 @@ ghost use mathlib.Core.Path.{_≡_};
 ghost use mathlib.Core.Bool.{_&&_};
 ghost use lib.ListN.{take};
 ghost use Rattle.machine.specs.Limits.{messageLimit};
-ghost use Rattle.machine.specs.Fields.{isName, isMessage, isTimeout, between};
-ghost use Rattle.machine.specs.Partition.{buffer, waiters};
-ghost use Rattle.machine.specs.Buffers.{bufferNamed, createBuffer, hasRoom, sent, sendBuffer, received, receiveBuffer};
+ghost use Rattle.machine.specs.Fields.{isName, between};
+ghost use Rattle.machine.specs.Partition.{buffer};
+ghost use Rattle.machine.specs.Buffers.{bufferNamed, createBuffer, hasRoom, sendBuffer, receiveBuffer};
 use machine::Buffer;
 use machine::Change;
 use machine::Context;
@@ -13,7 +13,6 @@ use machine::Decision;
 use machine::Field;
 use machine::Module;
 use machine::Partition;
-use machine::QueueChange;
 use machine::Wait;
 
 pub fn buffer_at(p: Partition, k: u32) -> Buffer
@@ -84,30 +83,6 @@ fn has_room(b: Buffer) -> bool
     q.len < b.limit
 }
 
-// What SEND_BUFFER admits.
-fn is_sending_admitted(m: Field, a: Field) -> bool
-    ensures { λ r. ⌜ r ≡ isMessage m && isTimeout a ⌝ }
-{
-    if fields::is_message(m) {
-        fields::is_timeout(a)
-    } else {
-        false
-    }
-}
-
-// The message goes to the first receiver that waits for this object; none: it joins the buffer's messages.
-fn send_change(p: Partition, k: u32, o: u16, m: u32) -> Change
-    ensures { λ r. ⌜ r ≡ sent (waiters o p) k m p ⌝ }
-{
-    let q = partition::queue_of(p, o);
-    if q.len == 0 {
-        return Change::Moved(k, QueueChange::Put(m));
-    }
-    let receiver = q.items[0] as u32;
-    let x = partition::process_at(p, receiver);
-    Change::Stored(receiver, process::hand(x, m))
-}
-
 pub const SEND_BUFFER_FIELDS: u8 = 3;
 
 // 24 SEND_BUFFER
@@ -115,33 +90,13 @@ pub fn send_buffer(p: Partition, c: Context, k: u32, m: Field, a: Field) -> Deci
     ensures { λ r. ⌜ r ≡ sendBuffer c k m a p ⌝ }
 {
     let unknown = decisions::is_unknown(k, p.bufferCount);
-    let code = decisions::wait_code(unknown, p.mode != 3, is_sending_admitted(m, a));
+    let code = decisions::wait_code(unknown, p.mode != 3, objects::is_sending_admitted(m, a));
     let id = objects::short_id(k);
-    let o = process::object_of(Wait::Receiving(id));
+    let receiver = partition::first_waiter(p, process::object_of(Wait::Receiving(id)));
     let n = fields::number_of(m);
-    let success = decisions::changed(send_change(p, k, o, n));
+    let success = decisions::changed(Change::Moved(k, messages::sent_to(receiver, n)));
     let passes = has_room(buffer_at(p, k));
     objects::awaited(p, c, code, a, passes, success, Wait::Sending(id, n))
-}
-
-// The first message leaves; where a sender waits for this object, the first one's message is let in and its wait ends.
-fn receive_first(p: Partition, k: u32, b: Buffer, o: u16) -> Decision
-    requires { ⌜ b ≡ buffer k p ⌝ }
-    ensures { λ r. ⌜ r ≡ received (waiters o p) k p ⌝ }
-{
-    let first = messages::first_of(b.queue);
-    let q = partition::queue_of(p, o);
-    if q.len == 0 {
-        return Decision::Changed(Change::Moved(k, QueueChange::Taken), Change::Nothing, first);
-    }
-    let sender = q.items[0] as u32;
-    let x = partition::process_at(p, sender);
-    let m = process::carried_by(x);
-    Decision::Changed(
-        Change::Moved(k, QueueChange::Exchanged(m)),
-        Change::Stored(sender, process::wait_ended(x, 0)),
-        first,
-    )
 }
 
 pub const RECEIVE_BUFFER_FIELDS: u8 = 2;
@@ -153,9 +108,14 @@ pub fn receive_buffer(p: Partition, c: Context, k: u32, a: Field) -> Decision
     let unknown = decisions::is_unknown(k, p.bufferCount);
     let code = decisions::wait_code(unknown, p.mode != 3, fields::is_timeout(a));
     let id = objects::short_id(k);
-    let o = process::object_of(Wait::Sending(id, 0));
+    let sender = partition::first_waiter(p, process::object_of(Wait::Sending(id, 0)));
+    let m = process::carried_by(partition::process_at(p, sender as u32));
     let b = buffer_at(p, k);
-    let success = receive_first(p, k, b, o);
     let q = b.queue;
+    let success = Decision::Changed(
+        Change::Moved(k, messages::received_from(sender, m)),
+        Change::Nothing,
+        messages::first_of(q),
+    );
     objects::awaited(p, c, code, a, 0 < q.len, success, Wait::Receiving(id))
 }

@@ -5,7 +5,7 @@ ghost use mathlib.Core.Bool.{cond, _&&_};
 ghost use lib.Dec.{eqb, leb};
 ghost use lib.ListN.{take};
 ghost use Rattle.machine.specs.Limits.{valueLimit};
-ghost use Rattle.machine.specs.Fields.{isName, between, numberOf};
+ghost use Rattle.machine.specs.Fields.{isName, isMessage, isTimeout, between, numberOf};
 ghost use Rattle.machine.specs.declared.Decision.the-variants.{Refused};
 ghost use Rattle.machine.specs.declared.Change.the-variants.{StoredSemaphore, StoredEvent};
 ghost use Rattle.machine.specs.Partition.{semaphore, event, noSemaphore, noEvent, waiters};
@@ -178,6 +178,17 @@ fn wait_queued(p: Partition, c: Context, a: Field, wait: Wait) -> Decision
     let x = partition::process_at(p, decisions::caller_of(c));
     let until = process::later_time(Time::At(c.time), fields::time_of(a));
     decisions::block(c.caller, process::waiting_for(x, wait, until))
+}
+
+// What a send that may wait admits.
+pub fn is_sending_admitted(m: Field, a: Field) -> bool
+    ensures { λ r. ⌜ r ≡ isMessage m && isTimeout a ⌝ }
+{
+    if fields::is_message(m) {
+        fields::is_timeout(a)
+    } else {
+        false
+    }
 }
 
 // A call that waits with time-out a, by the code of its checks: where it need not wait, success.

@@ -1,5 +1,5 @@
-use Rattle.buffers.proofs.is_sending_admitted.Statement.{statement}
-use Rattle.buffers.proofs.is_sending_admitted.Tie as tie
+use Rattle.objects.proofs.is_sending_admitted.Statement.{statement}
+use Rattle.objects.proofs.is_sending_admitted.Tie as tie
 
 returns : tie.Need-returns
 returns c = rw (← c .before .before .is-message .ensures, c .before .if1 .taken) (c .is-timeout .ensures)

@@ -25,25 +25,25 @@ pub no-channel : (T : Table) (i : ℕ) → length (T .channels) ≡ channelLimit
 no-channel T i long h = sym (List·getD-eq-default (T .channels) noChannel (omega arith))
 
 -- n is the code of the checks on the end wanted; then one check more
-module _ (x : Port) (wanted n : ℕ) (e : n ≡ codeOf (channelChecks x wanted)) where
-  some : codesIn (leb 1) (channelChecks x wanted) ≡ true
+module _ (x : Port) (otherKind : Bool) (wanted n : ℕ) (e : n ≡ codeOf (channelChecks x otherKind wanted)) where
+  pub some : codesIn (leb 1) (channelChecks x otherKind wanted) ≡ true
   unfolding channelChecks
   some = refl
 
-  next : (b : Bool) (code : ℕ) (d : Decision) → n ≡ 0 → checked Refused ((b, code) ∷ []) d ≡ checked Refused (channelChecks x wanted) (checked Refused ((b, code) ∷ []) d)
-  next b code d z = passed-code (channelChecks x wanted) n e (checked Refused ((b, code) ∷ []) d) some z .0
+  next : (b : Bool) (code : ℕ) (d : Decision) → n ≡ 0 → checked Refused ((b, code) ∷ []) d ≡ checked Refused (channelChecks x otherKind wanted) (checked Refused ((b, code) ∷ []) d)
+  next b code d z = passed-code (channelChecks x otherKind wanted) n e (checked Refused ((b, code) ∷ []) d) some z .0
 
-  pub end-refused : (d : Decision) → (n ≡ 0 → ⊥) → Refused n ≡ checked Refused (channelChecks x wanted) d
-  end-refused d h = refused-code (channelChecks x wanted) n e d h
+  pub end-refused : (d : Decision) → (n ≡ 0 → ⊥) → Refused n ≡ checked Refused (channelChecks x otherKind wanted) d
+  end-refused d h = refused-code (channelChecks x otherKind wanted) n e d h
 
-  pub next-refused : (b : Bool) (code : ℕ) (d : Decision) → n ≡ 0 → b ≡ true → Refused code ≡ checked Refused (channelChecks x wanted) (checked Refused ((b, code) ∷ []) d)
+  pub next-refused : (b : Bool) (code : ℕ) (d : Decision) → n ≡ 0 → b ≡ true → Refused code ≡ checked Refused (channelChecks x otherKind wanted) (checked Refused ((b, code) ∷ []) d)
   unfolding checked
   next-refused b code d z h = first ∙ next b code d z
     where
       first : Refused code ≡ checked Refused ((b, code) ∷ []) d
       first = rw h
 
-  pub next-passed : (b : Bool) (code : ℕ) (d : Decision) → n ≡ 0 → b ≡ false → d ≡ checked Refused (channelChecks x wanted) (checked Refused ((b, code) ∷ []) d)
+  pub next-passed : (b : Bool) (code : ℕ) (d : Decision) → n ≡ 0 → b ≡ false → d ≡ checked Refused (channelChecks x otherKind wanted) (checked Refused ((b, code) ∷ []) d)
   unfolding checked
   next-passed b code d z h = first ∙ next b code d z
     where

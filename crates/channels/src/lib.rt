@@ -1,13 +1,14 @@
-// Sampling channels: calls 21 and 22, and what a restart erases.
+// What a call sees of a channel; sampling channels: calls 21 and 22, and what a restart erases.
 ghost use mathlib.Core.Path.{_≡_};
 ghost use Prim.Native.Nat.{_-_};
 ghost use mathlib.Core.Bool.{cond};
 ghost use lib.Dec.{leb};
-ghost use Rattle.machine.specs.Limits.{channelLimit};
+ghost use Rattle.machine.specs.Limits.{partitionLimit, channelLimit};
 ghost use Rattle.machine.specs.Fields.{numberOf};
 ghost use Rattle.machine.specs.Decisions.{codeOf};
+ghost use Rattle.machine.specs.Partition.{within};
 ghost use Rattle.machine.specs.Module.{channel};
-ghost use Rattle.machine.specs.Channels.{seenAt, portAt, apart, channelChecks, write, read, keptTo};
+ghost use Rattle.machine.specs.Channels.{queuing, seenAt, portAt, apart, channelChecks, write, read, keptTo};
 use machine::Channel;
 use machine::Context;
 use machine::Decision;
@@ -17,6 +18,7 @@ use machine::Module;
 use machine::Port;
 use machine::Table;
 use machine::Time;
+use machine::Traffic;
 
 // What the channels hold, in the order of their numbers.
 pub struct Messages {
@@ -35,7 +37,7 @@ pub fn place_of(a: Field) -> u32
     n - 1
 }
 
-fn channel_at(table: Table, i: u32) -> Channel
+pub fn channel_at(table: Table, i: u32) -> Channel
     ensures { λ c. ⌜ c ≡ channel table i ⌝ }
 {
     let at = i as usize;
@@ -46,6 +48,7 @@ fn channel_at(table: Table, i: u32) -> Channel
         source: 0,
         destination: 0,
         refresh: 0,
+        size: 0,
     }
 }
 
@@ -59,9 +62,9 @@ fn seen_at(k: u32, c: Channel, x: Message) -> Message
     decisions::no_message()
 }
 
-// What partition k sees of the channel that a names, on which x lies.
-pub fn port_at(table: Table, k: u32, a: Field, x: Message) -> Port
-    ensures { λ y. ⌜ y ≡ portAt table k a x ⌝ }
+// What partition k sees of the channel that a names, on which x lies, with this traffic.
+pub fn port_at(table: Table, k: u32, a: Field, x: Message, traffic: Traffic) -> Port
+    ensures { λ y. ⌜ y ≡ portAt table k a x traffic ⌝ }
 {
     let place = place_of(a);
     let channel = channel_at(table, place);
@@ -71,12 +74,35 @@ pub fn port_at(table: Table, k: u32, a: Field, x: Message) -> Port
         exists: fields::is_between(a, 1, table.channelCount as u32),
         channel,
         message: seen_at(k, channel, x),
+        traffic,
     }
 }
 
-// ---------------------------------------------------------------- the calls
+// Whether the record has a place for partition k.
+fn has_place(k: u8) -> bool
+    ensures { λ b. ⌜ b ≡ within partitionLimit k ⌝ }
+{
+    if k == 0 {
+        return false;
+    }
+    k as usize <= Module::PARTITIONS
+}
+
+// Whether a channel is queuing; else it is sampling.
+pub fn is_queuing(c: Channel) -> bool
+    ensures { λ b. ⌜ b ≡ queuing c ⌝ }
+{
+    if c.size == 0 {
+        return false;
+    }
+    if !has_place(c.source) {
+        return false;
+    }
+    has_place(c.destination)
+}
+
 // Whether partition k is at neither end.
-fn is_apart(c: Channel, k: u32) -> bool
+pub fn is_apart(c: Channel, k: u32) -> bool
     ensures { λ b. ⌜ b ≡ apart k c ⌝ }
 {
     if c.source as u32 == k {
@@ -85,12 +111,16 @@ fn is_apart(c: Channel, k: u32) -> bool
     c.destination as u32 != k
 }
 
-// 3 or 5 of WRITE and READ, by the end that the caller's partition must be; 0 where neither refuses.
-fn end_code(x: Port, wanted: u8) -> u8
-    ensures { λ n. ⌜ n ≡ codeOf (channelChecks x wanted) ⌝ }
+// ---------------------------------------------------------------- the calls
+// 3 or 5 of a call on a channel, by whether it is one of the other kind and by the end that the caller's partition must be; 0 where neither refuses.
+pub fn end_code(x: Port, other: bool, wanted: u8) -> u8
+    ensures { λ n. ⌜ n ≡ codeOf (channelChecks x other wanted) ⌝ }
 {
     let channel = x.channel;
     if !x.exists {
+        return 3;
+    }
+    if other {
         return 3;
     }
     if is_apart(channel, x.own) {
@@ -110,7 +140,7 @@ pub fn write_channel(c: Context, x: Port, a: Field) -> Decision
     ensures { λ d. ⌜ d ≡ write c x a ⌝ }
 {
     let channel = x.channel;
-    let code = end_code(x, channel.source);
+    let code = end_code(x, is_queuing(channel), channel.source);
     if code != 0 {
         return Decision::Refused(code);
     }
@@ -147,7 +177,7 @@ pub fn read_channel(c: Context, x: Port) -> Decision
 {
     let channel = x.channel;
     let message = x.message;
-    let code = end_code(x, channel.destination);
+    let code = end_code(x, is_queuing(channel), channel.destination);
     if code != 0 {
         return Decision::Refused(code);
     }

@@ -37,12 +37,11 @@ pub fn place_of(a: Field) -> u32
     n - 1
 }
 
-pub fn channel_at(table: Table, i: u32) -> Channel
+pub fn channel_at(table: Table, i: usize) -> Channel
     ensures { λ c. ⌜ c ≡ channel table i ⌝ }
 {
-    let at = i as usize;
-    if at < Module::CHANNELS {
-        return table.channels[at];
+    if i < Module::CHANNELS {
+        return table.channels[i];
     }
     Channel {
         source: 0,
@@ -67,7 +66,7 @@ pub fn port_at(table: Table, k: u32, a: Field, x: Message, traffic: Traffic) -> 
     ensures { λ y. ⌜ y ≡ portAt table k a x traffic ⌝ }
 {
     let place = place_of(a);
-    let channel = channel_at(table, place);
+    let channel = channel_at(table, place as usize);
     Port {
         own: k,
         place,

@@ -1,6 +1,7 @@
-// Calls 1 to 29 by number: the fields that each uses, and what it decides.
+// Calls 1 to 31 by number: the fields that each uses, and what it decides.
 ghost use mathlib.Core.Path.{_≡_};
 ghost use Rattle.machine.specs.Services.{serviceOf, called};
+ghost use Rattle.queuing.specs.Ports.{Placed};
 use machine::Context;
 use machine::Decision;
 use machine::Field;
@@ -42,13 +43,15 @@ pub fn fields_of(n: u32) -> u8
         27 => blackboards::SHOW_FIELDS,
         28 => blackboards::READ_BLACKBOARD_FIELDS,
         29 => blackboards::CLEAR_FIELDS,
+        30 => queuing::SEND_FIELDS,
+        31 => queuing::RECEIVE_FIELDS,
         _ => 0,
     }
 }
 
 // 9, then what call n decides of its partition's record; another number decides nothing.
 pub fn call(p: Partition, c: Context, x: Port, n: u32, r: Request) -> Decision
-    ensures { λ d. ⌜ d ≡ called c x n r p ⌝ }
+    ensures { λ d. ⌜ (Placed x → d ≡ called c x n r p) ⌝ }
 {
     if decisions::has_no_caller(p.mode, c.caller) {
         return Decision::Refused(9);
@@ -87,6 +90,8 @@ pub fn call(p: Partition, c: Context, x: Port, n: u32, r: Request) -> Decision
         27 => blackboards::show_blackboard(p, id, b),
         28 => blackboards::read_blackboard(p, c, id, b),
         29 => blackboards::clear_blackboard(p, id),
+        30 => queuing::send_channel(p, c, x, b, third),
+        31 => queuing::receive_channel(p, c, x, b),
         _ => Decision::Refused(13),
     }
 }

@@ -120,8 +120,16 @@ unfolding services
 returns-29 c = rw (c .match .keys29)
 
 returns-30 : tie.Need-returns-30
+unfolding services
+returns-30 c = rw (c .match .keys30)
+
+returns-31 : tie.Need-returns-31
+unfolding services
+returns-31 c = rw (c .match .keys31)
+
+returns-32 : tie.Need-returns-32
 unfolding NoneTo
-returns-30 c = rw (none-left (c .before .args .n) (c .match .rest))
+returns-32 c = rw (none-left (c .before .args .n) (c .match .rest))
 
 pub fields-of-spec : {M : Type 1} → statement M
 fields-of-spec =
@@ -156,4 +164,6 @@ fields-of-spec =
     returns-27
     returns-28
     returns-29
-    returns-30)
+    returns-30
+    returns-31
+    returns-32)

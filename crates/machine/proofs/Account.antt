@@ -571,7 +571,7 @@ module _ (j : ℕ) (m : Module) (s : SoundModule m) (e : EventT) (es : List Even
         rw d (receive-even (no-call 24 not-send) from on stays .is))
         (λ (not-receive : n ≡ 25 → numberOf (r .a) ≡ j → ⊥).
         calm-even (made m s r c) (made-sound m s r c) (made-body m s r c) (call-order ctx p (portOf m k r) n r .is)
-        (call-calm 3 j of-buffers few n (r .a) ctx p own-valid sound-ctx (λ _ z. omega (arith, known .1)) (portOf m k r) (port-sound m s r c .placed) r refl (λ _. not-send) (λ _. not-receive) (λ z. absurd (omega arith)) .is)
+        (call-calm 3 j of-buffers few n (r .a) ctx p own-valid sound-ctx (λ _ z. omega (arith, known .1)) (portOf m k r) r refl (λ _. not-send) (λ _. not-receive) (λ z. absurd (omega arith)) .is)
         lasts code (no-call 24 not-send) (no-call 25 not-receive))
         (both n 25 (numberOf (r .a)) j))
         (both n 24 (numberOf (r .a)) j)

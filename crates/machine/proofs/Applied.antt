@@ -1,7 +1,7 @@
 -- What a call's decision leaves of the module, by the questions that are put to it: whether it changes the caller's partition, whether it
 -- restarts it, where it leaves a message, and where it makes a transfer. Assumes nothing.
 use Prim.Native.Nat.{ℕ, zero, suc, _-_, _≤_, _<_}
-use mathlib.Core.Path.{_≡_, refl, sym, ap, _∙_, subst}
+use mathlib.Core.Path.{_≡_, refl, sym, ap, subst}
 use mathlib.Core.Bool.{Bool, true, false, _&&_, true≢false}
 use mathlib.Core.List.{List, [], _∷_}
 use native.Mathlib.Omega.{arith}
@@ -15,16 +15,11 @@ use Rattle.machine.specs.declared.Module.{Module}
 use Rattle.machine.specs.declared.Partition.{Partition}
 use Rattle.machine.specs.declared.Port.{Port}
 use Rattle.machine.specs.declared.Request.{Request}
-use Rattle.machine.specs.declared.Table.{Table}
-use Rattle.machine.specs.declared.Field.{Field}
-use Rattle.machine.specs.declared.Message.{Message}
-use Rattle.machine.specs.declared.Traffic.{Traffic}
-use Rattle.machine.specs.Fields.{numberOf}
 use Rattle.machine.specs.Limits.{channelLimit, callLimit}
 use Rattle.machine.specs.Partition.{partitionAfter}
 use Rattle.machine.specs.Decisions.{changes, restarts, writtenAt, messageOf, passedAt, transferOf}
-use Rattle.machine.specs.Module.{noChannel, part, withPart, withMessage}
-use Rattle.machine.specs.Channels.{queuing, portAt, passed}
+use Rattle.machine.specs.Module.{part, withPart, withMessage}
+use Rattle.machine.specs.Channels.{passed}
 use Rattle.machine.specs.Services.{Service, services, noService, serviceOf, callDecision, called}
 use Rattle.machine.specs.Step.{restarted, moduleAfter}
 use Rattle.machine.proofs.Tests.{by-test, by-checks, and-left, and-right, not-both}
@@ -45,24 +40,15 @@ NoTick (Passed i a value) = i < channelLimit
 pub record Call (d : Decision) : Type 0 where
   pub is : NoTick d
 
--- a queuing channel that a call sees has a place
-abbrev pub Placed : Port → Type 0
-Placed x = queuing (x .channel) ≡ true → x .place < channelLimit
-
-pub port-placed : (T : Table) (k : ℕ) (a : Field) (x : Message) (y : Traffic) → length (T .channels) ≡ channelLimit → Placed (portAt T k a x y)
-port-placed T k a x y long h = either (leb channelLimit (numberOf a - 1))
-    (λ e. let g = leb-true channelLimit (numberOf a - 1) e in absurd (true≢false (sym h ∙ ap queuing (List·getD-eq-default (T .channels) noChannel (omega arith)))))
-    (λ e. leb-false channelLimit (numberOf a - 1) e)
-
-body-no-tick : (x : Port) (n : ℕ) → Placed x → (d : Decision) → Bodily x n d → NoTick d
-body-no-tick x n o (Refused m) h = tt
-body-no-tick x n o (Unchanged v e) h = tt
-body-no-tick x n o Ticked h = h
-body-no-tick x n o (Blocked id y) h = tt
-body-no-tick x n o (Changed a b v) h = tt
-body-no-tick x n o (Restarted mode) h = tt
-body-no-tick x n o (Written i y) h = tt
-body-no-tick x n o (Passed i a v) h = let g = o (h .kind) in omega (arith, h .place)
+body-no-tick : (x : Port) (n : ℕ) (d : Decision) → Bodily x n d → NoTick d
+body-no-tick x n (Refused m) h = tt
+body-no-tick x n (Unchanged v e) h = tt
+body-no-tick x n Ticked h = h
+body-no-tick x n (Blocked id y) h = tt
+body-no-tick x n (Changed a b v) h = tt
+body-no-tick x n (Restarted mode) h = tt
+body-no-tick x n (Written i y) h = tt
+body-no-tick x n (Passed i a v) h = omega (arith, h .place, h .placed)
 
 -- another number is no call
 pub no-service : (n : ℕ) → (1 ≤ n → n ≤ callLimit → ⊥) → serviceOf n ≡ noService
@@ -73,10 +59,10 @@ no-service n out = by-test (λ (s : Service). s ≡ noService) (eqb n 0) (λ _. 
     past : (n : ℕ) → (n ≡ 0 → ⊥) → (1 ≤ n → n ≤ callLimit → ⊥) → callLimit ≤ n - 1
     past n some out = either (leb n callLimit) (λ e. absurd (out (omega (arith, some)) (leb-true n callLimit e))) (λ e. let h = leb-false n callLimit e in omega arith)
 
-pub called-no-tick : (c : Context) (x : Port) (n : ℕ) (r : Request) (p : Partition) → Placed x → Call (called c x n r p)
+pub called-no-tick : (c : Context) (x : Port) (n : ℕ) (r : Request) (p : Partition) → Call (called c x n r p)
 unfolding callDecision
-called-no-tick c x n r p o = by-checks Call Refused _ _ (λ m. record { is = tt }) (λ _. either (leb 1 n && leb n callLimit)
-    (λ e. record { is = body-no-tick x n o (callDecision c x n r p) (call-body x n c r p (leb-true 1 n (and-left (leb 1 n) _ e)) (leb-true n callLimit (and-right (leb 1 n) _ e)) .is) })
+called-no-tick c x n r p = by-checks Call Refused _ _ (λ m. record { is = tt }) (λ _. either (leb 1 n && leb n callLimit)
+    (λ e. record { is = body-no-tick x n (callDecision c x n r p) (call-body x n c r p (leb-true 1 n (and-left (leb 1 n) _ e)) (leb-true n callLimit (and-right (leb 1 n) _ e)) .is) })
     (λ e. subst (λ (s : Service). Call (s .decides c x r p)) (sym (no-service n (λ lo hi. not-both _ (rw (le-leb 1 n lo, le-leb n callLimit hi)) e))) (record { is = tt })))
 
 set-past : {A : Type 0} (l : List A) (i : ℕ) (a : A) → length l ≤ i → set l i a ≡ l

@@ -47,7 +47,7 @@ use Rattle.machine.specs.Module.{noPartition, emptyTable, emptyModule, f
 use Rattle.machine.specs.Step.{contextOf, decision, moduleAfter, step}
 use Rattle.machine.specs.Valid.{Between, contains, KnownWait, SoundBuffer, SoundMove, SoundEnd, ListedIn, settingOf, Valid, SoundContext, SoundDecision, SoundModule, Reached, plainTick}
 use Rattle.machine.specs.Queues.{available, queueNumber, NoneWaits, SameObjects}
-use Rattle.machine.proofs.Tests.{by-test, by-checks, Passed, not-both, and-left}
+use Rattle.machine.proofs.Tests.{by-test, by-checks, Passed, not-both, and-left, and-right}
 use Rattle.machine.proofs.Bounds.{either, same-or-not, or-false-parts, known-id, within-in, within-out, named-out, named-same, named-other, semaphore-in, semaphore-out, event-in, event-out, buffer-in, buffer-out, blackboard-in, blackboard-out}
 use Rattle.machine.proofs.Messages.{let-in-length}
 use Rattle.machine.proofs.Fields.{in-limits}
@@ -55,7 +55,6 @@ use Rattle.machine.proofs.Keeping.{AllCreated, stored-listed, stored-re
 use Rattle.machine.proofs.Sound.{ready-off}
 use Rattle.machine.proofs.Dispatch.{by-call, Calls, by-event}
 use Rattle.machine.proofs.Bodies.{Bodily}
-use Rattle.machine.proofs.Applied.{Placed}
 use Rattle.machine.proofs.Kept.{Caller, waiters-created, waiters-exact, firsts-created, nothing-valid, change-valid, normal-caller, in-normal, sent-sound, received-sound, end-same}
 use Rattle.machine.proofs.Reached.{at-set, plain-part, tick-module-plain, place, context-sound, made, made-sound, made-body, port-sound, valid-sound, reached-valid, part-sound, erased-sound, refilled-keeps, on-queue, transfer-sound}
 use Rattle.machine.proofs.Answers.{decided-table}
@@ -285,7 +284,7 @@ module _ (x : Port) (n : ℕ) where
   pub record IsFair (p : Partition) (d : Decision) : Type 0 where
     pub is : Fair p d
 
-module _ (c : Context) (p : Partition) (v : Valid (c .frame) (c .time) p) (s : SoundContext c p) (x : Port) (placed : Placed x) (n : ℕ) where
+module _ (c : Context) (p : Partition) (v : Valid (c .frame) (c .time) p) (s : SoundContext c p) (x : Port) (n : ℕ) where
   fair-checks : (l : List (Bool × ℕ)) (d : Decision) → (Passed l → IsFair x n p d) → IsFair x n p (checked Refused l d)
   fair-checks l d f = by-checks (IsFair x n p) Refused l d (λ n. record { is = tt }) f
 
@@ -465,19 +464,21 @@ module _ (c : Context) (p : Partition) (v : Valid (c .frame) (c .time) p) (s : S
   send-channel-fair : n ≡ 30 → (m a : Field) → IsFair x n p (send c x m a p)
   unfolding send awaiting queued blocked channelChecks Passed
   send-channel-fair call m a = fair-checks _ _ (λ h.
-      let k = placed (not-false _ (h .1 .0)) in
+      let on = not-false _ (h .1 .0) in
+      let k = ltb-true (x .place) channelLimit (and-right (queuing (x .channel)) _ on) in
       by-test (IsFair x n p) (ltb (x .traffic .len) (x .channel .size)) (λ _. fair tt) (λ e. fair-checks _ _ (λ _. fair (
         at-end (Source (x .place + 1) (numberOf m)) 6 (x .place + 1) refl (omega arith),
-        (λ j few o. record { call = call; place = omega arith; there = not-false _ (h .0); kind = not-false _ (h .1 .0); source = eqb-true _ _ (not-false _ (h .1 .1 .1 .0)); full = ltb-false _ _ e }, λ j few o. absurd (omega arith)),
+        (λ j few o. record { call = call; place = omega arith; there = not-false _ (h .0); kind = and-left (queuing (x .channel)) _ on; source = eqb-true _ _ (not-false _ (h .1 .1 .1 .0)); full = ltb-false _ _ e }, λ j few o. absurd (omega arith)),
       ))))
 
   receive-channel-fair : n ≡ 31 → (a : Field) → IsFair x n p (receive c x a p)
   unfolding receive awaiting queued blocked channelChecks Passed
   receive-channel-fair call a = fair-checks _ _ (λ h.
-      let k = placed (not-false _ (h .1 .0)) in
+      let on = not-false _ (h .1 .0) in
+      let k = ltb-true (x .place) channelLimit (and-right (queuing (x .channel)) _ on) in
       by-test (IsFair x n p) (ltb 0 (x .traffic .len)) (λ _. fair tt) (λ e. fair-checks _ _ (λ _. fair (
         at-end (Destination (x .place + 1)) 7 (x .place + 1) refl (omega arith),
-        (λ j few o. absurd (omega arith), λ j few o. record { call = call; place = omega arith; there = not-false _ (h .0); kind = not-false _ (h .1 .0); destination = eqb-true _ _ (not-false _ (h .1 .1 .1 .0)); empty = let z : x .traffic .len ≤ 0 = ltb-false 0 _ e in omega arith }),
+        (λ j few o. absurd (omega arith), λ j few o. record { call = call; place = omega arith; there = not-false _ (h .0); kind = and-left (queuing (x .channel)) _ on; destination = eqb-true _ _ (not-false _ (h .1 .1 .1 .0)); empty = let z : x .traffic .len ≤ 0 = ltb-false 0 _ e in omega arith }),
       ))))
 
   -- ------------------------------------------------------------ blackboards
@@ -644,7 +645,7 @@ module _ (m : Module) (s : SoundModule m) (none : (i : ℕ) → i < m .table .si
       let here = place m s r q in
       decided-none r q (made m s r q) (made-sound m s r q) (made-body m s r q)
       (call-order (contextOf m n) (part m (n - 1)) (portOf m n r) (numberOf (r .call)) r .is)
-      (call-fair (contextOf m n) (part m (n - 1)) (s .eachPartition (n - 1) here) (context-sound m s r q) (portOf m n r) (port-sound m s r q .placed) (numberOf (r .call)) r .is))
+      (call-fair (contextOf m n) (part m (n - 1)) (s .eachPartition (n - 1) here) (context-sound m s r q) (portOf m n r) (numberOf (r .call)) r .is))
 
 fresh-none : NoneWaits freshPartition
 unfolding freshPartition waiters kept

@@ -22,12 +22,12 @@ use Rattle.machine.specs.Messages.{sent, received}
 use Rattle.machine.specs.Decisions.{checked, replyOf, blocked, startMode, waitChecks, queued, awaiting}
 use Rattle.machine.specs.Calls.{setMode, createProcess, start, stop, stopSelf, suspend, suspendSelf, timedWait, periodicWait, resume, setPriority, getStatus}
 use Rattle.machine.specs.Objects.{createSemaphore, waitSemaphore, signal, createEvent, setEvent, resetEvent, waitEvent}
-use Rattle.machine.specs.Channels.{queuing, channelChecks, write, read, send, receive}
+use Rattle.machine.specs.Channels.{queuing, queuingPort, channelChecks, write, read, send, receive}
 use Rattle.machine.specs.Buffers.{createBuffer, sendBuffer, receiveBuffer}
 use Rattle.machine.specs.Blackboards.{createBlackboard, show, readBlackboard, clear}
 use Rattle.machine.specs.Services.{callDecision}
-use Rattle.machine.specs.Limits.{callLimit, durationLimit}
-use Rattle.machine.proofs.Tests.{by-test, by-codes, codesIn, Passed, passed-parts, and-left}
+use Rattle.machine.specs.Limits.{callLimit, durationLimit, channelLimit}
+use Rattle.machine.proofs.Tests.{by-test, by-codes, codesIn, Passed, passed-parts, and-left, and-right}
 use Rattle.machine.proofs.Fields.{in-limits}
 use Rattle.machine.proofs.Dispatch.{by-call}
 
@@ -68,6 +68,7 @@ pub record OnQueue (x : Port) (n i : ℕ) (a : Transfer) (value : ℕ) : Type 0 
   pub place : i ≡ x .place
   pub there : x .exists ≡ true
   pub kind : queuing (x .channel) ≡ true
+  pub placed : x .place < channelLimit
   pub end : Sends x n a value ⊎ Receives x n a value
 
 -- what the body of a call decides
@@ -139,11 +140,11 @@ module _ (x : Port) (n : ℕ) where
       (λ e. in-wait c _ _ _ _ _ _ _ p refl (λ h _ b. fine (on-queue (x .channel .destination) h (inr (record { call = e; destination = at-end (x .channel .destination) h; some = ltb-true _ _ b; transfer = refl; first = refl })))))
       (λ out. absurd (out lo hi))
     where
-      at-end : (wanted : ℕ) → Passed (channelChecks x (not (queuing (x .channel))) wanted) → wanted ≡ x .own
+      at-end : (wanted : ℕ) → Passed (channelChecks x (not (queuingPort x)) wanted) → wanted ≡ x .own
       at-end wanted h = eqb-true _ _ (not-false _ (h .1 .1 .1 .0))
 
-      on-queue : (wanted : ℕ) {a : Transfer} {value : ℕ} → Passed (channelChecks x (not (queuing (x .channel))) wanted) → Sends x n a value ⊎ Receives x n a value → OnQueue x n (x .place) a value
-      on-queue wanted h end = record { place = refl; there = not-false _ (h .0); kind = not-false _ (h .1 .0); end = end }
+      on-queue : (wanted : ℕ) {a : Transfer} {value : ℕ} → Passed (channelChecks x (not (queuingPort x)) wanted) → Sends x n a value ⊎ Receives x n a value → OnQueue x n (x .place) a value
+      on-queue wanted h end = record { place = refl; there = not-false _ (h .0); kind = and-left (queuing (x .channel)) _ (not-false _ (h .1 .0)); placed = ltb-true _ _ (and-right (queuing (x .channel)) _ (not-false _ (h .1 .0))); end = end }
 
 -- the code of what a body decides
 pub body-code : (x : Port) (n : ℕ) (d : Decision) → Bodily x n d → bodyCode (replyOf d .code) ≡ true

@@ -657,13 +657,12 @@ module _ (m : Module) (s : SoundModule m) (ends : ChannelEnds m) (i : ℕ) (ther
           let d = made m s r q in
           let body = made-body m s r q in
           let sound = made-sound m s r q in
-          let placed = port-sound m s r q .placed in
           ⊎-elim
           (λ (at : k ≡ from). own-even at d refl sound body (call-order ctx p x n r .is)
-          (call-calm 6 (i + 1) of-channels low n (r .a) ctx p own-valid sound-ctx (λ z. absurd (omega arith)) x placed r refl (λ z. absurd (omega arith)) (λ z. absurd (omega arith))
+          (call-calm 6 (i + 1) of-channels low n (r .a) ctx p own-valid sound-ctx (λ z. absurd (omega arith)) x r refl (λ z. absurd (omega arith)) (λ z. absurd (omega arith))
           (λ _ thirty exists is. let b = in-limits 1 (T .channelCount) (r .a) exists in not-send at thirty (omega (arith, b .0))) .is))
           (λ (ne : k ≡ from → ⊥). other-even ne d refl sound body
-          (call-calm 6 0 of-channels zero-low n (r .a) ctx p own-valid sound-ctx (λ z. absurd (omega arith)) x placed r refl (λ z. absurd (omega arith)) (λ z. absurd (omega arith)) (λ _ _ _ z. omega arith) .is))
+          (call-calm 6 0 of-channels zero-low n (r .a) ctx p own-valid sound-ctx (λ z. absurd (omega arith)) x r refl (λ z. absurd (omega arith)) (λ z. absurd (omega arith)) (λ _ _ _ z. omega arith) .is))
           (same-or-not k from)
 
     -- ------------------------------------------------------------ every call

@@ -357,7 +357,7 @@ module _ (m : Module) (s : SoundModule m) (h : Holds (m .table) m) where
       (λ _ _ _. holds-parts (tickModule m) (λ o some. tick-parts m s o some) (λ i l. open-parts (tickModule m) (λ o some. tick-parts m s o some) i l (ap (λ (l : List Queue). getD l i noQueue) (tick-queues (partitionCount T) (withTime (m .t + 1) m)))))
       (λ c. decided-holds r c (made m s r c) (made-sound m s r c) (made-body m s r c)
       (call-order (contextOf m k) (part m (k - 1)) (portOf m k r) (numberOf (r .call)) r .is)
-      (call-fair (contextOf m k) (part m (k - 1)) (s .eachPartition (k - 1) (place m s r c)) (context-sound m s r c) (portOf m k r) (port-sound m s r c .placed) (numberOf (r .call)) r .is))
+      (call-fair (contextOf m k) (part m (k - 1)) (s .eachPartition (k - 1) (place m s r c)) (context-sound m s r c) (portOf m k r) (numberOf (r .call)) r .is))
 
 -- ---------------------------------------------------------------- every reached record
 fresh-holds : (T : Table) → T .size ≤ partitionLimit → ((i : ℕ) → i < T .channelCount → (channel T i .source - 1 < T .size) × (channel T i .destination - 1 < T .size)) → Holds T (freshModule T)

@@ -40,7 +40,7 @@ use Rattle.machine.specs.Process.{Class, classOf, createdProcess, blankP
 use Rattle.machine.specs.Partition.{normalMode, idleMode, byId, nothingCreated, noSemaphore, noEvent, noBuffer, noBlackboard, process, semaphore, buffer, blackboard, emptyBuffer, movedIn, endedBy, withMode, stored, waitsOn, waiters, firstWaiter, changedAll, each, running, tickPartition, enteredNormal, created, storedSemaphore, storedEvent, storedBuffer, storedBlackboard, applied, partitionAfter, freshPartition}
 use Rattle.machine.specs.Calls.{setMode, isMultiple, above, isPriority, admissible, createProcess, reaches, start, stop, stopSelf, suspend, suspendSelf, timedWait, periodicWait, resume, setPriority, status, getStatus}
 use Rattle.machine.specs.Objects.{createSemaphore, createEvent, withValue, withUp, waitSemaphore, waitEvent, oneMore, signalled, signal, setEvent, resetEvent}
-use Rattle.machine.specs.Channels.{queuing, channelChecks, write, read, send, receive}
+use Rattle.machine.specs.Channels.{queuing, queuingPort, channelChecks, write, read, send, receive}
 use Rattle.machine.specs.Buffers.{createBuffer, sendBuffer, receiveBuffer}
 use Rattle.machine.specs.Blackboards.{createBlackboard, show, readBlackboard, clear}
 use Rattle.machine.specs.Services.{callDecision}
@@ -48,7 +48,6 @@ use Rattle.machine.specs.Valid.{counted, Between, contains, Distinct, Tr
 use Rattle.machine.proofs.Tests.{by-test, by-tests, Passed, passed-parts, by-checks, not-both}
 use Rattle.machine.proofs.Bounds.{not-so, or-false-parts, and-true-parts, known-id, within-in, named-same, named-other, named-replicate, created-in, semaphore-in, event-in, buffer-in, blackboard-in, either}
 use Rattle.machine.proofs.Dispatch.{by-call}
-use Rattle.machine.proofs.Applied.{Placed}
 use Rattle.machine.proofs.Fields.{in-limits}
 use Rattle.machine.proofs.Tracking.{contains-kept, distinct-kept, tracks-same}
 use Rattle.machine.proofs.Messages.{queue-sound, moved-in-sound, first-sound}
@@ -691,29 +690,28 @@ module _ (c : Context) (p : Partition) (v : Valid (c .frame) (c .time) p) (k : S
       (omega (arith, s .value), by-test (λ (n : ℕ). n ≤ numberLimit) (leb (c .time - x .message .written) (x .channel .refresh)) (λ _. omega arith) (λ _. omega arith))))
 
   -- the place of a channel whose end a process waits at
-  place-known : (x : Port) → Placed x → (wanted : ℕ) → Passed (channelChecks x (not (queuing (x .channel))) wanted) → Between 1 channelLimit (x .place + 1)
+  place-known : (x : Port) (wanted : ℕ) → Passed (channelChecks x (not (queuingPort x)) wanted) → Between 1 channelLimit (x .place + 1)
   unfolding channelChecks Passed
-  place-known x placed wanted h = let l = placed (not-false _ (h .1 .0)) in (omega arith, omega arith)
+  place-known x wanted h = let l = ltb-true (x .place) channelLimit (and-true-parts (queuing (x .channel)) _ (not-false _ (h .1 .0)) .1) in (omega arith, omega arith)
 
-  pub send-channel-sound : (x : Port) → Placed x → (m a : Field) → Sound c p (send c x m a p)
+  pub send-channel-sound : (x : Port) (m a : Field) → Sound c p (send c x m a p)
   unfolding send
-  send-channel-sound x placed m a =
+  send-channel-sound x m a =
       await-sound _ _ _ _ _ _ (Source (x .place + 1) (numberOf m)) 6 (x .place + 1) (numberOf m) refl
       (λ _ _ _. record { is = omega arith })
-      (λ h g. (place-known x placed (x .channel .source) h, in-limits 0 durationLimit m g .1))
+      (λ h g. (place-known x (x .channel .source) h, in-limits 0 durationLimit m g .1))
 
-  pub receive-channel-sound : (x : Port) → Placed x → x .traffic .first ≤ durationLimit → (a : Field) → Sound c p (receive c x a p)
+  pub receive-channel-sound : (x : Port) → x .traffic .first ≤ durationLimit → (a : Field) → Sound c p (receive c x a p)
   unfolding receive
-  receive-channel-sound x placed few a =
+  receive-channel-sound x few a =
       await-sound _ _ _ _ _ _ (Destination (x .place + 1)) 7 (x .place + 1) 0 refl
       (λ _ _ _. record { is = omega arith })
-      (λ h _. (place-known x placed (x .channel .destination) h, omega arith))
+      (λ h _. (place-known x (x .channel .destination) h, omega arith))
 
--- what a call sees of a channel is sound: the message of a sampling one, the first of a queuing one, which has a place
+-- what a call sees of a channel is sound: the message of a sampling one, the first of a queuing one
 pub record SoundPort (t : ℕ) (x : Port) : Type 0 where
   pub message : SoundMessage t (x .message)
   pub first : x .traffic .first ≤ durationLimit
-  pub placed : Placed x
 
 -- ---------------------------------------------------------------- every call
 pub call-sound : (c : Context) (x : Port) (n : ℕ) (r : Request) (p : Partition) → Valid (c .frame) (c .time) p → SoundContext c p → SoundPort (c .time) x → Sound c p (callDecision c x n r p)
@@ -747,6 +745,6 @@ call-sound c x n r p v k s =
     (show-sound c p v k)
     (read-blackboard-sound c p v k)
     (clear-sound c p v k)
-    (λ _. send-channel-sound c p v k x (s .placed) _ _)
-    (λ _. receive-channel-sound c p v k x (s .placed) (s .first) _)
+    (λ _. send-channel-sound c p v k x _ _)
+    (λ _. receive-channel-sound c p v k x (s .first) _)
     (λ _. record { is = tt })

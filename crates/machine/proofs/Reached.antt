@@ -48,7 +48,6 @@ use Rattle.machine.proofs.Bodies.{Sends, Receives, OnQueue, Bodily, cal
 use Rattle.machine.proofs.Refusals.{call-in-range}
 use Rattle.machine.proofs.Kept.{tick-valid, fresh-valid, SoundPort, call-sound, decision-valid, ended-valid, let-in-valid, let-in-queue, sent-sound, received-sound}
 use Rattle.machine.proofs.Messages.{queue-sound, moved-sound, first-sound}
-use Rattle.machine.proofs.Applied.{port-placed}
 use Rattle.machine.proofs.Quiet.{tick-to-plain}
 use Rattle.machine.proofs.Tables.{table-read}
 
@@ -345,7 +344,6 @@ module _ (m : Module) (s : SoundModule m) (r : Request) (q : Calls m r) where
   port-sound = record {
     message = seen-sound m s caller (numberOf (r .a) - 1);
     first = traffic-sound m s caller (numberOf (r .a) - 1);
-    placed = port-placed (m .table) caller (r .a) (message m (numberOf (r .a) - 1)) (trafficAt m caller (numberOf (r .a) - 1)) (s .table .channelsSize);
   }
 
   abbrev pub made : Decision

@@ -8,7 +8,7 @@ use mathlib.Core.Logic.{_⊎_, inl, inr, ⊎-elim}
 use native.Mathlib.Omega.{arith}
 use lib.ListN.{take}
 use lib.Dec.{eqb, leb}
-use borrow.Author.Tests.{eq-eqb, ne-eqb, eqb-true, eqb-false, le-leb, leb-true, not-true, not-false}
+use borrow.Author.Tests.{eq-eqb, ne-eqb, eqb-true, eqb-false, ltb-true, le-leb, leb-true, not-true, not-false}
 use Rattle.machine.specs.declared.Process.{Process}
 use Rattle.machine.specs.declared.Partition.{Partition}
 use Rattle.machine.specs.declared.Context.{Context}
@@ -56,7 +56,6 @@ use Rattle.machine.proofs.Dispatch.{by-call, Calls}
 use Rattle.machine.proofs.Bodies.{Sends, Receives, OnQueue}
 use Rattle.machine.proofs.Reached.{at-set, place, part-sound, erased-sound, Fills, refilled-keeps, transfer-sound, on-queue as on-queue-of}
 use Rattle.machine.proofs.Kept.{normal-caller, in-normal, change-valid, ended-valid, end-same, first-in, waiters-created, waiters-distinct, take-in, firsts-created, firsts-distinct, let-in-valid, nothing-valid}
-use Rattle.machine.proofs.Applied.{Placed}
 use Rattle.machine.proofs.Queues.{Part, part-whole, part-trans, same-queue, all-part, ended-part, normal-off, start-object, ticked-object, expired-wait}
 
 -- 0..3 and not 3
@@ -348,10 +347,10 @@ module _ (kind j : ℕ) (of : OfSenders kind) (low : j ≤ 16) where
     unfolding setMode Passed
     mode-calm one = calm-checks _ _ (λ h. by-test (IsCalm n f p) (isNumber 3 f) (λ _. calm (tt, tt)) (λ e. calm (one, below-three f (not-false _ (h .0)) e)))
 
-    pub call-calm : (x : Port) → Placed x → (r : Request) → r .a ≡ f → (kind ≡ 3 → n ≡ 24 → numberOf (r .a) ≡ j → ⊥) → (kind ≡ 3 → n ≡ 25 → numberOf (r .a) ≡ j → ⊥)
+    pub call-calm : (x : Port) (r : Request) → r .a ≡ f → (kind ≡ 3 → n ≡ 24 → numberOf (r .a) ≡ j → ⊥) → (kind ≡ 3 → n ≡ 25 → numberOf (r .a) ≡ j → ⊥)
         → (kind ≡ 6 → n ≡ 30 → x .exists ≡ true → x .place + 1 ≡ j → ⊥) → IsCalm n f p (callDecision c x n r p)
     unfolding createProcess stop stopSelf suspend timedWait periodicWait setPriority getStatus createSemaphore createEvent blocked waitSemaphore waitEvent signal setEvent resetEvent write read channelChecks createBuffer sendBuffer receiveBuffer createBlackboard show readBlackboard clear send receive Passed
-    call-calm x placed r is no-send no-receive no-send-channel =
+    call-calm x r is no-send no-receive no-send-channel =
         by-call c x n r p (IsCalm n f p)
         (λ one. rw is (mode-calm one))
         (λ _. calm-checks _ _ (λ _. calm (tt, tt)))
@@ -381,8 +380,8 @@ module _ (kind j : ℕ) (of : OfSenders kind) (low : j ≤ 16) where
         (λ k _. calm-checks _ _ (λ h. let b = known-id k (p .blackboardCount) (h .0) in calm (tt, λ e. of .readers (omega (arith, b .1, v .objects .blackboards .numbered .few)))))
         (λ k _. await-known (p .blackboardCount) k _ _ _ _ _ (λ b e. of .readers (omega (arith, b .1, v .objects .blackboards .numbered .few))) (λ _. calm tt))
         (λ _. calm-checks _ _ (λ _. calm (tt, tt)))
-        (λ e. await-calm _ _ _ _ _ _ (λ h o. let l = placed (not-false _ (h .1 .0)) in no-send-channel (omega arith) e (not-false _ (h .0)) (omega arith)) (λ _. calm tt))
-        (λ e. await-calm _ _ _ _ _ _ (λ h o. let l = placed (not-false _ (h .1 .0)) in of .ends (omega arith)) (λ _. calm tt))
+        (λ e. await-calm _ _ _ _ _ _ (λ h o. let l = ltb-true (x .place) channelLimit (and-right (queuing (x .channel)) _ (not-false _ (h .1 .0))) in no-send-channel (omega arith) e (not-false _ (h .0)) (omega arith)) (λ _. calm tt))
+        (λ e. await-calm _ _ _ _ _ _ (λ h o. let l = ltb-true (x .place) channelLimit (and-right (queuing (x .channel)) _ (not-false _ (h .1 .0))) in of .ends (omega arith)) (λ _. calm tt))
         (λ _. calm tt)
       where
         few : p .bufferCount ≤ 8

@@ -22,7 +22,7 @@ use Rattle.machine.specs.declared.Time.{Time}
 use Rattle.machine.specs.declared.Time.the-variants.{At}
 use Rattle.machine.specs.declared.Wait.the-variants.{Source, Destination}
 use Rattle.machine.specs.declared.Field.{Field}
-use Rattle.machine.specs.Limits.{partitionLimit}
+use Rattle.machine.specs.Limits.{partitionLimit, channelLimit}
 use Rattle.machine.specs.Fields.{between, isDuration, isMessage, numberOf}
 use Rattle.machine.specs.Messages.{queueOf, first, sent, received, moved, endsWait}
 use Rattle.machine.specs.Process.{object, carried, served}
@@ -108,16 +108,20 @@ read c x =
     (Unchanged (x .message .value) (freshness (c .time) (x .message) (x .channel))))
 
 -- ---------------------------------------------------------------- queuing
+-- the channel that a call names is queuing. Bound: it is one that the record has a place for.
+abbrev pub queuingPort : Port → Bool
+queuingPort x = queuing (x .channel) && ltb (x .place) channelLimit
+
 -- 30 SEND channel, message, time-out: checks as 21's first 3 and 5, then as for a buffer. Sending to a full queue waits.
 unfoldable pub send : Context → Port → Field → Field → Partition → Decision
 send c x m a p =
-    awaiting c (channelChecks x (not (queuing (x .channel))) (x .channel .source)) (isMessage m) [] a
+    awaiting c (channelChecks x (not (queuingPort x)) (x .channel .source)) (isMessage m) [] a
     (ltb (x .traffic .len) (x .channel .size)) (Passed (x .place) (sent (x .traffic .waiter) (numberOf m)) 0) (Source (x .place + 1) (numberOf m)) p
 
 -- 31 RECEIVE channel, time-out: as 22's first 3 and 5, then as from a buffer. Receiving from an empty queue waits.
 unfoldable pub receive : Context → Port → Field → Partition → Decision
 receive c x a p =
-    awaiting c (channelChecks x (not (queuing (x .channel))) (x .channel .destination)) true [] a
+    awaiting c (channelChecks x (not (queuingPort x)) (x .channel .destination)) true [] a
     (ltb 0 (x .traffic .len)) (Passed (x .place) (received (x .traffic .waiter) (x .traffic .carried)) (x .traffic .first)) (Destination (x .place + 1)) p
 
 -- ---------------------------------------------------------------- transfers

@@ -8,7 +8,7 @@ use native.Mathlib.Omega.{arith}
 use native.Mathlib.Numerals.{add-one}
 use lib.Dec.{leb, ltb, eqb}
 use lib.ListN.{length, List·getD-eq-default}
-use borrow.Author.Tests.{lt-ltb, ne-eqb, leb-true, leb-false, not-false}
+use borrow.Author.Tests.{lt-ltb, ltb-true, ne-eqb, leb-true, leb-false, not-false}
 use Rattle.machine.specs.declared.Channel.{Channel}
 use Rattle.machine.specs.declared.Context.{Context}
 use Rattle.machine.specs.declared.Decision.{Decision}
@@ -26,11 +26,12 @@ use Rattle.machine.specs.Messages.{sent, received}
 use Rattle.machine.specs.Decisions.{checked, codeOf, startMode, waitChecks, queued, awaiting}
 use Rattle.machine.specs.Partition.{within}
 use Rattle.machine.specs.Module.{noChannel, channel}
-use Rattle.machine.specs.Channels.{queuing, queuingAt, channelChecks, send, receive, leadsInto, refilledAt, refilledTo}
+use Rattle.machine.specs.Channels.{queuing, queuingAt, queuingPort, channelChecks, send, receive, leadsInto, refilledAt, refilledTo}
 use Rattle.machine.proofs.Tests.{codesIn, Passed, and-left, and-right, by-test}
 use Rattle.machine.proofs.Bounds.{either, within-out}
+use Rattle.machine.proofs.Reached.{refilled-table}
 use Rattle.decisions.proofs.Laws.{by-code}
-use Rattle.queuing.specs.Ports.{numberAt, Placed}
+use Rattle.queuing.specs.Ports.{numberAt}
 
 -- ---------------------------------------------------------------- places
 pub placed : (T : Table) (i : ℕ) → length (T .channels) ≡ channelLimit → queuing (channel T i) ≡ true → i < channelLimit
@@ -61,16 +62,16 @@ codes-joined ((true, code) ∷ l) k n e some = let low = leb-true 1 code (and-le
 codes-joined ((false, code) ∷ l) k n e some = codes-joined l k n e (and-right (leb 1 code) _ some)
 
 -- what a call at the end wanted decides: ends is the code of the checks on the channel, n that of all, number the channel's
-module _ (c : Context) (x : Port) (a : Field) (p : Partition) (ends n number : ℕ) (t : Transfer) (place : Placed x) (named : number ≡ numberAt (x .place)) where
+module _ (c : Context) (x : Port) (a : Field) (p : Partition) (ends n number : ℕ) (t : Transfer) (named : number ≡ numberAt (x .place)) where
   abbrev kindChecks : ℕ → List (Bool × ℕ)
-  kindChecks wanted = channelChecks x (not (queuing (x .channel))) wanted
+  kindChecks wanted = channelChecks x (not (queuingPort x)) wanted
 
   decided : (wanted : ℕ) (admitted : Bool) (d y : Decision) → ends ≡ codeOf (kindChecks wanted) → n ≡ cond (eqb ends 0) (codeOf (waitChecks [] (startMode p) admitted [])) ends
       → (number ≡ x .place + 1 → d ≡ y) → cond (eqb n 0) d (Refused n) ≡ checked Refused (waitChecks (kindChecks wanted) (startMode p) admitted []) y
   unfolding channelChecks Passed
   decided wanted admitted d y e en h =
       by-code _ n d y (en ∙ codes-joined (kindChecks wanted) (waitChecks [] (startMode p) admitted []) ends e refl) refl
-      (λ passed. h (numbered (x .place) number named (place (not-false (queuing (x .channel)) (passed .1 .0)))))
+      (λ passed. h (numbered (x .place) number named (ltb-true (x .place) channelLimit (and-right (queuing (x .channel)) _ (not-false _ (passed .1 .0))))))
 
   pub sends : (m : Field) → ends ≡ codeOf (kindChecks (x .channel .source)) → n ≡ cond (eqb ends 0) (codeOf (waitChecks [] (startMode p) (isMessage m && isTimeout a) [])) ends
       → t ≡ sent (x .traffic .waiter) (numberOf m)
@@ -85,11 +86,6 @@ module _ (c : Context) (x : Port) (a : Field) (p : Partition) (ends n number : �
   receives e en et = decided (x .channel .destination) (isTimeout a) _ _ e en (λ z. rw (et, z))
 
 -- ---------------------------------------------------------------- restarts
-pub refilled-table : (k n : ℕ) (m : Module) → refilledTo k n m .table ≡ m .table
-unfolding refilledTo
-refilled-table k zero m = refl
-refilled-table k (suc n) m = by-test (λ (h : Module). h .table ≡ m .table) (queuingAt (refilledTo k n m .table) n && leadsInto k (channel (refilledTo k n m .table) n)) (λ _. refilled-table k n m) (λ _. refilled-table k n m)
-
 pub refilled-none : (k : ℕ) (m : Module) → m ≡ refilledTo k 0 m
 unfolding refilledTo
 refilled-none k m = refl

@@ -8,8 +8,8 @@ ghost use lib.Dec.{eqb, ltb};
 ghost use Rattle.machine.specs.Limits.{channelLimit};
 ghost use Rattle.machine.specs.Decisions.{codeOf, waitChecks};
 ghost use Rattle.machine.specs.Module.{channel};
-ghost use Rattle.machine.specs.Channels.{queuingAt, seesTraffic, otherEnd, otherQueue, noTraffic, trafficOf, send, receive, leadsInto, refilledAt, refilledTo};
-ghost use Rattle.queuing.specs.Ports.{numberAt, Placed};
+ghost use Rattle.machine.specs.Channels.{queuingAt, seesTraffic, otherEnd, otherQueue, noTraffic, trafficOf, queuingPort, send, receive, leadsInto, refilledAt, refilledTo};
+ghost use Rattle.queuing.specs.Ports.{numberAt};
 use machine::Channel;
 use machine::Context;
 use machine::Decision;
@@ -114,6 +114,16 @@ pub fn traffic_of(q: Queue, object: u16, other: Partition) -> Traffic
 }
 
 // ---------------------------------------------------------------- the calls
+// Whether the channel that a call names is queuing.
+fn is_queuing_port(x: Port) -> bool
+    ensures { λ b. ⌜ b ≡ queuingPort x ⌝ }
+{
+    if channels::is_queuing(x.channel) {
+        return (x.place as usize) < Module::CHANNELS;
+    }
+    false
+}
+
 // The code of the checks of a wait, by that of the checks before them.
 fn code_after(before: u8, start: bool, admitted: bool) -> u8
     ensures { λ r. ⌜ r ≡ cond (eqb before 0) (codeOf (waitChecks [] start admitted [])) before ⌝ }
@@ -128,11 +138,11 @@ pub const SEND_FIELDS: u8 = 3;
 
 // 30 SEND
 pub fn send_channel(p: Partition, c: Context, x: Port, m: Field, a: Field) -> Decision
-    ensures { λ d. ⌜ (Placed x → d ≡ send c x m a p) ⌝ }
+    ensures { λ d. ⌜ d ≡ send c x m a p ⌝ }
 {
     let channel = x.channel;
     let traffic = x.traffic;
-    let ends = channels::end_code(x, !channels::is_queuing(channel), channel.source);
+    let ends = channels::end_code(x, !is_queuing_port(x), channel.source);
     let code = code_after(ends, p.mode != 3, objects::is_sending_admitted(m, a));
     let n = fields::number_of(m);
     let success = Decision::Passed(x.place, messages::sent_to(traffic.waiter, n), 0);
@@ -144,11 +154,11 @@ pub const RECEIVE_FIELDS: u8 = 2;
 
 // 31 RECEIVE
 pub fn receive_channel(p: Partition, c: Context, x: Port, a: Field) -> Decision
-    ensures { λ d. ⌜ (Placed x → d ≡ receive c x a p) ⌝ }
+    ensures { λ d. ⌜ d ≡ receive c x a p ⌝ }
 {
     let channel = x.channel;
     let traffic = x.traffic;
-    let ends = channels::end_code(x, !channels::is_queuing(channel), channel.destination);
+    let ends = channels::end_code(x, !is_queuing_port(x), channel.destination);
     let code = code_after(ends, p.mode != 3, fields::is_timeout(a));
     let success = Decision::Passed(
         x.place,

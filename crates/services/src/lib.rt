@@ -1,7 +1,6 @@
 // Calls 1 to 31 by number: the fields that each uses, and what it decides.
 ghost use mathlib.Core.Path.{_≡_};
 ghost use Rattle.machine.specs.Services.{serviceOf, called};
-ghost use Rattle.queuing.specs.Ports.{Placed};
 use machine::Context;
 use machine::Decision;
 use machine::Field;
@@ -51,7 +50,7 @@ pub fn fields_of(n: u32) -> u8
 
 // 9, then what call n decides of its partition's record; another number decides nothing.
 pub fn call(p: Partition, c: Context, x: Port, n: u32, r: Request) -> Decision
-    ensures { λ d. ⌜ (Placed x → d ≡ called c x n r p) ⌝ }
+    ensures { λ d. ⌜ d ≡ called c x n r p ⌝ }
 {
     if decisions::has_no_caller(p.mode, c.caller) {
         return Decision::Refused(9);

@@ -7,135 +7,135 @@ use Rattle.services.proofs.call.Tie as tie
 
 returns : tie.Need-returns
 unfolding checked
-returns c placed = rw (← c .before .has-no-caller .ensures, c .if1 .taken)
+returns c = rw (← c .before .has-no-caller .ensures, c .if1 .taken)
 
 returns-2 : tie.Need-returns-2
 unfolding checked callDecision services
-returns-2 c placed = rw (← c .before .before .before .before .has-no-caller .ensures, c .before .before .before .if1 .left, c .before .match .keys1, c .set-mode .ensures)
+returns-2 c = rw (← c .before .before .before .before .has-no-caller .ensures, c .before .before .before .if1 .left, c .before .match .keys1, c .set-mode .ensures)
 
 returns-3 : tie.Need-returns-3
 unfolding checked callDecision services
-returns-3 c placed = rw (← c .before .before .before .before .has-no-caller .ensures, c .before .before .before .if1 .left, c .before .match .keys2, c .create-process .ensures)
+returns-3 c = rw (← c .before .before .before .before .has-no-caller .ensures, c .before .before .before .if1 .left, c .before .match .keys2, c .create-process .ensures)
 
 returns-4 : tie.Need-returns-4
 unfolding checked callDecision services
-returns-4 c placed = rw (← c .before .before .before .before .has-no-caller .ensures, c .before .before .before .if1 .left, c .before .match .keys3, c .start-process .ensures, c .before .before .number-of .ensures)
+returns-4 c = rw (← c .before .before .before .before .has-no-caller .ensures, c .before .before .before .if1 .left, c .before .match .keys3, c .start-process .ensures, c .before .before .number-of .ensures)
 
 returns-5 : tie.Need-returns-5
 unfolding checked callDecision services
-returns-5 c placed = rw (← c .before .before .before .before .has-no-caller .ensures, c .before .before .before .if1 .left, c .before .match .keys4, c .start-process2 .ensures, c .before .before .number-of .ensures)
+returns-5 c = rw (← c .before .before .before .before .has-no-caller .ensures, c .before .before .before .if1 .left, c .before .match .keys4, c .start-process2 .ensures, c .before .before .number-of .ensures)
 
 returns-6 : tie.Need-returns-6
 unfolding checked callDecision services
-returns-6 c placed = rw (← c .before .before .before .before .has-no-caller .ensures, c .before .before .before .if1 .left, c .before .match .keys5, c .stop-process .ensures, c .before .before .number-of .ensures)
+returns-6 c = rw (← c .before .before .before .before .has-no-caller .ensures, c .before .before .before .if1 .left, c .before .match .keys5, c .stop-process .ensures, c .before .before .number-of .ensures)
 
 returns-7 : tie.Need-returns-7
 unfolding checked callDecision services
-returns-7 c placed = rw (← c .before .before .before .before .has-no-caller .ensures, c .before .before .before .if1 .left, c .before .match .keys6, c .stop-self .ensures)
+returns-7 c = rw (← c .before .before .before .before .has-no-caller .ensures, c .before .before .before .if1 .left, c .before .match .keys6, c .stop-self .ensures)
 
 returns-8 : tie.Need-returns-8
 unfolding checked callDecision services
-returns-8 c placed = rw (← c .before .before .before .before .has-no-caller .ensures, c .before .before .before .if1 .left, c .before .match .keys7, c .suspend-process .ensures, c .before .before .number-of .ensures)
+returns-8 c = rw (← c .before .before .before .before .has-no-caller .ensures, c .before .before .before .if1 .left, c .before .match .keys7, c .suspend-process .ensures, c .before .before .number-of .ensures)
 
 returns-9 : tie.Need-returns-9
 unfolding checked callDecision services
-returns-9 c placed = rw (← c .before .before .before .before .has-no-caller .ensures, c .before .before .before .if1 .left, c .before .match .keys8, c .suspend-self .ensures)
+returns-9 c = rw (← c .before .before .before .before .has-no-caller .ensures, c .before .before .before .if1 .left, c .before .match .keys8, c .suspend-self .ensures)
 
 returns-10 : tie.Need-returns-10
 unfolding checked callDecision services
-returns-10 c placed = rw (← c .before .before .before .before .has-no-caller .ensures, c .before .before .before .if1 .left, c .before .match .keys9, c .timed-wait .ensures)
+returns-10 c = rw (← c .before .before .before .before .has-no-caller .ensures, c .before .before .before .if1 .left, c .before .match .keys9, c .timed-wait .ensures)
 
 returns-11 : tie.Need-returns-11
 unfolding checked callDecision services
-returns-11 c placed = rw (← c .before .before .before .before .has-no-caller .ensures, c .before .before .before .if1 .left, c .before .match .keys10, c .periodic-wait .ensures)
+returns-11 c = rw (← c .before .before .before .before .has-no-caller .ensures, c .before .before .before .if1 .left, c .before .match .keys10, c .periodic-wait .ensures)
 
 returns-12 : tie.Need-returns-12
 unfolding checked callDecision services
-returns-12 c placed = rw (← c .before .before .before .before .has-no-caller .ensures, c .before .before .before .if1 .left, c .before .match .keys11, c .resume-process .ensures, c .before .before .number-of .ensures)
+returns-12 c = rw (← c .before .before .before .before .has-no-caller .ensures, c .before .before .before .if1 .left, c .before .match .keys11, c .resume-process .ensures, c .before .before .number-of .ensures)
 
 returns-13 : tie.Need-returns-13
 unfolding checked callDecision services
-returns-13 c placed = rw (← c .before .before .before .before .has-no-caller .ensures, c .before .before .before .if1 .left, c .before .match .keys12, c .set-priority .ensures, c .before .before .number-of .ensures)
+returns-13 c = rw (← c .before .before .before .before .has-no-caller .ensures, c .before .before .before .if1 .left, c .before .match .keys12, c .set-priority .ensures, c .before .before .number-of .ensures)
 
 returns-14 : tie.Need-returns-14
 unfolding checked callDecision services
-returns-14 c placed = rw (← c .before .before .before .before .has-no-caller .ensures, c .before .before .before .if1 .left, c .before .match .keys13, c .get-status .ensures, c .before .before .number-of .ensures)
+returns-14 c = rw (← c .before .before .before .before .has-no-caller .ensures, c .before .before .before .if1 .left, c .before .match .keys13, c .get-status .ensures, c .before .before .number-of .ensures)
 
 returns-15 : tie.Need-returns-15
 unfolding checked callDecision services
-returns-15 c placed = rw (← c .before .before .before .before .has-no-caller .ensures, c .before .before .before .if1 .left, c .before .match .keys14, c .create-semaphore .ensures)
+returns-15 c = rw (← c .before .before .before .before .has-no-caller .ensures, c .before .before .before .if1 .left, c .before .match .keys14, c .create-semaphore .ensures)
 
 returns-16 : tie.Need-returns-16
 unfolding checked callDecision services
-returns-16 c placed = rw (← c .before .before .before .before .has-no-caller .ensures, c .before .before .before .if1 .left, c .before .match .keys15, c .wait-semaphore .ensures, c .before .before .number-of .ensures)
+returns-16 c = rw (← c .before .before .before .before .has-no-caller .ensures, c .before .before .before .if1 .left, c .before .match .keys15, c .wait-semaphore .ensures, c .before .before .number-of .ensures)
 
 returns-17 : tie.Need-returns-17
 unfolding checked callDecision services
-returns-17 c placed = rw (← c .before .before .before .before .has-no-caller .ensures, c .before .before .before .if1 .left, c .before .match .keys16, c .signal-semaphore .ensures, c .before .before .number-of .ensures)
+returns-17 c = rw (← c .before .before .before .before .has-no-caller .ensures, c .before .before .before .if1 .left, c .before .match .keys16, c .signal-semaphore .ensures, c .before .before .number-of .ensures)
 
 returns-18 : tie.Need-returns-18
 unfolding checked callDecision services
-returns-18 c placed = rw (← c .before .before .before .before .has-no-caller .ensures, c .before .before .before .if1 .left, c .before .match .keys17, c .create-event .ensures)
+returns-18 c = rw (← c .before .before .before .before .has-no-caller .ensures, c .before .before .before .if1 .left, c .before .match .keys17, c .create-event .ensures)
 
 returns-19 : tie.Need-returns-19
 unfolding checked callDecision services
-returns-19 c placed = rw (← c .before .before .before .before .has-no-caller .ensures, c .before .before .before .if1 .left, c .before .match .keys18, c .set-event .ensures, c .before .before .number-of .ensures)
+returns-19 c = rw (← c .before .before .before .before .has-no-caller .ensures, c .before .before .before .if1 .left, c .before .match .keys18, c .set-event .ensures, c .before .before .number-of .ensures)
 
 returns-20 : tie.Need-returns-20
 unfolding checked callDecision services
-returns-20 c placed = rw (← c .before .before .before .before .has-no-caller .ensures, c .before .before .before .if1 .left, c .before .match .keys19, c .reset-event .ensures, c .before .before .number-of .ensures)
+returns-20 c = rw (← c .before .before .before .before .has-no-caller .ensures, c .before .before .before .if1 .left, c .before .match .keys19, c .reset-event .ensures, c .before .before .number-of .ensures)
 
 returns-21 : tie.Need-returns-21
 unfolding checked callDecision services
-returns-21 c placed = rw (← c .before .before .before .before .has-no-caller .ensures, c .before .before .before .if1 .left, c .before .match .keys20, c .wait-event .ensures, c .before .before .number-of .ensures)
+returns-21 c = rw (← c .before .before .before .before .has-no-caller .ensures, c .before .before .before .if1 .left, c .before .match .keys20, c .wait-event .ensures, c .before .before .number-of .ensures)
 
 returns-22 : tie.Need-returns-22
 unfolding checked callDecision services
-returns-22 c placed = rw (← c .before .before .before .before .has-no-caller .ensures, c .before .before .before .if1 .left, c .before .match .keys21, c .write-channel .ensures)
+returns-22 c = rw (← c .before .before .before .before .has-no-caller .ensures, c .before .before .before .if1 .left, c .before .match .keys21, c .write-channel .ensures)
 
 returns-23 : tie.Need-returns-23
 unfolding checked callDecision services
-returns-23 c placed = rw (← c .before .before .before .before .has-no-caller .ensures, c .before .before .before .if1 .left, c .before .match .keys22, c .read-channel .ensures)
+returns-23 c = rw (← c .before .before .before .before .has-no-caller .ensures, c .before .before .before .if1 .left, c .before .match .keys22, c .read-channel .ensures)
 
 returns-24 : tie.Need-returns-24
 unfolding checked callDecision services
-returns-24 c placed = rw (← c .before .before .before .before .has-no-caller .ensures, c .before .before .before .if1 .left, c .before .match .keys23, c .create-buffer .ensures)
+returns-24 c = rw (← c .before .before .before .before .has-no-caller .ensures, c .before .before .before .if1 .left, c .before .match .keys23, c .create-buffer .ensures)
 
 returns-25 : tie.Need-returns-25
 unfolding checked callDecision services
-returns-25 c placed = rw (← c .before .before .before .before .has-no-caller .ensures, c .before .before .before .if1 .left, c .before .match .keys24, c .send-buffer .ensures, c .before .before .number-of .ensures)
+returns-25 c = rw (← c .before .before .before .before .has-no-caller .ensures, c .before .before .before .if1 .left, c .before .match .keys24, c .send-buffer .ensures, c .before .before .number-of .ensures)
 
 returns-26 : tie.Need-returns-26
 unfolding checked callDecision services
-returns-26 c placed = rw (← c .before .before .before .before .has-no-caller .ensures, c .before .before .before .if1 .left, c .before .match .keys25, c .receive-buffer .ensures, c .before .before .number-of .ensures)
+returns-26 c = rw (← c .before .before .before .before .has-no-caller .ensures, c .before .before .before .if1 .left, c .before .match .keys25, c .receive-buffer .ensures, c .before .before .number-of .ensures)
 
 returns-27 : tie.Need-returns-27
 unfolding checked callDecision services
-returns-27 c placed = rw (← c .before .before .before .before .has-no-caller .ensures, c .before .before .before .if1 .left, c .before .match .keys26, c .create-blackboard .ensures)
+returns-27 c = rw (← c .before .before .before .before .has-no-caller .ensures, c .before .before .before .if1 .left, c .before .match .keys26, c .create-blackboard .ensures)
 
 returns-28 : tie.Need-returns-28
 unfolding checked callDecision services
-returns-28 c placed = rw (← c .before .before .before .before .has-no-caller .ensures, c .before .before .before .if1 .left, c .before .match .keys27, c .show-blackboard .ensures, c .before .before .number-of .ensures)
+returns-28 c = rw (← c .before .before .before .before .has-no-caller .ensures, c .before .before .before .if1 .left, c .before .match .keys27, c .show-blackboard .ensures, c .before .before .number-of .ensures)
 
 returns-29 : tie.Need-returns-29
 unfolding checked callDecision services
-returns-29 c placed = rw (← c .before .before .before .before .has-no-caller .ensures, c .before .before .before .if1 .left, c .before .match .keys28, c .read-blackboard .ensures, c .before .before .number-of .ensures)
+returns-29 c = rw (← c .before .before .before .before .has-no-caller .ensures, c .before .before .before .if1 .left, c .before .match .keys28, c .read-blackboard .ensures, c .before .before .number-of .ensures)
 
 returns-30 : tie.Need-returns-30
 unfolding checked callDecision services
-returns-30 c placed = rw (← c .before .before .before .before .has-no-caller .ensures, c .before .before .before .if1 .left, c .before .match .keys29, c .clear-blackboard .ensures, c .before .before .number-of .ensures)
+returns-30 c = rw (← c .before .before .before .before .has-no-caller .ensures, c .before .before .before .if1 .left, c .before .match .keys29, c .clear-blackboard .ensures, c .before .before .number-of .ensures)
 
 returns-31 : tie.Need-returns-31
 unfolding checked callDecision services
-returns-31 c placed = rw (← c .before .before .before .before .has-no-caller .ensures, c .before .before .before .if1 .left, c .before .match .keys30, c .send-channel .ensures placed)
+returns-31 c = rw (← c .before .before .before .before .has-no-caller .ensures, c .before .before .before .if1 .left, c .before .match .keys30, c .send-channel .ensures)
 
 returns-32 : tie.Need-returns-32
 unfolding checked callDecision services
-returns-32 c placed = rw (← c .before .before .before .before .has-no-caller .ensures, c .before .before .before .if1 .left, c .before .match .keys31, c .receive-channel .ensures placed)
+returns-32 c = rw (← c .before .before .before .before .has-no-caller .ensures, c .before .before .before .if1 .left, c .before .match .keys31, c .receive-channel .ensures)
 
 returns-33 : tie.Need-returns-33
 unfolding checked callDecision NoneTo
-returns-33 c placed = rw (← c .before .before .before .has-no-caller .ensures, c .before .before .if1 .left, callDecision, none-left (c .before .before .before .before .args .n) (c .match .rest))
+returns-33 c = rw (← c .before .before .before .has-no-caller .ensures, c .before .before .if1 .left, callDecision, none-left (c .before .before .before .before .args .n) (c .match .rest))
 
 pub call-spec : {M : Type 1} → statement M
 call-spec =

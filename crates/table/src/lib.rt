@@ -1,12 +1,12 @@
 // Reading a table from a whole input, line by line.
 ghost use mathlib.Core.Path.{_≡_};
-ghost use mathlib.Core.Bool.{true};
+ghost use mathlib.Core.Bool.{true, cond, _&&_};
 ghost use mathlib.Core.List.{map};
 ghost use Prim.Native.Nat.{_+_, _≤_, _<_};
 ghost use lib.Dec.{leb};
 ghost use lib.ListN.{length, drop};
-ghost use Rattle.machine.specs.Limits.{lineLength, windowLimit, channelLimit};
-ghost use Rattle.machine.specs.Fields.{numberOf};
+ghost use Rattle.machine.specs.Limits.{lineLength, windowLimit, channelLimit, sizeLimit};
+ghost use Rattle.machine.specs.Fields.{isNumber, between, numberOf};
 ghost use Rattle.machine.specs.Line.{readLine, lines};
 ghost use Rattle.machine.specs.Windows.{windows};
 ghost use Rattle.machine.specs.Table.{lastTwoZero, headGood, headDraft, windowGood, withWindow, channelGood, withChannel, windowNext, rowGood, withRow, flaggedFrom, refusedTable, checkedTable, tableHead, readTable};
@@ -130,6 +130,16 @@ fn with_window(d: Draft, r: Row) -> Draft
 }
 
 // ---------------------------------------------------------------- channels
+// The kind in the fourth field, and how many messages the fifth allows: 0 sampling, with none; 1 queuing.
+fn is_kind_good(kind: Field, limit: Field) -> bool
+    ensures { λ x. ⌜ x ≡ cond (isNumber 1 kind) (between 1 sizeLimit limit) (isNumber 0 kind && isNumber 0 limit) ⌝ }
+{
+    if fields::is_number(kind, 1) {
+        return fields::is_between(limit, 1, Module::SIZE);
+    }
+    fields::is_number(kind, 0) && fields::is_number(limit, 0)
+}
+
 fn is_channel_good(d: Draft, r: Row) -> bool
     ensures { λ x. ⌜ x ≡ channelGood d r ⌝ }
 {
@@ -139,11 +149,13 @@ fn is_channel_good(d: Draft, r: Row) -> bool
     let f2 = r.f2;
     let f3 = r.f3;
     let f4 = r.f4;
+    let f5 = r.f5;
+    let f6 = r.f6;
     fields::is_between(f1, 1, size)
         && (fields::is_between(f2, 1, size)
             && (fields::number_of(f1) != fields::number_of(f2)
                 && (fields::is_between(f3, 1, Module::DURATION)
-                    && (fields::is_number(f4, 0) && is_last_two_zero(r)))))
+                    && (is_kind_good(f4, f5) && fields::is_number(f6, 0)))))
 }
 
 fn with_channel(d: Draft, r: Row) -> Draft
@@ -153,15 +165,18 @@ fn with_channel(d: Draft, r: Row) -> Draft
     let f1 = r.f1;
     let f2 = r.f2;
     let f3 = r.f3;
+    let f5 = r.f5;
     let source = fields::number_of(f1) as u8;
     let destination = fields::number_of(f2) as u8;
     let refresh = fields::number_of(f3);
+    let size = fields::number_of(f5) as u8;
     let mut t = d.table;
     let i = t.channelCount as usize;
     t.channels[i] = Channel {
         source,
         destination,
         refresh,
+        size,
     };
     t.channelCount = t.channelCount + 1;
     Draft { table: t, ..d }

@@ -17,7 +17,7 @@ returns c =
     and-yes _ (is-between .ensures) (if1 .taken) (and-yes _ (is-between2 .ensures) (if2 .taken) (apart-yes _
     (number-of .ensures) (number-of2 .ensures) (if3 .taken) (and-yes _ (is-between3 .ensures)
     (c .before .before .before .if4 .taken)
-    (and-yes _ (c .before .before .is-number .ensures) (c .before .if5 .taken) (c .is-last-two-zero .ensures)))))
+    (and-yes _ (c .before .before .is-kind-good .ensures) (c .before .if5 .taken) (c .is-number .ensures)))))
 
 returns-2 : tie.Need-returns-2
 returns-2 c =
@@ -31,7 +31,7 @@ returns-2 c =
     let is-between3 = c .before .before .before .is-between3 in
     and-yes _ (is-between .ensures) (if1 .taken) (and-yes _ (is-between2 .ensures) (if2 .taken) (apart-yes _
     (number-of .ensures) (number-of2 .ensures) (if3 .taken)
-    (and-yes _ (is-between3 .ensures) (c .before .before .if4 .taken) (and-no _ (c .before .is-number .ensures) (c .if5 .left)))))
+    (and-yes _ (is-between3 .ensures) (c .before .before .if4 .taken) (and-no _ (c .before .is-kind-good .ensures) (c .if5 .left)))))
 
 returns-3 : tie.Need-returns-3
 returns-3 c =

@@ -16,10 +16,16 @@ cast-destination c =
     let s = channel-sound (start .args .d) (start .args .r) (start .pre .0) in
     omega (arith, s .destination .1, c .number-of2 .ensures)
 
+cast-size : tie.Need-cast-size
+cast-size c =
+    let start = c .before .before .before .before in
+    let s = channel-sound (start .args .d) (start .args .r) (start .pre .0) in
+    omega (arith, s .room, c .number-of4 .ensures)
+
 returns : tie.Need-returns
 returns c =
-    let number-of = c .before .before .before .number-of in
-    rw (number-of .ensures, c .before .before .number-of2 .ensures, c .before .number-of3 .ensures)
+    let number-of = c .before .before .before .before .number-of in
+    rw (number-of .ensures, c .before .before .before .number-of2 .ensures, c .before .before .number-of3 .ensures, c .before .number-of4 .ensures)
 
 pub with-channel-spec : {M : Type 1} → statement M
 with-channel-spec =
@@ -30,6 +36,8 @@ with-channel-spec =
     (λ c κs. search needs)
     cast-destination
     (λ c κs. search needs)
+    (λ c κs. search needs)
+    cast-size
     (λ c. search needs)
     (λ c. search needs)
     (λ c. search needs)

@@ -267,6 +267,14 @@ impl Executive {
             if place < Module::CHANNELS {
                 held = m.messages[place];
             }
+            let seen = queuing::seen_slot(table, x.own, place);
+            let mut traffic = queuing::no_traffic();
+            if seen < Module::PARTITIONS {
+                let object = queuing::other_object(table, x.own, place);
+                let q = m.queues[place];
+                let p = m.partitions[seen];
+                traffic = queuing::traffic_of(q, object, p);
+            }
             let mut reply = decisions::reply_with(x.code);
             let slot = x.slot;
             if slot < Module::PARTITIONS {
@@ -279,10 +287,11 @@ impl Executive {
                     release: windows::release_point(table, m.t, x.own),
                     caller: runs[slot],
                 };
-                let port = channels::port_at(table, x.own, a, held);
+                let port = channels::port_at(table, x.own, a, held, traffic);
                 let d = services::call(was, context, port, x.call, request);
                 reply = decisions::reply_of(d);
                 let put = decisions::written_at(d);
+                let pass = decisions::passed_at(d);
                 if decisions::does_change(d) {
                     let q = partition::after(was, d);
                     m.partitions[slot] = q;
@@ -292,10 +301,25 @@ impl Executive {
                         let e = channels::erase_into(Messages { items }, table, x.own);
                         let kept = e.items;
                         m.messages = kept;
+                        m = queuing::refill(m, x.own);
+                        let own = m.partitions[slot];
+                        runs = [UNKNOWN; Module::PARTITIONS];
+                        runs[slot] = partition::running_process(own);
                     }
                 } else if put < Module::CHANNELS {
                     let message = decisions::message_of(d);
                     m.messages[put] = message;
+                } else if pass < Module::CHANNELS {
+                    let a = decisions::transfer_of(d);
+                    let q = m.queues[pass];
+                    m.queues[pass] = messages::change(q, a);
+                    let end = queuing::ended_slot(table, x.own, pass, a);
+                    if end < Module::PARTITIONS {
+                        let p = m.partitions[end];
+                        let q = partition::after_transfer(p, a);
+                        m.partitions[end] = q;
+                        runs[end] = partition::running_process(q);
+                    }
                 }
             }
             let shown = x.shown;

@@ -5,7 +5,8 @@ ghost use Prim.Native.Nat.{_-_};
 ghost use mathlib.Core.Bool.{cond, _&&_};
 ghost use mathlib.Core.List.{[]};
 ghost use lib.Dec.{eqb, ltb};
-ghost use Rattle.machine.specs.Limits.{channelLimit};
+ghost use Rattle.machine.specs.Limits.{partitionLimit, channelLimit};
+ghost use Rattle.machine.specs.Messages.{endsWait};
 ghost use Rattle.machine.specs.Decisions.{codeOf, waitChecks};
 ghost use Rattle.machine.specs.Module.{channel};
 ghost use Rattle.machine.specs.Channels.{queuingAt, seesTraffic, otherEnd, otherQueue, noTraffic, trafficOf, queuingPort, send, receive, leadsInto, refilledAt, refilledTo};
@@ -20,6 +21,7 @@ use machine::Port;
 use machine::Queue;
 use machine::Table;
 use machine::Traffic;
+use machine::Transfer;
 use machine::Wait;
 
 // ---------------------------------------------------------------- what a call sees of a queuing channel
@@ -34,7 +36,7 @@ fn is_queuing_at(table: Table, i: usize) -> bool
 }
 
 // Whether partition k sees the traffic of the channel at this place.
-pub fn sees_traffic(table: Table, k: u32, place: usize) -> bool
+fn sees_traffic(table: Table, k: u32, place: usize) -> bool
     ensures { λ b. ⌜ b ≡ seesTraffic table k place ⌝ }
 {
     if is_queuing_at(table, place) {
@@ -53,7 +55,7 @@ fn other_end(c: Channel, k: u32) -> u8
 }
 
 // Where the partition at the other end of the channel at this place lies.
-pub fn other_slot(table: Table, k: u32, place: usize) -> usize
+fn other_slot(table: Table, k: u32, place: usize) -> usize
     ensures { λ r. ⌜ r ≡ otherEnd k (channel table place) - 1 ⌝ }
 {
     let n = other_end(channels::channel_at(table, place), k);
@@ -61,6 +63,26 @@ pub fn other_slot(table: Table, k: u32, place: usize) -> usize
         return 0;
     }
     (n - 1) as usize
+}
+
+// Where the partition at the other end lies, if partition k sees the traffic of the channel at this place; past the last if not.
+pub fn seen_slot(table: Table, k: u32, place: usize) -> usize
+    ensures { λ r. ⌜ r ≡ cond (seesTraffic table k place) (otherEnd k (channel table place) - 1) partitionLimit ⌝ }
+{
+    if sees_traffic(table, k, place) {
+        return other_slot(table, k, place);
+    }
+    Module::PARTITIONS
+}
+
+// Where it lies, if this transfer of partition k ends a wait there; past the last if not.
+pub fn ended_slot(table: Table, k: u32, place: usize, a: Transfer) -> usize
+    ensures { λ r. ⌜ r ≡ cond (endsWait a) (otherEnd k (channel table place) - 1) partitionLimit ⌝ }
+{
+    if messages::ends_wait(a) {
+        return other_slot(table, k, place);
+    }
+    Module::PARTITIONS
 }
 
 // The number of the channel at this place; 0 past the last.

@@ -7,16 +7,18 @@ use native.Mathlib.Omega.{arith}
 use lib.Dec.{eqb, leb, ltb}
 use lib.IntN.{ℤ}
 use lib.ListN.{length, set, length-set, List·getD-eq-default}
+use lib.Seq.{set-out}
 use mir.Syntax.{w64}
 use mir.Val.{toZ, ofZ, SFits}
 use mir.ValLaws.{toZ-ofZ}
-use borrow.Author.Tests.{ne-eqb, ltb-true, ltb-false, eqb-true, eqb-false, leb-true, not-false}
-use Rattle.machine.specs.Channels.{portAt, portOf, leadsInto, keptTo}
-use Rattle.machine.specs.Decisions.{coded, checked, codeOf, replyOf, changes, restarts, writtenAt, messageOf, noMessage}
+use borrow.Author.Tests.{ne-eqb, lt-ltb, ltb-true, ltb-false, eqb-true, eqb-false, leb-true, not-false}
+use Rattle.machine.specs.Channels.{portAt, portOf, queuingAt, seesTraffic, otherEnd, otherQueue, noTraffic, trafficOf, passed, leadsInto, keptTo, refilledTo}
+use Rattle.machine.specs.Decisions.{coded, checked, codeOf, replyOf, changes, restarts, writtenAt, messageOf, passedAt, transferOf, noMessage}
+use Rattle.machine.specs.Messages.{moved, endsWait}
 use Rattle.machine.specs.Fields.{requestOf, numberOf}
 use Rattle.machine.specs.Limits.{partitionLimit, channelLimit}
-use Rattle.machine.specs.Module.{noPartition, channel, part, message, current, runningIn, withPart, withMessage, withTime}
-use Rattle.machine.specs.Partition.{running, noted, partitionAfter}
+use Rattle.machine.specs.Module.{noPartition, channel, part, message, queue, current, runningIn, withPart, withMessage, withQueue, withTime}
+use Rattle.machine.specs.Partition.{within, running, noted, endedBy, partitionAfter}
 use Rattle.machine.specs.Places.{noCaller, ticks, eventChecks, firstChecks}
 use Rattle.machine.specs.Services.{called}
 use Rattle.machine.specs.Step.{contextOf, decision, moduleAfter, sees, answerTo, stepped, step}
@@ -31,16 +33,22 @@ use Rattle.machine.specs.declared.Message.{Message}
 use Rattle.machine.specs.declared.Module.{Module}
 use Rattle.machine.specs.declared.Partition.{Partition}
 use Rattle.machine.specs.declared.Port.{Port}
+use Rattle.machine.specs.declared.Queue.{Queue}
+use Rattle.machine.specs.declared.Traffic.{Traffic}
+use Rattle.machine.specs.declared.Transfer.{Transfer}
 use Rattle.machine.specs.declared.Reply.{Reply}
 use Rattle.machine.specs.declared.Request.{Request}
 use Rattle.machine.specs.declared.Table.{Table}
 use Rattle.machine.specs.declared.Waiting.{Waiting}
-use Rattle.machine.proofs.Applied.{NoTick, called-no-tick, after-changed, after-restarted, after-written, after-same}
-use Rattle.machine.proofs.Bounds.{either}
+use Rattle.machine.proofs.Applied.{NoTick, called-no-tick, after-changed, after-restarted, after-written, after-passed, after-same}
+use Rattle.machine.proofs.Reached.{refilled-table}
+use Rattle.machine.proofs.Restarts.{refilled-time, refilled-sizes}
+use Rattle.machine.proofs.Bounds.{either, within-out}
 use Rattle.machine.proofs.Folds.{tick-to-none}
 use Rattle.machine.proofs.Starts.{waiting-time, reached-waiting}
 use Rattle.machine.proofs.Tests.{by-test, codesIn, Passed, code-refuses, code-passes, and-left, and-right}
 use Rattle.places.specs.Placed.{placedAt}
+use Rattle.queuing.proofs.Laws.{placed}
 use Rattle.executive.specs.Executive.{turned, answerOf, Awaited}
 use Rattle.executive.specs.Lists.{callChecks, tickCount, slotOf, callSlot, shownSlot, planOf}
 use Rattle.executive.specs.declared.Plan.{Plan}
@@ -138,12 +146,48 @@ unfolding tickTo tickAt
 tick-keeps P f zero m h = h
 tick-keeps P f (suc n) m h = by-test P (dueAt n (tickTo n m)) (λ _. f n _ (tickTo n m) (tick-keeps P f n m h)) (λ _. tick-keeps P f n m h)
 
+-- the record has a place for the message and for the queue of each channel
+abbrev pub Held : Module → Type 0
+Held m = (length (m .messages) ≡ channelLimit) × (length (m .queues) ≡ channelLimit)
+
+-- what partition k sees of the traffic of the channel at place i, by the table T
+abbrev pub seenTraffic : Table → Module → ℕ → ℕ → Traffic
+seenTraffic T q k i =
+    let c = channel T i in
+    cond (seesTraffic T k i) (trafficOf (queue q i) (otherQueue k i c) (part q (otherEnd k c - 1))) noTraffic
+
+-- where the partition at the other end lies, past the last where no traffic is seen
+module _ (T : Table) (long : length (T .channels) ≡ channelLimit) (k i : ℕ) {n : ℕ} (e : n ≡ cond (seesTraffic T k i) (otherEnd k (channel T i) - 1) partitionLimit) where
+  sees-it : n < partitionLimit → seesTraffic T k i ≡ true
+  sees-it h = either (seesTraffic T k i) (λ t. t) (λ t. let z : n ≡ partitionLimit = e ∙ rw t in absurd (omega arith))
+
+  pub seen-place : n < partitionLimit → i < channelLimit
+  seen-place h = placed T i long (and-right (ltb i (T .channelCount)) _ (and-left (queuingAt T i) _ (sees-it h)))
+
+  pub seen-here : n < partitionLimit → (q : Module) {o : ℕ} → o ≡ cond (ltb i channelLimit) (otherQueue k i (channel T i)) 0 → {v : Traffic} → v ≡ trafficOf (queue q i) o (part q n) → v ≡ seenTraffic T q k i
+  seen-here h q {o} is {v} g =
+      let at : n ≡ otherEnd k (channel T i) - 1 = e ∙ rw (sees-it h) in
+      let object : o ≡ otherQueue k i (channel T i) = is ∙ rw (lt-ltb i channelLimit (seen-place h)) in
+      g ∙ rw (object, at, sees-it h)
+
+  pub seen-none : partitionLimit ≤ n → (q : Module) {v : Traffic} → v ≡ noTraffic → v ≡ seenTraffic T q k i
+  seen-none h q g = either (seesTraffic T k i) (λ t. absurd (near t)) (λ t. g ∙ rw t)
+    where
+      near : seesTraffic T k i ≡ true → ⊥
+      near t =
+          let c = channel T i in
+          let z = and-right (ltb 0 (c .size)) _ (and-right (ltb i (T .channelCount)) _ (and-left (queuingAt T i) _ t)) in
+          let a = within-out partitionLimit (c .source) (and-left (within partitionLimit (c .source)) _ z) in
+          let b = within-out partitionLimit (c .destination) (and-right (within partitionLimit (c .source)) _ z) in
+          let at : n ≡ otherEnd k c - 1 = e ∙ rw t in
+          by-test (λ (j : ℕ). n ≡ j - 1 → ⊥) (eqb (c .source) k) (λ _ y. omega (arith, b .0, b .1)) (λ _ y. omega (arith, a .0, a .1)) at
+
 -- record and reply after an event are the machine's, and the record has its places; the window was looked up as it is then
 pub record After (m : Module) (r : Request) (now : ℕ) (q : Module) (b : Reply) : Type 0 where
   pub state : q ≡ moduleAfter m (own r) (decision m r)
   pub reply : b ≡ replyOf (decision m r)
   pub long : length (q .partitions) ≡ partitionLimit
-  pub held : length (q .messages) ≡ channelLimit
+  pub held : Held q
   pub window : now ≡ current q
 
 -- the answer is read off the record after the event
@@ -155,7 +199,7 @@ answered-is m r now y b done n a shows says = rw (says, shows, done .window) (λ
 pub record Planned (m : Module) (e : Event) (T : Table) (x : Plan) : Type 0 where
   pub same : m .table ≡ T
   pub long : length (m .partitions) ≡ partitionLimit
-  pub held : length (m .messages) ≡ channelLimit
+  pub held : Held m
   pub plan : x ≡ planOf T (m .t) e
 
 module _ {m : Module} {e : Event} {T : Table} {x : Plan} (f : Planned m e T x) where
@@ -282,7 +326,7 @@ module _ {m : Module} {e : Event} {T : Table} {x : Plan} (f : Planned m e T x) w
               state = rw (request-is, d) w;
               reply = rw (request-is, d) (h ∙ ap coded z);
               long = rw w (tick-keeps (λ (v : Module). length (v .partitions) ≡ partitionLimit) (λ i p v l. length-set (v .partitions) i (noted p) ∙ l) (partitionCount (m .table)) (withTime (m .t + 1) m) (f .long));
-              held = rw w (tick-keeps (λ (v : Module). length (v .messages) ≡ channelLimit) (λ i p v l. l) (partitionCount (m .table)) (withTime (m .t + 1) m) (f .held));
+              held = rw w (tick-keeps Held (λ i p v l. l) (partitionCount (m .table)) (withTime (m .t + 1) m) (f .held));
               window = rw (current-is, w) (ap (λ (t : ℕ). lookup (m .table) t .partition) t ∙ tick-keeps (λ (v : Module). lookup (m .table) (m .t + 1) .partition ≡ current v) (λ i p v l. l) (partitionCount (m .table)) (withTime (m .t + 1) m) refl);
             }
 
@@ -294,13 +338,13 @@ module _ {m : Module} {e : Event} {T : Table} {x : Plan} (f : Planned m e T x) w
 
       -- what the code decides is the machine's decision
       module _ {caller v : ℕ} {hold : Message} {port : Port} {d : Decision} (runs : caller ≡ running (part q (x .slot))) (point : v ≡ releasePoint T (q .t) (x .own)) (lies : hold ≡ message q (x .place))
-          (sees-port : port ≡ portAt T (x .own) (x .request .a) hold)
+          {view : Traffic} (shows : view ≡ seenTraffic T q (x .own) (x .place)) (sees-port : port ≡ portAt T (x .own) (x .request .a) hold view)
           (made : d ≡ called (record { time = q .t; frame = T .frame; release = v; caller = caller }) port (x .call) (x .request) (part q (x .slot))) where
         made-is : d ≡ decision m r
         made-is =
             let c = calls inside in
             let w = called-same in
-            made ∙ rw (runs, point, sees-port, lies, w, ← f .same, request-is, own-is, call-is, place-is, c .slot) (sym (place-passed m r (f .long) now seen (x .code) code-is (c .none) ∙ rw (c .some)))
+            made ∙ rw (runs, point, sees-port, lies, shows, w, ← f .same, request-is, own-is, call-is, place-is, c .slot) (sym (place-passed m r (f .long) now seen (x .code) code-is (c .none) ∙ rw (c .some)))
 
         made-called : d ≡ called (contextOf m k) (portOf m k r) (numberOf (r .call)) r (part m (k - 1))
         made-called = made-is ∙ place-passed m r (f .long) now seen (x .code) code-is (calls inside .none) ∙ chosen (calls inside .some)
@@ -312,32 +356,59 @@ module _ {m : Module} {e : Event} {T : Table} {x : Plan} (f : Planned m e T x) w
         window-is y a b = let w = called-same in rw (a, b, w) (current-is ∙ seen (calls inside .some))
 
         module _ {b : Reply} (says : b ≡ replyOf d) where
-          stores : {y : Module} → y ≡ moduleAfter m k d → length (y .partitions) ≡ partitionLimit → length (y .messages) ≡ channelLimit → y .table ≡ q .table → y .t ≡ q .t → After m (x .request) (x .current) y b
+          stores : {y : Module} → y ≡ moduleAfter m k d → length (y .partitions) ≡ partitionLimit → Held y → y .table ≡ q .table → y .t ≡ q .t → After m (x .request) (x .current) y b
           stores {y} g l l′ a t = record { state = rw (request-is) (g ∙ ap (moduleAfter m k) made-is); reply = rw (request-is) (says ∙ ap replyOf made-is); long = l; held = l′; window = window-is y a t }
 
-          pub call-same : changes d ≡ false → channelLimit ≤ writtenAt d → {y : Module} → y ≡ q → After m (x .request) (x .current) y b
-          call-same c h {y} g =
+          pub call-same : changes d ≡ false → channelLimit ≤ writtenAt d → channelLimit ≤ passedAt d → {y : Module} → y ≡ q → After m (x .request) (x .current) y b
+          call-same c h h′ {y} g =
               let w = called-same in
               let n = called-no-tick (contextOf m k) (portOf m k r) (numberOf (r .call)) r (part m (k - 1)) in
               let u : NoTick d = subst NoTick (sym made-called) (n .is) in
-              stores (g ∙ w ∙ sym (after-same m k (f .held) d u c h)) (rw (g, w) (f .long)) (rw (g, w) (f .held)) (ap (λ (z : Module). z .table) g) (ap (λ (z : Module). z .t) g)
+              stores (g ∙ w ∙ sym (after-same m k (f .held .0) d u c h h′)) (rw (g, w) (f .long)) (rw (g, w) (f .held)) (ap (λ (z : Module). z .table) g) (ap (λ (z : Module). z .t) g)
 
           pub call-written : writtenAt d < channelLimit → {a : Message} → a ≡ messageOf d → {y : Module} → y ≡ withMessage (writtenAt d) a q → After m (x .request) (x .current) y b
           call-written h {a} e {y} g =
               let w = called-same in
-              stores (g ∙ rw (e, w) (sym (after-written m k d h))) (rw (g, w) (f .long)) (rw (g, w) (length-set (m .messages) (writtenAt d) a ∙ f .held)) (ap (λ (z : Module). z .table) g) (ap (λ (z : Module). z .t) g)
+              stores (g ∙ rw (e, w) (sym (after-written m k d h))) (rw (g, w) (f .long)) (rw (g, w) (length-set (m .messages) (writtenAt d) a ∙ f .held .0, f .held .1)) (ap (λ (z : Module). z .table) g) (ap (λ (z : Module). z .t) g)
+
+          -- a transfer: the queue of messages, and where a wait ends, the partition at the other end
+          module _ (h : passedAt d < channelLimit) {a : Transfer} (is : a ≡ transferOf d) {l : Queue} (moves : l ≡ moved a (queue q (passedAt d))) {end : ℕ} (ends : end ≡ cond (endsWait a) (otherEnd (x .own) (channel T (passedAt d)) - 1) partitionLimit) where
+            pub call-passed : end < partitionLimit → {p : Partition} → p ≡ noted (endedBy a (part q end))
+                → {y : Module} → y ≡ record { table = q .table; t = q .t; messages = q .messages; queues = set (q .queues) (passedAt d) l; partitions = set (q .partitions) end p } → After m (x .request) (x .current) y b
+            call-passed inside {p} e {y} g =
+                let w = called-same in
+                let on : endsWait a ≡ true = either (endsWait a) (λ t. t) (λ t. let z : end ≡ partitionLimit = ends ∙ rw t in absurd (omega arith)) in
+                let at : end ≡ otherEnd k (channel (m .table) (passedAt d)) - 1 = ends ∙ rw (on, own-is, ← f .same) in
+                let done : passed k (passedAt d) (transferOf d) m ≡ withPart (otherEnd k (channel (m .table) (passedAt d)) - 1) (endedBy a (part m (otherEnd k (channel (m .table) (passedAt d)) - 1))) (withQueue (passedAt d) (moved a (queue m (passedAt d))) m) = rw (← is, on) in
+                stores (g ∙ rw (e, moves, w, at) (sym (after-passed m k d h ∙ done))) (rw (g, w) (length-set (m .partitions) end p ∙ f .long)) (rw (g, w) (f .held .0, length-set (m .queues) (passedAt d) l ∙ f .held .1)) (ap (λ (z : Module). z .table) g) (ap (λ (z : Module). z .t) g)
+
+            pub call-moved : partitionLimit ≤ end → {y : Module} → y ≡ record { table = q .table; t = q .t; messages = q .messages; queues = set (q .queues) (passedAt d) l; partitions = q .partitions } → After m (x .request) (x .current) y b
+            call-moved past {y} g =
+                let w = called-same in
+                let u = withQueue (passedAt d) (moved a (queue m (passedAt d))) m in
+                let done : passed k (passedAt d) (transferOf d) m ≡ u = rw (← is) (by-test (λ (z : Module). z ≡ u) (endsWait a)
+                (λ t.
+                let at : end ≡ otherEnd k (channel (m .table) (passedAt d)) - 1 = ends ∙ rw (t, own-is, ← f .same) in
+                ap (λ (v : List Partition). record { table = m .table; t = m .t; messages = m .messages; queues = set (m .queues) (passedAt d) (moved a (queue m (passedAt d))); partitions = v }) (set-out (m .partitions) (otherEnd k (channel (m .table) (passedAt d)) - 1) _ (omega (arith, f .long))))
+                (λ _. refl)) in
+                stores (g ∙ rw (moves, w) (sym (after-passed m k d h ∙ done))) (rw (g, w) (f .long)) (rw (g, w) (f .held .0, length-set (m .queues) (passedAt d) l ∙ f .held .1)) (ap (λ (z : Module). z .table) g) (ap (λ (z : Module). z .t) g)
 
           module _ {p : Partition} (after : p ≡ noted (partitionAfter d (part q (x .slot)))) where
-            pub call-changed : changes d ≡ true → restarts d ≡ false → {y : Module} → y ≡ record { table = q .table; t = q .t; messages = q .messages; partitions = set (q .partitions) (x .slot) p } → After m (x .request) (x .current) y b
+            pub call-changed : changes d ≡ true → restarts d ≡ false → {y : Module} → y ≡ record { table = q .table; t = q .t; messages = q .messages; queues = q .queues; partitions = set (q .partitions) (x .slot) p } → After m (x .request) (x .current) y b
             call-changed c n {y} g =
                 let w = called-same in
                 stores (g ∙ rw (after, w, calls inside .slot) (sym (after-changed m k d c n))) (rw (g, w) (length-set (m .partitions) (x .slot) p ∙ f .long)) (rw (g, w) (f .held)) (ap (λ (z : Module). z .table) g) (ap (λ (z : Module). z .t) g)
 
             pub call-restarted : restarts d ≡ true → {l : List Message} → l ≡ keptTo T (x .own) channelLimit (q .messages)
-                → {y : Module} → y ≡ record { table = q .table; t = q .t; messages = l; partitions = set (q .partitions) (x .slot) p } → After m (x .request) (x .current) y b
+                → {y : Module} → y ≡ refilledTo (x .own) channelLimit (record { table = q .table; t = q .t; messages = l; queues = q .queues; partitions = set (q .partitions) (x .slot) p }) → After m (x .request) (x .current) y b
             call-restarted n {l} kept {y} g =
                 let w = called-same in
-                stores (g ∙ rw (after, kept, own-is, w, ← f .same, calls inside .slot) (sym (after-restarted m k d n))) (rw (g, w) (length-set (m .partitions) (x .slot) p ∙ f .long)) (rw (g, kept, w) (kept-long T (x .own) channelLimit (m .messages) ∙ f .held)) (ap (λ (z : Module). z .table) g) (ap (λ (z : Module). z .t) g)
+                let u : Module = record { table = q .table; t = q .t; messages = l; queues = q .queues; partitions = set (q .partitions) (x .slot) p } in
+                let z = refilled-sizes (x .own) channelLimit u in
+                stores (g ∙ rw (after, kept, own-is, w, ← f .same, calls inside .slot) (sym (after-restarted m k d n)))
+                (ap (λ (v : Module). length (v .partitions)) g ∙ z .partitions ∙ rw w (length-set (m .partitions) (x .slot) p ∙ f .long))
+                (ap (λ (v : Module). length (v .messages)) g ∙ z .messages ∙ rw (kept, w) (kept-long T (x .own) channelLimit (m .messages) ∙ f .held .0), ap (λ (v : Module). length (v .queues)) g ∙ z .queues ∙ rw w (f .held .1))
+                (ap (λ (v : Module). v .table) g ∙ refilled-table (x .own) channelLimit u) (ap (λ (v : Module). v .t) g ∙ refilled-time (x .own) channelLimit u)
 
   -- ------------------------------------------------------------ the answer
   pub shown-spot : x .shown < partitionLimit → x .shown ≡ x .spot

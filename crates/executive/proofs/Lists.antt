@@ -11,7 +11,7 @@ use lib.ListN.{length, getD, getD-replicate, replicate, set, length-set, take, d
 use lib.Seq.{getD-set-same, getD-set-other, length-take-le, sets, sets-eq, length-sets, take-at, drop-at, drop-drop, getD-drop}
 use borrow.Author.Tests.{eqb-true, eqb-false}
 use Rattle.machine.specs.LeftRight.{next, after, answers}
-use Rattle.machine.specs.Limits.{partitionLimit, channelLimit}
+use Rattle.machine.specs.Limits.{partitionLimit}
 use Rattle.machine.specs.Module.{noPartition, part}
 use Rattle.machine.specs.Partition.{running}
 use Rattle.machine.specs.Replay.{answerNumbers}
@@ -25,6 +25,7 @@ use Rattle.machine.proofs.Bounds.{either}
 use Rattle.executive.specs.Executive.{turned, noAnswer}
 use Rattle.executive.specs.Lists.{notLooked, Follows, six, eventAt, firstEvents, eventNumbers, numbersIn, eventsIn, afterList, answeredList, lastAnswer}
 use Rattle.executive.specs.declared.Turn.{Turn}
+use Rattle.executive.proofs.Laws.{Held}
 
 -- ---------------------------------------------------------------- running processes
 -- the one at i is known, where there is such a partition
@@ -111,12 +112,12 @@ pub record Running (m₀ : Module) (l₀ : List ℤ) (n i : ℕ) (m : Module) (l
   pub size : length l ≡ length l₀
   pub table : m .table ≡ m₀ .table
   pub long : length (m .partitions) ≡ partitionLimit
-  pub held : length (m .messages) ≡ channelLimit
+  pub held : Held m
   pub state : after m (firstEvents (n - i) (drop (i * six) l)) ≡ after m₀ (firstEvents n l₀)
   pub answer : lastAnswer m last (firstEvents (n - i) (drop (i * six) l)) ≡ lastAnswer m₀ noAnswer (firstEvents n l₀)
   pub list : take (i * six) l ++ answeredIn (n - i) m (drop (i * six) l) ≡ answeredIn n m₀ l₀
 
-pub begins : (m₀ : Module) (l₀ : List ℤ) (n : ℕ) → length (m₀ .partitions) ≡ partitionLimit → length (m₀ .messages) ≡ channelLimit → n * six ≤ length l₀ → (a : Answer) → a ≡ noAnswer → Running m₀ l₀ n 0 m₀ l₀ a
+pub begins : (m₀ : Module) (l₀ : List ℤ) (n : ℕ) → length (m₀ .partitions) ≡ partitionLimit → Held m₀ → n * six ≤ length l₀ → (a : Answer) → a ≡ noAnswer → Running m₀ l₀ n 0 m₀ l₀ a
 begins m₀ l₀ n long held h a none = rw none (record { within = omega arith; room = h; size = refl; table = refl; long = long; held = held; state = simp unary-clauses; answer = simp unary-clauses; list = simp unary-clauses })
 
 module _ {m₀ : Module} {l₀ : List ℤ} {n i : ℕ} {m : Module} {l : List ℤ} {last : Answer} (so-far : Running m₀ l₀ n i m l last) where
@@ -130,7 +131,7 @@ module _ {m₀ : Module} {l₀ : List ℤ} {n i : ℕ} {m : Module} {l : List �
       (rw z at (so-far .state), rw z at (so-far .answer), sym (take-append-drop (i * six) l) ∙ (rw z at (so-far .list)) ∙ answered-in n m₀ l₀)
 
   -- the event at i is done: y is the record after it, and k the list with its answer a
-  module _ (h : i < n) {e : Event} (is : e ≡ eventAt l (i * six)) {y : Module} {a : Answer} (did : record { executive = record { inner = y }; answer = a } ≡ turned (step m e)) (long : length (y .partitions) ≡ partitionLimit) (held : length (y .messages) ≡ channelLimit)
+  module _ (h : i < n) {e : Event} (is : e ≡ eventAt l (i * six)) {y : Module} {a : Answer} (did : record { executive = record { inner = y }; answer = a } ≡ turned (step m e)) (long : length (y .partitions) ≡ partitionLimit) (held : Held y)
       {k : List ℤ} (put : k ≡ sets l (i * six) (answerNumbers a)) where
     left-is : n - i ≡ suc (n - (i + 1))
     left-is = omega arith

@@ -109,6 +109,22 @@ unfolding refilledTo
 refilled-time k zero m = refl
 refilled-time k (suc n) m = by-test (λ (x : Module). x .t ≡ m .t) (filled k (refilledTo k n m .table) n) (λ _. refilled-time k n m) (λ _. refilled-time k n m)
 
+-- nothing is lost of the places
+pub record Sizes (m q : Module) : Type 0 where
+  pub partitions : length (q .partitions) ≡ length (m .partitions)
+  pub messages : length (q .messages) ≡ length (m .messages)
+  pub queues : length (q .queues) ≡ length (m .queues)
+
+pub refilled-sizes : (k n : ℕ) (m : Module) → Sizes m (refilledTo k n m)
+unfolding refilledTo
+refilled-sizes k zero m = record { partitions = refl; messages = refl; queues = refl }
+refilled-sizes k (suc n) m =
+    let u = refilledTo k n m in
+    let h = refilled-sizes k n m in
+    by-test (Sizes m) (filled k (u .table) n)
+    (λ _. record { partitions = length-set (u .partitions) (channel (u .table) n .source - 1) _ ∙ h .partitions; messages = h .messages; queues = length-set (u .queues) n _ ∙ h .queues })
+    (λ _. h)
+
 -- another queue stays
 pub refilled-queue-other : (k n : ℕ) (m : Module) (i : ℕ) → filled k (m .table) i ≡ false → queue (refilledTo k n m) i ≡ queue m i
 unfolding refilledTo

@@ -13,7 +13,7 @@ use Rattle.machine.proofs.Folds.{tick-to-more}
 -- partition number i + 1 is ticked, or passed over
 module _ (i t : ℕ) (m q r : Module) (so-far : q ≡ tickTo i m) (now : q .t ≡ t) where
   pub tick-due : (x : Partition) → x ≡ noted (tickPartition t (part q i)) → part q i .soonest ≤ t
-      → r ≡ record { table = q .table; t = q .t; messages = q .messages; partitions = set (q .partitions) i x } → r ≡ tickTo (i + 1) m
+      → r ≡ record { table = q .table; t = q .t; messages = q .messages; queues = q .queues; partitions = set (q .partitions) i x } → r ≡ tickTo (i + 1) m
   unfolding tickAt
   tick-due x e h s = s ∙ rw (e, ← now) (step ∙ ap (tickAt i) so-far ∙ sym (tick-to-more i m))
     where

@@ -6,7 +6,7 @@ use mathlib.Core.Path.{_≡_, refl, sym, ap, _∙_, subst}
 use native.Mathlib.Omega.{arith}
 use lib.Dec.{eqb, leb, ltb}
 use lib.IntN.{ℤ}
-use lib.ListN.{length, set, length-set, List·getD-eq-default}
+use lib.ListN.{length, getD, set, length-set, List·getD-eq-default}
 use lib.Seq.{set-out}
 use mir.Syntax.{w64}
 use mir.Val.{toZ, ofZ, SFits}
@@ -14,7 +14,7 @@ use mir.ValLaws.{toZ-ofZ}
 use borrow.Author.Tests.{ne-eqb, lt-ltb, ltb-true, ltb-false, eqb-true, eqb-false, leb-true, not-false}
 use Rattle.machine.specs.Channels.{portAt, portOf, queuingAt, seesTraffic, otherEnd, otherQueue, noTraffic, trafficOf, passed, leadsInto, keptTo, refilledTo}
 use Rattle.machine.specs.Decisions.{coded, checked, codeOf, replyOf, changes, restarts, writtenAt, messageOf, passedAt, transferOf, noMessage}
-use Rattle.machine.specs.Messages.{moved, endsWait}
+use Rattle.machine.specs.Messages.{noQueue, moved, endsWait}
 use Rattle.machine.specs.Fields.{requestOf, numberOf}
 use Rattle.machine.specs.Limits.{partitionLimit, channelLimit}
 use Rattle.machine.specs.Module.{noPartition, channel, part, message, queue, current, runningIn, withPart, withMessage, withQueue, withTime}
@@ -156,6 +156,16 @@ seenTraffic T q k i =
     let c = channel T i in
     cond (seesTraffic T k i) (trafficOf (queue q i) (otherQueue k i c) (part q (otherEnd k c - 1))) noTraffic
 
+-- what a read of an array of queues would give past its end
+abbrev pub pastQueue : Queue
+pastQueue = record { items = []; len = 0 }
+
+-- what stands at a place of a list, whatever would stand past its end
+getD-any : {A : Type 0} (l : List A) (i : ℕ) (d e : A) → i < length l → getD l i d ≡ getD l i e
+getD-any [] i d e h = absurd (omega arith)
+getD-any (x ∷ l) zero d e h = refl
+getD-any (x ∷ l) (suc i) d e h = getD-any l i d e (omega arith)
+
 -- where the partition at the other end lies, past the last where no traffic is seen
 module _ (T : Table) (long : length (T .channels) ≡ channelLimit) (k i : ℕ) {n : ℕ} (e : n ≡ cond (seesTraffic T k i) (otherEnd k (channel T i) - 1) partitionLimit) where
   sees-it : n < partitionLimit → seesTraffic T k i ≡ true
@@ -164,11 +174,12 @@ module _ (T : Table) (long : length (T .channels) ≡ channelLimit) (k i : ℕ) 
   pub seen-place : n < partitionLimit → i < channelLimit
   seen-place h = placed T i long (and-right (ltb i (T .channelCount)) _ (and-left (queuingAt T i) _ (sees-it h)))
 
-  pub seen-here : n < partitionLimit → (q : Module) {o : ℕ} → o ≡ cond (ltb i channelLimit) (otherQueue k i (channel T i)) 0 → {v : Traffic} → v ≡ trafficOf (queue q i) o (part q n) → v ≡ seenTraffic T q k i
-  seen-here h q {o} is {v} g =
+  pub seen-here : n < partitionLimit → (q : Module) → Held q → {o : ℕ} → o ≡ cond (ltb i channelLimit) (otherQueue k i (channel T i)) 0 → {v : Traffic} → v ≡ trafficOf (getD (q .queues) i pastQueue) o (part q n) → v ≡ seenTraffic T q k i
+  seen-here h q l {o} is {v} g =
       let at : n ≡ otherEnd k (channel T i) - 1 = e ∙ rw (sees-it h) in
       let object : o ≡ otherQueue k i (channel T i) = is ∙ rw (lt-ltb i channelLimit (seen-place h)) in
-      g ∙ rw (object, at, sees-it h)
+      let same : getD (q .queues) i pastQueue ≡ queue q i = getD-any (q .queues) i pastQueue noQueue (let z = seen-place h in omega (arith, l .1)) in
+      g ∙ rw (object, at, sees-it h, same)
 
   pub seen-none : partitionLimit ≤ n → (q : Module) {v : Traffic} → v ≡ noTraffic → v ≡ seenTraffic T q k i
   seen-none h q g = either (seesTraffic T k i) (λ t. absurd (near t)) (λ t. g ∙ rw t)
@@ -372,7 +383,10 @@ module _ {m : Module} {e : Event} {T : Table} {x : Plan} (f : Planned m e T x) w
               stores (g ∙ rw (e, w) (sym (after-written m k d h))) (rw (g, w) (f .long)) (rw (g, w) (length-set (m .messages) (writtenAt d) a ∙ f .held .0, f .held .1)) (ap (λ (z : Module). z .table) g) (ap (λ (z : Module). z .t) g)
 
           -- a transfer: the queue of messages, and where a wait ends, the partition at the other end
-          module _ (h : passedAt d < channelLimit) {a : Transfer} (is : a ≡ transferOf d) {l : Queue} (moves : l ≡ moved a (queue q (passedAt d))) {end : ℕ} (ends : end ≡ cond (endsWait a) (otherEnd (x .own) (channel T (passedAt d)) - 1) partitionLimit) where
+          module _ (h : passedAt d < channelLimit) {a : Transfer} (is : a ≡ transferOf d) {l : Queue} (moved-is : l ≡ moved a (getD (q .queues) (passedAt d) pastQueue)) {end : ℕ} (ends : end ≡ cond (endsWait a) (otherEnd (x .own) (channel T (passedAt d)) - 1) partitionLimit) where
+            moves : l ≡ moved a (queue q (passedAt d))
+            moves = moved-is ∙ ap (moved a) (getD-any (q .queues) (passedAt d) pastQueue noQueue (let w = called-same in let z : length (q .queues) ≡ channelLimit = rw w (f .held .1) in omega arith))
+
             pub call-passed : end < partitionLimit → {p : Partition} → p ≡ noted (endedBy a (part q end))
                 → {y : Module} → y ≡ record { table = q .table; t = q .t; messages = q .messages; queues = set (q .queues) (passedAt d) l; partitions = set (q .partitions) end p } → After m (x .request) (x .current) y b
             call-passed inside {p} e {y} g =
@@ -383,7 +397,7 @@ module _ {m : Module} {e : Event} {T : Table} {x : Plan} (f : Planned m e T x) w
                 stores (g ∙ rw (e, moves, w, at) (sym (after-passed m k d h ∙ done))) (rw (g, w) (length-set (m .partitions) end p ∙ f .long)) (rw (g, w) (f .held .0, length-set (m .queues) (passedAt d) l ∙ f .held .1)) (ap (λ (z : Module). z .table) g) (ap (λ (z : Module). z .t) g)
 
             pub call-moved : partitionLimit ≤ end → {y : Module} → y ≡ record { table = q .table; t = q .t; messages = q .messages; queues = set (q .queues) (passedAt d) l; partitions = q .partitions } → After m (x .request) (x .current) y b
-            call-moved past {y} g =
+            call-moved far {y} g =
                 let w = called-same in
                 let u = withQueue (passedAt d) (moved a (queue m (passedAt d))) m in
                 let done : passed k (passedAt d) (transferOf d) m ≡ u = rw (← is) (by-test (λ (z : Module). z ≡ u) (endsWait a)

@@ -73,6 +73,15 @@ pub known-set : {m : Module} {l : List ℕ} → Follows m l → length (m .parti
     → {y : Module} {k : List ℕ} → y .partitions ≡ set (m .partitions) i p → k ≡ set l i n → Known y k j
 known-set {m} {l} f long {i} {j} h e p {n} r {y} {k} g s = record { is = λ b. rw (← e, s, g, getD-set-same l i n 0 (rw (f .long) h), getD-set-same (m .partitions) i p noPartition (rw long h)) r }
 
+-- a partition is stored, at that place or another
+pub known-put : {m : Module} {l : List ℕ} → Follows m l → length (m .partitions) ≡ partitionLimit → {i j : ℕ} → Known m l j → i < partitionLimit → (p : Partition) {n : ℕ} → n ≡ running p
+    → {y : Module} {k : List ℕ} → y .partitions ≡ set (m .partitions) i p → k ≡ set l i n → Known y k j
+known-put {m} {l} f long {i} {j} known h p {n} r {y} {k} g s = record {
+  is = λ b. either (eqb j i)
+      (λ z. rw (eqb-true j i z, s, g, getD-set-same l i n 0 (rw (f .long) h), getD-set-same (m .partitions) i p noPartition (rw long h)) r)
+      (λ z. rw (s, g, getD-set-other l i j n 0 (eqb-false j i z), getD-set-other (m .partitions) i j p noPartition (eqb-false j i z)) (known .is b));
+}
+
 pub known-same : {m : Module} {l : List ℕ} {i : ℕ} → Known m l i → {y : Module} {k : List ℕ} → y .partitions ≡ m .partitions → k ≡ l → Known y k i
 known-same f g s = record { is = λ b. rw (s, g) (f .is b) }
 

@@ -9,6 +9,7 @@ use lib.ListN.{length, getD, length-set, List·getD-eq-default}
 use borrow.Author.Needs.{needs}
 use Rattle.machine.specs.Decisions.{noMessage}
 use Rattle.machine.specs.Limits.{partitionLimit, channelLimit}
+use Rattle.machine.specs.Channels.{noTraffic}
 use Rattle.machine.specs.Module.{part, message, runningIn, withTime}
 use Rattle.machine.specs.Partition.{running}
 use Rattle.machine.specs.Step.{sees}
@@ -19,19 +20,19 @@ use Rattle.machine.proofs.Folds.{tick-to-none}
 use Rattle.machine.proofs.Taken.{length-mapped}
 use Rattle.ticks.proofs.Laws.{tick-due, tick-later}
 use Rattle.executive.specs.Lists.{six, Follows}
-use Rattle.executive.proofs.Laws.{After, Planned, few-ticks, slot-spot, not-called, call-same, call-written, call-changed, call-restarted, shown-spot, runs-shown, none-shown, event-answered}
-use Rattle.executive.proofs.Lists.{Known, begins-unknown, follows-same, follows-set, follows-looked, known-looked, known-before, known-past, known-set, known-same, Running, begins, fits, ends, goes-on}
+use Rattle.executive.proofs.Laws.{After, Planned, few-ticks, slot-spot, Held, seenTraffic, seen-place, seen-here, seen-none, not-called, call-same, call-written, call-passed, call-moved, call-changed, call-restarted, shown-spot, runs-shown, none-shown, event-answered}
+use Rattle.executive.proofs.Lists.{Known, begins-unknown, follows-same, follows-set, follows-looked, known-looked, known-before, known-past, known-set, known-put, known-same, Running, begins, fits, ends, goes-on}
 use Rattle.executive.proofs.Executive.run_list.Statement.{statement}
 use Rattle.executive.proofs.Executive.run_list.Tie as tie
 
 abbrev Inv-loop2 : tie.InvT-loop2
-Inv-loop2 list m₀ table runs₀ n i at x j₀ m runs j = (j ≤ x .ticks) × (x .ticks ≤ partitionLimit) × (m ≡ tickTo j m₀) × (length (m .partitions) ≡ partitionLimit) × (length (m .messages) ≡ channelLimit) × Follows m runs
+Inv-loop2 list m₀ table runs₀ n i at x j₀ m runs j = (j ≤ x .ticks) × (x .ticks ≤ partitionLimit) × (m ≡ tickTo j m₀) × (length (m .partitions) ≡ partitionLimit) × Held m × Follows m runs
 
 abbrev μ-loop2 : tie.MeasureT-loop2
 μ-loop2 list m₀ table runs₀ n i at x j₀ m runs j = x .ticks - j
 
 abbrev Inv-loop : tie.InvT-loop
-Inv-loop list₀ m₀ table runs₀ last₀ n i₀ list m runs last i = Running m₀ list₀ n i m list last × Follows m runs
+Inv-loop list₀ m₀ table runs₀ last₀ n i₀ list m runs last i = Running m₀ list₀ n i m list last × Follows m runs × (length (table .channels) ≡ channelLimit)
 
 abbrev μ-loop : tie.MeasureT-loop
 μ-loop list₀ m₀ table runs₀ last₀ n i₀ list m runs last i = n - i
@@ -59,48 +60,63 @@ looked c =
 -- the message on the channel that a call may name
 held : (c : tie.Joined5 Inv-loop2 μ-loop2 Inv-loop μ-loop) → c .if5 .held ≡ message (c .before .before .before .before .before .loop2 .m) (c .before .before .before .before .before .before .plan-of .result .place)
 held c =
-    let l = c .before .before .before .before .before .loop2 .inv .4 in
+    let l = c .before .before .before .before .before .loop2 .inv .4 .0 in
     ⊎-elim (λ w. w .2)
     (λ w. w .1 ∙ c .before .no-message .ensures ∙ sym (List·getD-eq-default (c .before .before .before .before .before .loop2 .m .messages) noMessage (omega (arith, l, w .0 .left))))
     (c .if5 .came)
 
-runs-known : (c : tie.Joined6 Inv-loop2 μ-loop2 Inv-loop μ-loop) → c .before .before .before .before .before .before .before .before .plan-of .result .slot < partitionLimit → getD (c .before .before .before .before .if3 .runs) (c .before .before .before .before .before .before .before .before .plan-of .result .slot) 0 ≡ running (part (c .before .before .before .before .before .before .before .loop2 .m) (c .before .before .before .before .before .before .before .before .plan-of .result .slot))
-runs-known c h = let e = slot-spot (planned (c .before .before .before .before .before .before .before .before)) h in rw e (looked (c .before .before .before .before) .1 .is (rw e at h))
+-- its traffic
+traffic : (c : tie.Joined6 Inv-loop2 μ-loop2 Inv-loop μ-loop) → c .if6 .traffic ≡ seenTraffic (c .before .before .before .before .before .before .before .before .before .before .before .before .before .before .before .before .before .args .self .inner .table) (c .before .before .before .before .before .before .before .before .loop2 .m) (c .before .before .before .before .before .before .before .before .before .plan-of .result .own) (c .before .before .before .before .before .before .before .before .before .plan-of .result .place)
+traffic c =
+    let T = c .before .before .before .before .before .before .before .before .before .before .before .before .before .before .before .before .before .args .self .inner .table in
+    let long : length (T .channels) ≡ channelLimit = c .before .before .before .before .before .before .before .before .before .before .before .before .before .loop .inv .2 in
+    let k = c .before .before .before .before .before .before .before .before .before .plan-of .result .own in
+    let i = c .before .before .before .before .before .before .before .before .before .plan-of .result .place in
+    ⊎-elim (λ w. seen-here T long k i (c .before .before .seen-slot .ensures) (w .0 .taken) (c .before .before .before .before .before .before .before .before .loop2 .m) (c .before .before .before .before .before .before .before .before .loop2 .inv .4) (w .1 .ensures) (w .5 ∙ w .4 .ensures))
+    (λ w. seen-none T long k i (c .before .before .seen-slot .ensures) (w .0 .left) (c .before .before .before .before .before .before .before .before .loop2 .m) (w .1 ∙ c .before .no-traffic .ensures))
+    (c .if6 .came)
+
+runs-known : (c : tie.Joined7 Inv-loop2 μ-loop2 Inv-loop μ-loop) → c .before .before .before .before .before .before .before .before .before .before .before .plan-of .result .slot < partitionLimit → getD (c .before .before .before .before .before .before .before .if3 .runs) (c .before .before .before .before .before .before .before .before .before .before .before .plan-of .result .slot) 0 ≡ running (part (c .before .before .before .before .before .before .before .before .before .before .loop2 .m) (c .before .before .before .before .before .before .before .before .before .before .before .plan-of .result .slot))
+runs-known c h = let e = slot-spot (planned (c .before .before .before .before .before .before .before .before .before .before .before)) h in rw e (looked (c .before .before .before .before .before .before .before) .1 .is (rw e at h))
 
 -- each way through the event
-after : (c : tie.Joined6 Inv-loop2 μ-loop2 Inv-loop μ-loop) → After (c .before .before .before .before .before .before .before .before .before .before .before .before .loop .m) (c .before .before .before .before .before .before .before .before .plan-of .result .request) (c .before .before .before .before .before .before .before .before .plan-of .result .current) (c .if6 .m) (c .if6 .reply)
+after : (c : tie.Joined7 Inv-loop2 μ-loop2 Inv-loop μ-loop) → After (c .before .before .before .before .before .before .before .before .before .before .before .before .before .before .before .loop .m) (c .before .before .before .before .before .before .before .before .before .before .before .plan-of .result .request) (c .before .before .before .before .before .before .before .before .before .before .before .plan-of .result .current) (c .if7 .m) (c .if7 .reply)
 after c =
-    ⊎-elim (λ w. call-restarted (planned (c .before .before .before .before .before .before .before .before)) (ticked (c .before .before .before .before .before)) (w .0 .taken) (runs-known c (w .0 .taken)) (w .3 .ensures) (held (c .before .before)) (w .4 .ensures) (w .5 .ensures) (w .19 ∙ w .6 .ensures) (w .10 .ensures) (sym (w .12 .ensures) ∙ w .13 .taken) (w .15 .ensures) (w .17))
-    (λ u. ⊎-elim (λ w. call-changed (planned (c .before .before .before .before .before .before .before .before)) (ticked (c .before .before .before .before .before)) (w .0 .taken) (runs-known c (w .0 .taken)) (w .3 .ensures) (held (c .before .before)) (w .4 .ensures) (w .5 .ensures) (w .16 ∙ w .6 .ensures) (w .10 .ensures) (sym (w .8 .ensures) ∙ w .9 .taken) (sym (w .12 .ensures) ∙ w .13 .left) (w .14))
-    (λ t. ⊎-elim (λ w. call-written (planned (c .before .before .before .before .before .before .before .before)) (ticked (c .before .before .before .before .before)) (w .0 .taken) (runs-known c (w .0 .taken)) (w .3 .ensures) (held (c .before .before)) (w .4 .ensures) (w .5 .ensures) (w .14 ∙ w .6 .ensures) (rw (w .7 .ensures) at (w .10 .taken)) (w .11 .ensures) (rw (w .7 .ensures) at (w .12)))
-    (λ v. ⊎-elim (λ w. call-same (planned (c .before .before .before .before .before .before .before .before)) (ticked (c .before .before .before .before .before)) (w .0 .taken) (runs-known c (w .0 .taken)) (w .3 .ensures) (held (c .before .before)) (w .4 .ensures) (w .5 .ensures) (w .13 ∙ w .6 .ensures) (sym (w .8 .ensures) ∙ w .9 .left) (rw (w .7 .ensures) at (w .10 .left)) (w .11))
-    (λ w. not-called (planned (c .before .before .before .before .before .before .before .before)) (ticked (c .before .before .before .before .before)) (w .0 .left) (w .1) (w .3 ∙ c .before .reply-with .ensures)) v) t) u)
-    (c .if6 .came)
+    ⊎-elim (λ w. call-restarted (planned (c .before .before .before .before .before .before .before .before .before .before .before)) (ticked (c .before .before .before .before .before .before .before .before)) (w .0 .taken) (runs-known c (w .0 .taken)) (w .3 .ensures) (held (c .before .before .before .before .before)) (traffic (c .before .before)) (w .4 .ensures) (w .5 .ensures) (w .23 ∙ w .6 .ensures) (w .11 .ensures) (sym (w .13 .ensures) ∙ w .14 .taken) (w .16 .ensures) (w .21 ∙ w .18 .ensures))
+    (λ u1. ⊎-elim (λ w. call-changed (planned (c .before .before .before .before .before .before .before .before .before .before .before)) (ticked (c .before .before .before .before .before .before .before .before)) (w .0 .taken) (runs-known c (w .0 .taken)) (w .3 .ensures) (held (c .before .before .before .before .before)) (traffic (c .before .before)) (w .4 .ensures) (w .5 .ensures) (w .17 ∙ w .6 .ensures) (w .11 .ensures) (sym (w .9 .ensures) ∙ w .10 .taken) (sym (w .13 .ensures) ∙ w .14 .left) (w .15))
+    (λ u2. ⊎-elim (λ w. call-written (planned (c .before .before .before .before .before .before .before .before .before .before .before)) (ticked (c .before .before .before .before .before .before .before .before)) (w .0 .taken) (runs-known c (w .0 .taken)) (w .3 .ensures) (held (c .before .before .before .before .before)) (traffic (c .before .before)) (w .4 .ensures) (w .5 .ensures) (w .15 ∙ w .6 .ensures) (rw (w .7 .ensures) at (w .11 .taken)) (w .12 .ensures) (rw (w .7 .ensures) at (w .13)))
+    (λ u3. ⊎-elim (λ w. call-passed (planned (c .before .before .before .before .before .before .before .before .before .before .before)) (ticked (c .before .before .before .before .before .before .before .before)) (w .0 .taken) (runs-known c (w .0 .taken)) (w .3 .ensures) (held (c .before .before .before .before .before)) (traffic (c .before .before)) (w .4 .ensures) (w .5 .ensures) (w .23 ∙ w .6 .ensures) (rw (w .8 .ensures) at (w .12 .taken)) (w .13 .ensures) (rw (w .8 .ensures) at (w .15 .ensures)) (rw (w .8 .ensures) at (w .16 .ensures)) (w .17 .taken) (w .19 .ensures) (rw (w .8 .ensures) at (w .21)))
+    (λ u4. ⊎-elim (λ w. call-moved (planned (c .before .before .before .before .before .before .before .before .before .before .before)) (ticked (c .before .before .before .before .before .before .before .before)) (w .0 .taken) (runs-known c (w .0 .taken)) (w .3 .ensures) (held (c .before .before .before .before .before)) (traffic (c .before .before)) (w .4 .ensures) (w .5 .ensures) (w .20 ∙ w .6 .ensures) (rw (w .8 .ensures) at (w .12 .taken)) (w .13 .ensures) (rw (w .8 .ensures) at (w .15 .ensures)) (rw (w .8 .ensures) at (w .16 .ensures)) (w .17 .left) (rw (w .8 .ensures) at (w .18)))
+    (λ u5. ⊎-elim (λ w. call-same (planned (c .before .before .before .before .before .before .before .before .before .before .before)) (ticked (c .before .before .before .before .before .before .before .before)) (w .0 .taken) (runs-known c (w .0 .taken)) (w .3 .ensures) (held (c .before .before .before .before .before)) (traffic (c .before .before)) (w .4 .ensures) (w .5 .ensures) (w .15 ∙ w .6 .ensures) (sym (w .9 .ensures) ∙ w .10 .left) (rw (w .7 .ensures) at (w .11 .left)) (rw (w .8 .ensures) at (w .12 .left)) (w .13))
+    (λ w. not-called (planned (c .before .before .before .before .before .before .before .before .before .before .before)) (ticked (c .before .before .before .before .before .before .before .before)) (w .0 .left) (w .1) (w .3 ∙ c .before .reply-with .ensures)) u5) u4) u3) u2) u1)
+    (c .if7 .came)
 
 -- the running processes after it
-runs-after : (c : tie.Joined6 Inv-loop2 μ-loop2 Inv-loop μ-loop) → Follows (c .if6 .m) (c .if6 .runs) × Known (c .if6 .m) (c .if6 .runs) (c .before .before .before .before .before .before .before .before .plan-of .result .spot)
+runs-after : (c : tie.Joined7 Inv-loop2 μ-loop2 Inv-loop μ-loop) → Follows (c .if7 .m) (c .if7 .runs) × Known (c .if7 .m) (c .if7 .runs) (c .before .before .before .before .before .before .before .before .before .before .before .plan-of .result .spot)
 runs-after c =
-    let f = looked (c .before .before .before .before) .0 in
-    let k = looked (c .before .before .before .before) .1 in
-    let l = c .before .before .before .before .before .before .before .loop2 .inv .3 in
-    ⊎-elim (λ w. (follows-set f l (w .0 .taken) (w .10 .result) (λ _. w .11 .ensures) (ap parts (w .17)) (w .18), known-set f l (w .0 .taken) (slot-spot (planned (c .before .before .before .before .before .before .before .before)) (w .0 .taken)) (w .10 .result) (w .11 .ensures) (ap parts (w .17)) (w .18)))
-    (λ u. ⊎-elim (λ w. (follows-set f l (w .0 .taken) (w .10 .result) (λ _. w .11 .ensures) (ap parts (w .14)) (w .15), known-set f l (w .0 .taken) (slot-spot (planned (c .before .before .before .before .before .before .before .before)) (w .0 .taken)) (w .10 .result) (w .11 .ensures) (ap parts (w .14)) (w .15)))
-    (λ t. ⊎-elim (λ w. (follows-same f (ap parts (w .12)) (w .13), known-same k (ap parts (w .12)) (w .13)))
-    (λ v. ⊎-elim (λ w. (follows-same f (ap parts (w .11)) (w .12), known-same k (ap parts (w .11)) (w .12)))
-    (λ w. (follows-same f (ap parts (w .1)) (w .2), known-same k (ap parts (w .1)) (w .2))) v) t) u)
-    (c .if6 .came)
+    let f = looked (c .before .before .before .before .before .before .before) .0 in
+    let k = looked (c .before .before .before .before .before .before .before) .1 in
+    let l = c .before .before .before .before .before .before .before .before .before .before .loop2 .inv .3 in
+    ⊎-elim (λ w. let e = slot-spot (planned (c .before .before .before .before .before .before .before .before .before .before .before)) (w .0 .taken) in rw (w .21) (follows-looked (begins-unknown (w .18 .result)) (w .0 .taken) (w .20 .ensures) (w .22), rw e at (known-looked (begins-unknown (w .18 .result)) (w .0 .taken) (w .20 .ensures) (w .22))))
+    (λ u1. ⊎-elim (λ w. (follows-set f l (w .0 .taken) (w .11 .result) (λ _. w .12 .ensures) (ap parts (w .15)) (w .16), known-set f l (w .0 .taken) (slot-spot (planned (c .before .before .before .before .before .before .before .before .before .before .before)) (w .0 .taken)) (w .11 .result) (w .12 .ensures) (ap parts (w .15)) (w .16)))
+    (λ u2. ⊎-elim (λ w. (follows-same f (ap parts (w .13)) (w .14), known-same k (ap parts (w .13)) (w .14)))
+    (λ u3. ⊎-elim (λ w. (follows-set f l (w .17 .taken) (w .19 .result) (λ _. w .20 .ensures) (ap parts (w .21)) (w .22), known-put f l k (w .17 .taken) (w .19 .result) (w .20 .ensures) (ap parts (w .21)) (w .22)))
+    (λ u4. ⊎-elim (λ w. (follows-same f (ap parts (w .18)) (w .19), known-same k (ap parts (w .18)) (w .19)))
+    (λ u5. ⊎-elim (λ w. (follows-same f (ap parts (w .13)) (w .14), known-same k (ap parts (w .13)) (w .14)))
+    (λ w. (follows-same f (ap parts (w .1)) (w .2), known-same k (ap parts (w .1)) (w .2))) u5) u4) u3) u2) u1)
+    (c .if7 .came)
 
 -- the running process shown
-shown : (c : tie.Joined10 Inv-loop2 μ-loop2 Inv-loop μ-loop) → c .if10 .running ≡ cond (sees (c .before .before .before .before .before .before .before .before .before .plan-of .result .request) (c .before .before .before .before .before .before .before .before .before .plan-of .result .current)) (runningIn (c .before .before .before .before .before .before .before .before .before .plan-of .result .current) (c .before .if6 .m)) 0
+shown : (c : tie.Joined13 Inv-loop2 μ-loop2 Inv-loop μ-loop) → c .if13 .running ≡ cond (sees (c .before .before .before .before .before .before .before .before .before .before .before .before .plan-of .result .request) (c .before .before .before .before .before .before .before .before .before .before .before .before .plan-of .result .current)) (runningIn (c .before .before .before .before .before .before .before .before .before .before .before .before .plan-of .result .current) (c .before .if7 .m)) 0
 shown c =
-    let p = planned (c .before .before .before .before .before .before .before .before .before) in
+    let p = planned (c .before .before .before .before .before .before .before .before .before .before .before .before) in
     let a = after (c .before) in
     ⊎-elim (λ w. let e = shown-spot p (w .0 .taken) in runs-shown p a (w .0 .taken) (rw e at (w .1) ∙ runs-after (c .before) .1 .is (rw e at (w .0 .taken))))
     (λ w. w .1 ∙ none-shown p a (w .0 .left))
-    (c .if10 .came)
+    (c .if13 .came)
 
 loop-holds : tie.Need-loop-holds Inv-loop2 μ-loop2 Inv-loop μ-loop
-loop-holds c = (begins _ _ _ (search (needs, length-mapped)) (search (needs, length-mapped)) (div-mul-le-self _ six) _ (c .no-answer .ensures), begins-unknown _)
+loop-holds c = (begins _ _ _ (search (needs, length-mapped)) (search (needs, length-mapped), search (needs, length-mapped)) (div-mul-le-self _ six) _ (c .no-answer .ensures), begins-unknown _, search (needs, length-mapped))
 
 mul-at : tie.Need-mul-at Inv-loop2 μ-loop2 Inv-loop μ-loop
 mul-at c = let h = fits (c .before .loop .inv .0) (c .loop-test .taken) in omega (arith, h)
@@ -127,32 +143,31 @@ loop2-again c =
       ⊎-elim (λ w. ap (λ (z : Module). length (z .partitions)) (w .3) ∙ length-set (q .partitions) j (w .2 .result) ∙ v .3)
           (λ w. ap (λ (z : Module). length (z .partitions)) (w .1) ∙ v .3)
           (c .if2 .came),
-      ⊎-elim (λ w. ap (λ (z : Module). length (z .messages)) (w .3) ∙ v .4)
-          (λ w. ap (λ (z : Module). length (z .messages)) (w .1) ∙ v .4)
-          (c .if2 .came),
+      ⊎-elim (λ w. rw (w .3) (v .4)) (λ w. rw (w .1) (v .4)) (c .if2 .came),
       ⊎-elim (λ w. follows-set (v .5) (v .3) (omega (arith, c .before .if1 .taken, v .1)) (w .2 .result) (λ n. absurd (n refl)) (ap parts (w .3)) (w .4))
           (λ w. follows-same (v .5) (ap parts (w .1)) (w .2))
           (c .if2 .came),
     )
 
 put-answer-requires : tie.Need-put-answer-requires Inv-loop2 μ-loop2 Inv-loop μ-loop
-put-answer-requires c κs = fits (c .before .before .before .before .before .before .before .before .before .before .before .before .before .before .before .loop .inv .0) (c .before .before .before .before .before .before .before .before .before .before .before .before .before .before .loop-test .taken)
+put-answer-requires c κs = fits (c .before .before .before .before .before .before .before .before .before .before .before .before .before .before .before .before .before .before .loop .inv .0) (c .before .before .before .before .before .before .before .before .before .before .before .before .before .before .before .before .before .loop-test .taken)
 
 add-i : tie.Need-add-i Inv-loop2 μ-loop2 Inv-loop μ-loop
 add-i c =
-    let loop = c .before .before .before .before .before .before .before .before .before .before .before .before .before .before .before .before .before .loop in
-    let h = fits (loop .inv .0) (c .before .before .before .before .before .before .before .before .before .before .before .before .before .before .before .before .loop-test .taken) in
-    let g : length (c .before .before .before .before .before .before .before .before .before .before .before .before .before .before .before .before .before .before .before .before .before .args .list .now) < 18446744073709551616 = omega (arith, c .before .before .before .before .before .before .before .before .before .before .before .before .before .before .before .before .before .before .before .before .before .good) in
+    let loop = c .before .before .before .before .before .before .before .before .before .before .before .before .before .before .before .before .before .before .before .before .loop in
+    let h = fits (loop .inv .0) (c .before .before .before .before .before .before .before .before .before .before .before .before .before .before .before .before .before .before .before .loop-test .taken) in
+    let g : length (c .before .before .before .before .before .before .before .before .before .before .before .before .before .before .before .before .before .before .before .before .before .before .before .before .args .list .now) < 18446744073709551616 = omega (arith, c .before .before .before .before .before .before .before .before .before .before .before .before .before .before .before .before .before .before .before .before .before .before .before .before .good) in
     record { fits = omega (arith, h, g, loop .inv .0 .size) }
 
 loop-less : tie.Need-loop-less Inv-loop2 μ-loop2 Inv-loop μ-loop
-loop-less c = omega (arith, c .before .before .before .before .before .before .before .before .before .before .before .before .before .before .before .before .loop-test .taken)
+loop-less c = omega (arith, c .before .before .before .before .before .before .before .before .before .before .before .before .before .before .before .before .before .before .before .loop-test .taken)
 
 loop-again : tie.Need-loop-again Inv-loop2 μ-loop2 Inv-loop μ-loop
 loop-again c =
     let a = after (c .before .before .before .before .before) in (
-      goes-on (c .before .before .before .before .before .before .before .before .before .before .before .before .before .before .before .before .before .loop .inv .0) (c .before .before .before .before .before .before .before .before .before .before .before .before .before .before .before .before .loop-test .taken) (c .before .before .before .before .before .before .before .before .before .before .before .before .before .before .event-at .ensures) (event-answered (planned (c .before .before .before .before .before .before .before .before .before .before .before .before .before)) a (shown (c .before .before .before .before)) (c .before .before .before .answer-of .ensures)) (a .long) (a .held) (c .before .put-answer .ensures),
+      goes-on (c .before .before .before .before .before .before .before .before .before .before .before .before .before .before .before .before .before .before .before .before .loop .inv .0) (c .before .before .before .before .before .before .before .before .before .before .before .before .before .before .before .before .before .before .before .loop-test .taken) (c .before .before .before .before .before .before .before .before .before .before .before .before .before .before .before .before .before .event-at .ensures) (event-answered (planned (c .before .before .before .before .before .before .before .before .before .before .before .before .before .before .before .before)) a (shown (c .before .before .before .before)) (c .before .before .before .answer-of .ensures)) (a .long) (a .held) (c .before .put-answer .ensures),
       runs-after (c .before .before .before .before .before) .0,
+      c .before .before .before .before .before .before .before .before .before .before .before .before .before .before .before .before .before .before .before .before .loop .inv .2,
     )
 
 same-length : tie.Need-same-length Inv-loop2 μ-loop2 Inv-loop μ-loop
@@ -160,6 +175,18 @@ same-length c = c .before .loop .inv .0 .size
 
 returns : tie.Need-returns Inv-loop2 μ-loop2 Inv-loop μ-loop
 returns c = ends (c .before .loop .inv .0) (c .loop-test .left)
+
+mul-q-2 : tie.Need-mul-q-2 Inv-loop2 μ-loop2 Inv-loop μ-loop
+mul-q-2 c =
+    let T = c .before .before .before .before .before .before .before .before .before .before .before .before .before .before .before .before .before .before .args .self .inner .table in
+    let long : length (T .channels) ≡ channelLimit = c .before .before .before .before .before .before .before .before .before .before .before .before .before .before .loop .inv .2 in
+    search (needs, seen-place T long (c .before .before .before .before .before .before .before .before .before .before .plan-of .result .own) (c .before .before .before .before .before .before .before .before .before .before .plan-of .result .place) (c .before .before .before .seen-slot .ensures) (c .before .if6 .taken))
+
+element-copy-out-q : tie.Need-element-copy-out-q Inv-loop2 μ-loop2 Inv-loop μ-loop
+element-copy-out-q c =
+    let T = c .before .before .before .before .before .before .before .before .before .before .before .before .before .before .before .before .before .before .args .self .inner .table in
+    let long : length (T .channels) ≡ channelLimit = c .before .before .before .before .before .before .before .before .before .before .before .before .before .before .loop .inv .2 in
+    search (needs, seen-place T long (c .before .before .before .before .before .before .before .before .before .before .plan-of .result .own) (c .before .before .before .before .before .before .before .before .before .before .plan-of .result .place) (c .before .before .before .seen-slot .ensures) (c .before .if6 .taken))
 
 pub run-list-spec : {M : Type 1} → statement M
 run-list-spec =
@@ -195,25 +222,53 @@ run-list-spec =
     (λ c. search needs)
     (λ c. search needs)
     (λ _ _. tt)
-    (λ c. search needs)
-    (λ c. search needs)
-    (λ _ _. tt)
-    (λ c. search needs)
     (λ _ _. tt)
     (λ _ _. tt)
-    (λ _ _. tt)
-    (λ _ _. tt)
-    (λ _ _. tt)
-    (λ _ _. tt)
-    (λ c. search (needs, c .before .before .before .before .before .before .before .before .before .before .if6 .taken))
-    (λ c. search (needs, c .before .before .before .before .before .before .before .before .before .before .if6 .taken))
-    (λ _ _. tt)
-    (λ c. search (needs, c .before .before .before .before .before .before .before .before .before .before .before .if6 .taken))
-    (λ _ _. tt)
+    mul-q-2
+    element-copy-out-q
+    (λ c. search (needs, c .before .before .if6 .taken))
+    (λ c. search (needs, c .before .before .if6 .taken))
     (λ _ _. tt)
     (λ _ _. tt)
     (λ c. search needs)
     (λ c. search needs)
+    (λ _ _. tt)
+    (λ c. search needs)
+    (λ _ _. tt)
+    (λ _ _. tt)
+    (λ _ _. tt)
+    (λ _ _. tt)
+    (λ _ _. tt)
+    (λ _ _. tt)
+    (λ _ _. tt)
+    (λ c. search (needs, c .before .before .before .before .before .before .before .before .before .before .before .if7 .taken))
+    (λ c. search (needs, c .before .before .before .before .before .before .before .before .before .before .before .if7 .taken))
+    (λ _ _. tt)
+    (λ c. search (needs, c .before .before .before .before .before .before .before .before .before .before .before .before .if7 .taken))
+    (λ _ _. tt)
+    (λ _ _. tt)
+    (λ _ _. tt)
+    (λ c. search (needs, c .before .before .before .before .before .before .before .before .before .before .before .before .before .before .before .before .before .before .if7 .taken))
+    (λ c. search (needs, c .before .before .before .before .before .before .before .before .before .before .before .before .before .before .before .before .before .before .if7 .taken))
+    (λ _ _. tt)
+    (λ c. search (needs, c .before .before .before .before .before .before .before .before .before .before .before .before .before .before .before .before .before .before .before .before .if7 .taken))
+    (λ _ _. tt)
+    (λ c. search (needs, c .before .if10 .taken))
+    (λ c. search (needs, c .before .if10 .taken))
+    (λ _ _. tt)
+    (λ c. search (needs, c .before .if11 .taken))
+    (λ c. search (needs, c .before .if11 .taken))
+    (λ _ _. tt)
+    (λ c. search (needs, c .before .before .before .if11 .taken))
+    (λ c. search (needs, c .before .before .before .if11 .taken))
+    (λ _ _. tt)
+    (λ c. omega (arith, c .if12 .taken))
+    (λ c. search (needs, c .if12 .taken))
+    (λ _ _. tt)
+    (λ c. omega (arith, c .before .before .if12 .taken))
+    (λ c. search (needs, c .before .before .if12 .taken))
+    (λ _ _. tt)
+    (λ c. search (needs, c .before .before .before .if12 .taken))
     (λ c. search needs)
     (λ _ _. tt)
     put-answer-requires

@@ -3,6 +3,7 @@
 use libc::STDOUT_FILENO;
 use machine::Blackboard;
 use machine::Buffer;
+use machine::Channel;
 use machine::EventState;
 use machine::Ids;
 use machine::Message;
@@ -11,6 +12,7 @@ use machine::Partition;
 use machine::Process;
 use machine::Queue;
 use machine::Semaphore;
+use machine::Table;
 use machine::Time;
 use machine::Times;
 use machine::Wait;
@@ -27,6 +29,12 @@ enum Item {
     SendingQueue,
     ReceivingQueue,
     BlackboardQueue,
+}
+
+// An end of a channel.
+enum End {
+    Source,
+    Destination,
 }
 
 // ---------------------------------------------------------------- words
@@ -79,14 +87,16 @@ fn print_wait(w: Wait) {
         Wait::Period => print(b" wait period\n"),
         Wait::Semaphore(id) => print_object(b" wait semaphore ", id),
         Wait::Event(id) => print_object(b" wait event ", id),
-        Wait::Sending(id, m) => print_sending(id, m),
+        Wait::Sending(id, m) => print_sending(b" wait sending ", id, m),
         Wait::Receiving(id) => print_object(b" wait receiving ", id),
         Wait::Blackboard(id) => print_object(b" wait blackboard ", id),
+        Wait::Source(n, m) => print_sending(b" wait sending channel ", n, m),
+        Wait::Destination(n) => print_object(b" wait receiving channel ", n),
     }
 }
 
-fn print_sending(id: u8, m: u32) {
-    print_number(b" wait sending ", id as u32);
+fn print_sending(label: &[u8], id: u8, m: u32) {
+    print_number(label, id as u32);
     print_number(b" ", m);
     print(b"\n");
 }
@@ -148,13 +158,18 @@ fn print_messages(q: Queue) {
     print(b"\n");
 }
 
+// How many messages a queue may hold, and those that it holds.
+fn print_limited(limit: u8, q: Queue) {
+    print_number(b" limit ", limit as u32);
+    print(b" messages");
+    print_messages(q);
+}
+
 fn print_buffer(id: u8, b: Buffer) {
     let q = b.queue;
     print_number(b"buffer ", id as u32);
     print_number(b" name ", b.name as u32);
-    print_number(b" limit ", b.limit as u32);
-    print(b" messages");
-    print_messages(q);
+    print_limited(b.limit, q);
 }
 
 fn print_shown(b: Blackboard) {
@@ -238,6 +253,41 @@ fn print_partition(k: u32, p: Partition) {
     print_items(p, Item::BlackboardQueue, p.blackboardCount);
 }
 
+// ---------------------------------------------------------------- a partition's ends of queuing channels
+fn end_of(c: Channel, end: End) -> u8 {
+    match end {
+        End::Source => c.source,
+        End::Destination => c.destination,
+    }
+}
+
+// Those who wait at this end of channel n, if it is queuing and partition k is there.
+fn print_end(table: Table, k: u32, p: Partition, end: End, n: u8) {
+    if n == 0 {
+        return;
+    }
+    let c = channels::channel_at(table, (n - 1) as usize);
+    if !channels::is_queuing(c) {
+        return;
+    }
+    if end_of(c, end) as u32 != k {
+        return;
+    }
+    match end {
+        End::Source => print_queue(b"waiters sending channel ", n, p, Wait::Source(n, 0)),
+        End::Destination => {
+            print_queue(b"waiters receiving channel ", n, p, Wait::Destination(n))
+        }
+    }
+}
+
+fn print_ends(table: Table, k: u32, p: Partition, end: End) {
+    let count = table.channelCount;
+    for n in 1..=count {
+        print_end(table, k, p, end, n);
+    }
+}
+
 // ---------------------------------------------------------------- the module
 fn print_window(m: Module, i: u8) {
     let table = m.table;
@@ -269,11 +319,16 @@ fn print_channel(m: Module, i: u8) {
     if at < Module::CHANNELS {
         let c = table.channels[at];
         let x = m.messages[at];
+        let q = m.queues[at];
         print_number(b"channel ", i as u32 + 1);
         print_number(b" source ", c.source as u32);
         print_number(b" destination ", c.destination as u32);
         print_number(b" refresh ", c.refresh);
-        print_message(x);
+        if channels::is_queuing(c) {
+            print_limited(c.size, q);
+        } else {
+            print_message(x);
+        }
     }
 }
 
@@ -281,7 +336,11 @@ fn print_partition_at(m: Module, i: u8) {
     let at = i as usize;
     if at < Module::PARTITIONS {
         let p = m.partitions[at];
-        print_partition(i as u32 + 1, p);
+        let table = m.table;
+        let k = i as u32 + 1;
+        print_partition(k, p);
+        print_ends(table, k, p, End::Source);
+        print_ends(table, k, p, End::Destination);
     }
 }
 

@@ -1,13 +1,12 @@
 -- Queue order, who waits, and what the calls of all four families do to their queues: the whole. Assumes nothing.
-use Prim.Native.Nat.{ℕ, zero, suc, _+_, _-_, _≤_, _<_, max}
+use Prim.Native.Nat.{ℕ, suc, _+_, _-_, _≤_, _<_, max}
 use mathlib.Core.Path.{_≡_, refl, ap, sym, _∙_}
 use mathlib.Core.Bool.{Bool, true, false}
 use mathlib.Core.List.{List, [], _∷_, _++_}
 use native.Mathlib.Omega.{arith}
 use lib.ListN.{length, getD, set, drop}
-use lib.Dec.{leb}
-use lib.IntN.{ℤ, pos, negsuc}
-use borrow.Author.Tests.{eq-eqb, ne-eqb, lt-ltb, le-ltb, ltb-false, le-leb, leb-true}
+use lib.IntN.{ℤ, pos}
+use borrow.Author.Tests.{eq-eqb, ne-eqb, lt-ltb, le-ltb, ltb-false}
 use Rattle.machine.specs.declared.Process.{Process}
 use Rattle.machine.specs.declared.Partition.{Partition}
 use Rattle.machine.specs.declared.Blackboard.{Blackboard as BlackboardT}
@@ -22,7 +21,7 @@ use Rattle.machine.specs.declared.Field.the-variants.{Number}
 use Rattle.machine.specs.declared.Event.{Event as EventT}
 use Rattle.machine.specs.declared.Module.{Module}
 use Rattle.machine.specs.Limits.{blackboardLimit, durationLimit}
-use Rattle.machine.specs.Fields.{field, isMessage, isTimeout}
+use Rattle.machine.specs.Fields.{field}
 use Rattle.machine.specs.Messages.{held, first, sent, received}
 use Rattle.machine.specs.Process.{object, carried, served, handed}
 use Rattle.machine.specs.Partition.{noBlackboard, process, buffer, blackboard, withBlackboards, stored, storedBuffer, movedIn, storedBlackboard, waiters, firstWaiter, changedAll, applied}
@@ -34,35 +33,21 @@ use Rattle.machine.specs.Places.{strayField}
 use Rattle.machine.specs.Module.{part, withPart}
 use Rattle.machine.specs.Step.{step}
 use Rattle.machine.specs.Valid.{Between, SoundBuffer, Valid, SoundModule}
-use Rattle.machine.specs.Starred.{own, callBy, Calling, Gives, WaitEnded}
+use Rattle.machine.specs.Starred.{own, callBy, Calling, Gives}
 use Rattle.machine.specs.Queues.{SameObjects, WaitsFor, TimeOut, Queued, FirstServed, NoneServed, AllServed, has, Queues}
-use Rattle.machine.proofs.Tests.{not-both, and-right}
 use Rattle.machine.proofs.Bounds.{either, within-in, named-same, blackboard-in}
 use Rattle.machine.proofs.Messages.{queue-first}
 use Rattle.machine.proofs.Lists.{cons-not}
 use Rattle.machine.proofs.Moves as Mo
 use Rattle.machine.proofs.Keeping.{stored-rest, changed-rest}
 use Rattle.machine.proofs.Sound.{carried-sound}
-use Rattle.machine.proofs.Calling.{field-number, from-zero, calling-sound, calling-valid, calling-place, decides, gives, own-after}
+use Rattle.machine.proofs.Calling.{field-number, calling-sound, calling-valid, calling-place, decides, gives, own-after}
 use Rattle.machine.proofs.Corners.{known}
 use Rattle.machine.proofs.Reached.{valid-sound, reached-valid}
-use Rattle.machine.proofs.Queues.{rest-objects, noted-objects, changes-queue, queue-after, blackboard-queue, first-created, ended-is, queued-last, first-served-by, none-served, all-served-by, wait-semaphore, wait-event, signal-first, signal-none, set-event}
+use Rattle.machine.proofs.Queues.{rest-objects, noted-objects, changes-queue, queue-after, blackboard-queue, first-created, ended-is, time-out, a-message, ends-handed, queued-last, first-served-by, none-served, all-served-by, wait-semaphore, wait-event, signal-first, signal-none, set-event}
 use Rattle.machine.proofs.Available.{none-waits}
 use Rattle.machine.proofs.Ends.{channel-ends}
-
-time-out : (a : ℤ) → TimeOut a → isTimeout (field a) ≡ true
-time-out (pos n) h =
-    let hi = leb-true n durationLimit (and-right (leb 0 n) (leb n durationLimit) h) in
-    rw (field-number n (omega arith), from-zero n, le-leb n durationLimit hi)
-time-out (negsuc zero) h = refl
-time-out (negsuc (suc n)) h = not-both _ h (rw (ne-eqb (suc n) 0 (λ z. omega arith)))
-
--- a message
-a-message : (b : ℕ) → b ≤ durationLimit → isMessage (Number b) ≡ true
-a-message b h = rw (from-zero b, le-leb b durationLimit h)
-
-ends-handed : (b : ℕ) (x : Process) → WaitEnded 0 x (handed b x)
-ends-handed b x = record { wake = refl; wait = refl; codeIs = refl; mark = refl; started = refl }
+use Rattle.machine.proofs.Transfers.{channel-calls}
 
 module _ (m : Module) (k : ℕ) (u : SoundModule m) (h : Calling m k) where
   abbrev p : Partition
@@ -91,14 +76,14 @@ module _ (m : Module) (k : ℕ) (u : SoundModule m) (h : Calling m k) where
     send-waits : (x : ℕ) (a : ℤ) → buffer j p .queue .len ≡ buffer j p .limit → x ≤ durationLimit → WaitsFor a → Queued m k (callBy k 24 (pos j) (pos x) a (pos 0)) (Sending j x)
     unfolding callDecision services strayField sendBuffer
     send-waits x a full ok t =
-        queued-last m k u h 24 j (p .bufferCount) (pos x) a a (Sending j x) (omega arith) (omega arith) (λ e. omega arith) (changed (Moved j (sent (firstWaiter (object (Receiving j)) p) x))) refl
+        queued-last m k u h 24 j (pos x) a a (Sending j x) (omega arith) (omega arith) (λ e. omega arith) (p .bufferCount) (changed (Moved j (sent (firstWaiter (object (Receiving j)) p) x))) refl
         (rw (is-field, field-number x (omega arith), a-message x ok, le-ltb (buffer j p .queue .len) (buffer j p .limit) (omega (arith, full)))) b normal t
 
     receive-waits : (a : ℤ) → messages ≡ [] → WaitsFor a → Queued m k (callBy k 25 (pos j) a (pos 0) (pos 0)) (Receiving j)
     unfolding callDecision services strayField receiveBuffer
     receive-waits a empty t =
         let none : buffer j p .queue .len ≡ 0 = sym size ∙ ap length empty in
-        queued-last m k u h 25 j (p .bufferCount) a (pos 0) a (Receiving j) (omega arith) (omega arith) (λ e. omega arith) (receives (firstWaiter (object (Sending j 0)) p) j p) refl
+        queued-last m k u h 25 j a (pos 0) a (Receiving j) (omega arith) (omega arith) (λ e. omega arith) (p .bufferCount) (receives (firstWaiter (object (Sending j 0)) p) j p) refl
         (rw (is-field, le-ltb 0 (buffer j p .queue .len) (omega (arith, none)))) b normal t
 
     -- SEND
@@ -224,7 +209,7 @@ module _ (m : Module) (k : ℕ) (u : SoundModule m) (h : Calling m k) where
     read-waits : p .mode ≡ 3 → (a : ℤ) → blackboard j p .shown ≡ false → WaitsFor a → Queued m k (callBy k 28 (pos j) a (pos 0) (pos 0)) (Blackboard j)
     unfolding callDecision services strayField readBlackboard
     read-waits normal a none t =
-        queued-last m k u h 28 j (p .blackboardCount) a (pos 0) a (Blackboard j) (omega arith) (omega arith) (λ e. omega arith) (Unchanged (blackboard j p .message) (At 0)) refl
+        queued-last m k u h 28 j a (pos 0) a (Blackboard j) (omega arith) (omega arith) (λ e. omega arith) (p .blackboardCount) (Unchanged (blackboard j p .message) (At 0)) refl
         (rw (the-field, none)) b normal t
 
     read-shown : p .mode ≡ 3 → (a : ℤ) → blackboard j p .shown ≡ true → TimeOut a → Gives m (callBy k 28 (pos j) a (pos 0) (pos 0)) 0 (blackboard j p .message) (At 0) m
@@ -241,6 +226,7 @@ queues = record {
   changes = λ m h i l. changes-queue (part m i) (valid-sound m (reached-valid m h) i l .eachPartition i l .lists);
   none = none-waits;
   ends = channel-ends;
+  channels = channel-calls;
   calls = λ m k h j. let u = calling-sound m k h in record {
     waitSemaphore = wait-semaphore m k u h j;
     waitEvent = wait-event m k u h j;

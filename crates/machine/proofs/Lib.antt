@@ -41,5 +41,6 @@ pub mod Passing
 pub mod Restarts
 pub mod Ends
 pub mod Account
+pub mod Transfers
 pub mod Families
 pub mod Channels

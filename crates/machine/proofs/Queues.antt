@@ -38,7 +38,7 @@ use Rattle.machine.specs.Messages.{moved, endsWait}
 use Rattle.machine.specs.Ids.{members, keptIf, kept, other}
 use Rattle.machine.specs.Process.{Class, classOf, objectIn, forNormal, blankProcess, later, object, onObject, periodic, ready, due, waitsForNothing, waitsForNormal, onlyMarked, served, handed, waitingFor, woken, expired, ticked, entered, startRule, startedEarly}
 use Rattle.machine.specs.Partition.{within, nothingCreated, idleMode, normalMode, noSemaphore, noEvent, process, semaphore, event, stored, created, storedSemaphore, storedEvent, storedBuffer, storedBlackboard, emptyBuffer, movedIn, endedBy, buffer, arrivedLast, changedAll, waitsOn, waiters, running, applied, tickPartition, enteredNormal, withMode, withEvents, each, noted}
-use Rattle.machine.specs.Fields.{field, requestOf, isNumber, isTimeout, numberOf, timeOf}
+use Rattle.machine.specs.Fields.{field, requestOf, isNumber, isTimeout, isMessage, numberOf, timeOf}
 use Rattle.machine.specs.Decisions.{checked, replyOf, changed, unchanged, unknown, blocked, startMode, queued, awaiting}
 use Rattle.machine.specs.Calls.{setMode, createProcess, start, stop, stopSelf, suspend, suspendSelf, timedWait, periodicWait, resume, setPriority, getStatus}
 use Rattle.machine.specs.Objects.{oneMore, withValue, withUp, createSemaphore, waitSemaphore, signalled, signal, createEvent, setEvent, resetEvent, waitEvent}
@@ -49,11 +49,11 @@ use Rattle.machine.specs.Services.{services, serviceOf, callDecision}
 use Rattle.machine.specs.Places.{strayField}
 use Rattle.machine.specs.Module.{noPartition, channel, part, queue, withPart, withQueue, withTime}
 use Rattle.machine.specs.Ticks.{tickModule}
-use Rattle.machine.specs.Step.{contextOf, decision, restarted, moduleAfter, step}
+use Rattle.machine.specs.Step.{contextOf, decision, moduleAfter, step}
 use Rattle.machine.specs.Valid.{Between, contains, Distinct, ListedIn, Valid, SoundEnd, SoundChange, SoundDecision, SoundModule, Reached, plainTick}
 use Rattle.machine.specs.Plain.{plainById, followed, plainStored}
 use Rattle.machine.specs.Starred.{own, callBy, Calling, Gives, WaitEnded}
-use Rattle.machine.specs.Queues.{SameObjects, has, Queue, KeepsOrEnds, NotExchanged, QueueChanges, joining, QueueAfter, WaitsFor, Queued, FirstServed, NoneServed, AllServed, Queues}
+use Rattle.machine.specs.Queues.{SameObjects, has, Queue, KeepsOrEnds, NotExchanged, QueueChanges, joining, QueueAfter, WaitsFor, TimeOut, Queued, FirstServed, NoneServed, AllServed, Queues}
 use Rattle.machine.proofs.Tests.{by-test, not-both, or-left, or-right, and-left, and-right, Passed, passed-parts, by-checks}
 use Rattle.machine.proofs.Bounds.{either, same-or-not, not-so, within-in, within-out, named-same, named-other, semaphore-in, event-in, buffer-in, created-in, created-out}
 use Rattle.machine.proofs.Lists.{members-idsOf, kept-snoc}
@@ -703,7 +703,7 @@ all-served f ends o some p v =
 
 -- ---------------------------------------------------------------- the calls
 -- a time-out other than 0
-waits-for : (a : ℤ) → WaitsFor a → (isTimeout (field a) ≡ true) × (isNumber 0 (field a) ≡ false)
+pub waits-for : (a : ℤ) → WaitsFor a → (isTimeout (field a) ≡ true) × (isNumber 0 (field a) ≡ false)
 waits-for (pos n) h =
     let lo = leb-true 1 n (and-left (leb 1 n) (leb n durationLimit) h) in
     let hi = leb-true n durationLimit (and-right (leb 1 n) (leb n durationLimit) h) in
@@ -711,8 +711,42 @@ waits-for (pos n) h =
 waits-for (negsuc zero) h = (refl, refl)
 waits-for (negsuc (suc n)) h = not-both _ h (rw (ne-eqb (suc n) 0 (λ z. omega arith)))
 
+pub time-out : (a : ℤ) → TimeOut a → isTimeout (field a) ≡ true
+time-out (pos n) h =
+    let hi = leb-true n durationLimit (and-right (leb 0 n) (leb n durationLimit) h) in
+    rw (field-number n (omega arith), from-zero n, le-leb n durationLimit hi)
+time-out (negsuc zero) h = refl
+time-out (negsuc (suc n)) h = not-both _ h (rw (ne-eqb (suc n) 0 (λ z. omega arith)))
+
+-- a message
+pub a-message : (b : ℕ) → b ≤ durationLimit → isMessage (Number b) ≡ true
+a-message b h = rw (from-zero b, le-leb b durationLimit h)
+
+pub ends-handed : (b : ℕ) (x : Process) → WaitEnded 0 x (handed b x)
+ends-handed b x = record { wake = refl; wait = refl; codeIs = refl; mark = refl; started = refl }
+
 pub ended-is : (x : Process) → WaitEnded 0 x (served x)
 ended-is x = record { wake = refl; wait = refl; codeIs = refl; mark = refl; started = refl }
+
+-- an event after which partition k is q: the first of queue o served, in a record r that differs from that before the event in no process
+module _ (m : Module) (k o : ℕ) (some : o ≡ 0 → ⊥) (r : Partition) (v : ListedIn r) (same : (y : ℕ) → process y r ≡ process y (own m k)) (f : Process → Process) (ends : (x : Process) → WaitEnded 0 x (f x)) where
+  module _ (id : ℕ) (rest : List ℕ) (e : waiters o r ≡ id ∷ rest) (event : EventT) (code : step m event .answer .code ≡ 0) where
+    abbrev x : Process
+    x = f (process id (own m k))
+
+    abbrev q : Partition
+    q = stored id x r
+
+    pub served-in : own (step m event .state) k ≡ noted q → FirstServed m k event o id rest (x .message)
+    served-in after =
+        let b = first-created o some r v id rest e in
+        record {
+          code = code;
+          queue = rw after (same-queue o q (noted q) refl (λ _. refl) ∙ served-queue o some r v id rest e x (ap object (ends (process id (own m k)) .wait)));
+          ended = rw (after, process-stored r id x v b) (ends (process id (own m k)));
+          has = rw (after, process-stored r id x v b);
+          others = λ y ne. rw after (process-other r id x y ne ∙ same y);
+        }
 
 module _ (m : Module) (k : ℕ) (u : SoundModule m) (h : Calling m k) where
   abbrev p : Partition
@@ -722,53 +756,45 @@ module _ (m : Module) (k : ℕ) (u : SoundModule m) (h : Calling m k) where
   valid = calling-valid m k u h
 
   -- a call that waits for the object that w names, where it has to wait
-  module _ (n j count : ℕ) (x y a : ℤ) (w : Wait) (lo : 1 ≤ n) (hi : n ≤ callLimit) (some : object w ≡ 0 → ⊥) (success : Decision) where
+  module _ (n j : ℕ) (x y a : ℤ) (w : Wait) (lo : 1 ≤ n) (hi : n ≤ callLimit) (some : object w ≡ 0 → ⊥) where
     abbrev asks : EventT
     asks = callBy k n (pos j) x y (pos 0)
 
-    pub queued-last : strayField (serviceOf n .fields) (asked m k u h n (field (pos j)) (field x) (field y) (Number 0)) ≡ false
+    abbrev then : Process
+    then = waitingFor w (later (At (m .t)) (timeOf (field a))) (process (running p) p)
+
+    pub queued-by : strayField (serviceOf n .fields) (asked m k u h n (field (pos j)) (field x) (field y) (Number 0)) ≡ false
+        → decides m k u h n (pos j) x y (pos 0) lo hi ≡ Blocked (running p) then → p .mode ≡ 3 → Queued m k asks w
+    queued-by stray is normal =
+        let c = running-caller p (valid .lists) (h .runs normal) in
+        let q = stored (running p) then p in
+        let g = gives m k u h n (pos j) x y (pos 0) lo hi stray (Blocked (running p) then) is in
+        record {
+          code = g .codeIs;
+          wait = rw (own-after m k u h q g) (ap (λ (y : Process). y .wait) (process-stored p (running p) then (valid .lists) (c .created)));
+          queue = rw (own-after m k u h q g) (same-queue (object w) q (noted q) refl (λ _. refl) ∙ joins-last (object w) some p (valid .lists) (running p) (c .created) then (c .isReady) ∙ rw (eq-eqb (object w) (object w) refl));
+        }
+
+    pub queued-last : (count : ℕ) (success : Decision) → strayField (serviceOf n .fields) (asked m k u h n (field (pos j)) (field x) (field y) (Number 0)) ≡ false
         → decides m k u h n (pos j) x y (pos 0) lo hi ≡ awaiting (contextOf m k) ((unknown j count, 3) ∷ []) true [] (field a) false success w p
         → Between 1 count j → p .mode ≡ 3 → WaitsFor a → Queued m k asks w
     unfolding awaiting queued blocked checked
-    queued-last stray is b normal t =
-        let c = running-caller p (valid .lists) (h .runs normal) in
-        let z = waitingFor w (later (At (m .t)) (timeOf (field a))) (process (running p) p) in
-        let q = stored (running p) z p in
+    queued-last count success stray is b normal t =
         let f = waits-for a t in
-        let g = gives m k u h n (pos j) x y (pos 0) lo hi stray (Blocked (running p) z) (is ∙ rw (known m k u h j count b, eq-eqb (p .mode) 3 normal, f .0, f .1)) in
-        record {
-          code = g .codeIs;
-          wait = rw (own-after m k u h q g) (ap (λ (y : Process). y .wait) (process-stored p (running p) z (valid .lists) (c .created)));
-          queue = rw (own-after m k u h q g) (same-queue (object w) q (noted q) refl (λ _. refl) ∙ joins-last (object w) some p (valid .lists) (running p) (c .created) z (c .isReady) ∙ rw (eq-eqb (object w) (object w) refl));
-        }
+        queued-by stray (is ∙ rw (known m k u h j count b, eq-eqb (p .mode) 3 normal, f .0, f .1)) normal
 
   pub wait-semaphore : (j : ℕ) (a : ℤ) → p .mode ≡ 3 → Between 1 (p .semaphoreCount) j → semaphore j p .value ≡ 0 → WaitsFor a → Queued m k (callBy k 15 (pos j) a (pos 0) (pos 0)) (Semaphore j)
   unfolding callDecision services strayField waitSemaphore
-  wait-semaphore j a n b z t = queued-last 15 j (p .semaphoreCount) a (pos 0) a (Semaphore j) (omega arith) (omega arith) (λ e. omega arith) (changed (withValue j (semaphore j p .value - 1) p)) refl (rw (field-number j (omega (arith, b .1, valid .objects .semaphores .numbered .few)), z)) b n t
+  wait-semaphore j a n b z t = queued-last 15 j a (pos 0) a (Semaphore j) (omega arith) (omega arith) (λ e. omega arith) (p .semaphoreCount) (changed (withValue j (semaphore j p .value - 1) p)) refl (rw (field-number j (omega (arith, b .1, valid .objects .semaphores .numbered .few)), z)) b n t
 
   pub wait-event : (j : ℕ) (a : ℤ) → p .mode ≡ 3 → Between 1 (p .eventCount) j → event j p .up ≡ false → WaitsFor a → Queued m k (callBy k 20 (pos j) a (pos 0) (pos 0)) (Event j)
   unfolding callDecision services strayField waitEvent
-  wait-event j a n b z t = queued-last 20 j (p .eventCount) a (pos 0) a (Event j) (omega arith) (omega arith) (λ e. omega arith) unchanged refl (rw (field-number j (omega (arith, b .1, valid .objects .events .numbered .few)), z)) b n t
+  wait-event j a n b z t = queued-last 20 j a (pos 0) a (Event j) (omega arith) (omega arith) (λ e. omega arith) (p .eventCount) unchanged refl (rw (field-number j (omega (arith, b .1, valid .objects .events .numbered .few)), z)) b n t
 
   -- a call that stores q: the first of queue o served, in a record r that differs from the caller's in no process
-  module _ (o : ℕ) (some : o ≡ 0 → ⊥) (r : Partition) (v : ListedIn r) (same : (y : ℕ) → process y r ≡ process y p) (f : Process → Process) (ends : (x : Process) → WaitEnded 0 x (f x)) where
-    module _ (id : ℕ) (rest : List ℕ) (e : waiters o r ≡ id ∷ rest) (value : ℕ) (event : EventT) (g : Gives m event 0 value (At 0) (withPart (k - 1) (stored id (f (process id p)) r) m)) where
-      abbrev x : Process
-      x = f (process id p)
-
-      abbrev q : Partition
-      q = stored id x r
-
-      pub first-served-by : FirstServed m k event o id rest (x .message)
-      first-served-by =
-          let b = first-created o some r v id rest e in
-          record {
-            code = g .codeIs;
-            queue = rw (own-after m k u h q g) (same-queue o q (noted q) refl (λ _. refl) ∙ served-queue o some r v id rest e x (ap object (ends (process id p) .wait)));
-            ended = rw (own-after m k u h q g, process-stored r id x v b) (ends (process id p));
-            has = rw (own-after m k u h q g, process-stored r id x v b);
-            others = λ y ne. rw (own-after m k u h q g) (process-other r id x y ne ∙ same y);
-          }
+  pub first-served-by : (o : ℕ) (some : o ≡ 0 → ⊥) (r : Partition) → ListedIn r → ((y : ℕ) → process y r ≡ process y p) → (f : Process → Process) → ((x : Process) → WaitEnded 0 x (f x))
+      → (id : ℕ) (rest : List ℕ) → waiters o r ≡ id ∷ rest → (value : ℕ) (event : EventT) → Gives m event 0 value (At 0) (withPart (k - 1) (stored id (f (process id p)) r) m) → FirstServed m k event o id rest (f (process id p) .message)
+  first-served-by o some r v same f ends id rest e value event g = served-in m k o some r v same f ends id rest e event (g .codeIs) (own-after m k u h (stored id (f (process id p)) r) g)
 
   -- a call that stores q, which has all processes of the caller's record
   pub none-served : (o value : ℕ) (event : EventT) (q : Partition) → Gives m event 0 value (At 0) (withPart (k - 1) q m) → waiters o q ≡ [] → q .processes ≡ p .processes → NoneServed m k event o

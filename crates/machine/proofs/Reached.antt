@@ -218,7 +218,7 @@ unfolding keptTo
 erased-sound k zero m h s = s
 erased-sound k (suc n) m h s =
     let e = erased-sound k n m (omega arith) s in
-    by-test (λ (l : List Message). SoundModule (withMessages l m)) (eqb (channel (m .table) n .destination) k)
+    by-test (λ (l : List Message). SoundModule (withMessages l m)) (leadsInto k (channel (m .table) n))
     (λ _. message-sound (erasedTo k n m) e n (omega arith) noMessage (no-message (erasedTo k n m .t)))
     (λ _. e)
 

@@ -249,7 +249,8 @@ pub record Corners (m : Module) (k : ℕ) : Type 0 where
       → (m .t ≡ x .written + refresh → Gives m (callBy k 22 (pos i) (pos 0) (pos 0) (pos 0)) 0 (x .value) (At 1) m)
       × (m .t ≡ x .written + refresh + 1 → Gives m (callBy k 22 (pos i) (pos 0) (pos 0) (pos 0)) 0 (x .value) (At 0) m)
   -- timeout 0: SUSPEND_SELF changes nothing, TIMED_WAIT puts the caller last, WAIT_SEMAPHORE and WAIT_EVENT answer 2 where they would wait, and
-  -- succeed where they need not; the calls of document 02 that wait answer 2 too (where they need not wait: `MessageCalls` of Queues)
+  -- succeed where they need not; the calls of document 02 that wait answer 2 too (where they need not wait, and
+  -- 30 and 31: `MessageCalls` and `ChannelCalls` of Queues)
   pub suspendSelf : let p = own m k in
       p .mode ≡ 3 → process (running p) p .given .period ≡ Never
       → Gives m (callBy k 8 (pos 0) (pos 0) (pos 0) (pos 0)) 0 0 (At 0) m

@@ -34,7 +34,7 @@ use Rattle.machine.specs.Module.{noPartition, channel, queue, withPart, 
 use Rattle.machine.specs.Step.{step}
 use Rattle.machine.specs.Valid.{Between, SoundModule, SoundMove}
 use Rattle.machine.specs.Starred.{own, callBy, Calling, Gives, Refuses}
-use Rattle.machine.specs.Queues.{WaitsFor, TimeOut, Queued, FirstServed, has, ChannelCalls}
+use Rattle.machine.specs.Queues.{WaitsFor, TimeOut, Queued, FirstServed, has, EndOf, ChannelCalls}
 use Rattle.machine.specs.Plain.{plainMoved}
 use Rattle.machine.proofs.Bounds.{either}
 use Rattle.machine.proofs.Lists.{cons-not}
@@ -44,6 +44,9 @@ use Rattle.machine.proofs.Calling.{field-number, calling-sound, gives}
 use Rattle.machine.proofs.Reached.{queuing-plain}
 use Rattle.machine.proofs.Queues.{first-created, ended-is, waits-for, time-out, a-message, ends-handed, queued-by, served-in}
 use Rattle.machine.proofs.Ends.{channel-ends}
+
+place : (i : ℕ) → i + 1 - 1 ≡ i
+place i = omega arith
 
 module _ (m : Module) (k : ℕ) (u : SoundModule m) (h : Calling m k) (normal : own m k .mode ≡ 3) (i : ℕ) (there : i < m .table .channelCount) (some : channel (m .table) i .size ≡ 0 → ⊥) where
   abbrev p : Partition
@@ -63,9 +66,6 @@ module _ (m : Module) (k : ℕ) (u : SoundModule m) (h : Calling m k) (normal : 
 
   number : field (pos (i + 1)) ≡ Number (i + 1)
   number = field-number (i + 1) (omega (arith, low))
-
-  place : i + 1 - 1 ≡ i
-  place = omega arith
 
   exists : between 1 (T .channelCount) (Number (i + 1)) ≡ true
   exists = rw (le-leb 1 (i + 1) (omega arith), le-leb (i + 1) (T .channelCount) (omega (arith, there)))
@@ -117,13 +117,13 @@ module _ (m : Module) (k : ℕ) (u : SoundModule m) (h : Calling m k) (normal : 
     send-waits x a full ok t =
         let f = waits-for a t in
         queued-by m k u h 30 (i + 1) (pos x) a a (Source (i + 1) x) (omega arith) (omega arith) (λ e. omega arith) refl
-        (rw (number, field-number x (omega arith), place, exists, lt-ltb i (T .channelCount) there, kind, lt-ltb i channelLimit low, eq-eqb (c .source) k from, eq-eqb (p .mode) 3 normal, a-message x ok, f .0, f .1, le-ltb (queue m i .len) (c .size) (omega (arith, full)))) normal
+        (rw (number, field-number x (omega arith), place i, exists, lt-ltb i (T .channelCount) there, kind, lt-ltb i channelLimit low, eq-eqb (c .source) k from, eq-eqb (p .mode) 3 normal, a-message x ok, f .0, f .1, le-ltb (queue m i .len) (c .size) (omega (arith, full)))) normal
 
     send-full : (x : ℕ) → queue m i .len ≡ c .size → x ≤ durationLimit → Refuses m (callBy k 30 (pos (i + 1)) (pos x) (pos 0) (pos 0)) 2
     unfolding callDecision services strayField send awaiting queued checked channelChecks
     send-full x full ok =
         gives m k u h 30 (pos (i + 1)) (pos x) (pos 0) (pos 0) (omega arith) (omega arith) refl (Refused 2)
-        (rw (number, field-number x (omega arith), place, exists, lt-ltb i (T .channelCount) there, kind, lt-ltb i channelLimit low, eq-eqb (c .source) k from, eq-eqb (p .mode) 3 normal, a-message x ok, le-ltb (queue m i .len) (c .size) (omega (arith, full))))
+        (rw (number, field-number x (omega arith), place i, exists, lt-ltb i (T .channelCount) there, kind, lt-ltb i channelLimit low, eq-eqb (c .source) k from, eq-eqb (p .mode) 3 normal, a-message x ok, le-ltb (queue m i .len) (c .size) (omega (arith, full))))
 
     module _ (x : ℕ) (a : ℤ) (ok : x ≤ durationLimit) (t : TimeOut a) where
       abbrev sends : EventT
@@ -133,7 +133,7 @@ module _ (m : Module) (k : ℕ) (u : SoundModule m) (h : Calling m k) (normal : 
       unfolding callDecision services strayField send awaiting checked channelChecks
       send-gives l e room =
           gives m k u h 30 (pos (i + 1)) (pos x) a (pos 0) (omega arith) (omega arith) refl (Passed i (sent (getD l 0 0) x) 0)
-          (rw (number, field-number x (omega arith), place, exists, lt-ltb i (T .channelCount) there, kind, lt-ltb i channelLimit low, eq-eqb (c .source) k from, eq-eqb (p .mode) 3 normal, a-message x ok, time-out a t, lt-ltb (queue m i .len) (c .size) room, e))
+          (rw (number, field-number x (omega arith), place i, exists, lt-ltb i (T .channelCount) there, kind, lt-ltb i channelLimit low, eq-eqb (c .source) k from, eq-eqb (p .mode) 3 normal, a-message x ok, time-out a t, lt-ltb (queue m i .len) (c .size) room, e))
 
       send-first : (id : ℕ) (rest : List ℕ) → waiters receivers (own m to) ≡ id ∷ rest
           → FirstServed m to sends receivers id rest x × (held (queue (step m sends .state) i) ≡ messages) × (own (step m sends .state) k ≡ own m k)
@@ -178,14 +178,14 @@ module _ (m : Module) (k : ℕ) (u : SoundModule m) (h : Calling m k) (normal : 
         let f = waits-for a t in
         let none : queue m i .len ≡ 0 = sym size ∙ ap length empty in
         queued-by m k u h 31 (i + 1) a (pos 0) a (Destination (i + 1)) (omega arith) (omega arith) (λ e. omega arith) refl
-        (rw (number, place, exists, lt-ltb i (T .channelCount) there, kind, lt-ltb i channelLimit low, other, eq-eqb (c .destination) k to, eq-eqb (p .mode) 3 normal, f .0, f .1, none)) normal
+        (rw (number, place i, exists, lt-ltb i (T .channelCount) there, kind, lt-ltb i channelLimit low, other, eq-eqb (c .destination) k to, eq-eqb (p .mode) 3 normal, f .0, f .1, none)) normal
 
     receive-empty : messages ≡ [] → Refuses m (callBy k 31 (pos (i + 1)) (pos 0) (pos 0) (pos 0)) 2
     unfolding callDecision services strayField receive awaiting queued checked channelChecks
     receive-empty empty =
         let none : queue m i .len ≡ 0 = sym size ∙ ap length empty in
         gives m k u h 31 (pos (i + 1)) (pos 0) (pos 0) (pos 0) (omega arith) (omega arith) refl (Refused 2)
-        (rw (number, place, exists, lt-ltb i (T .channelCount) there, kind, lt-ltb i channelLimit low, other, eq-eqb (c .destination) k to, eq-eqb (p .mode) 3 normal, none))
+        (rw (number, place i, exists, lt-ltb i (T .channelCount) there, kind, lt-ltb i channelLimit low, other, eq-eqb (c .destination) k to, eq-eqb (p .mode) 3 normal, none))
 
     module _ (a : ℤ) (t : TimeOut a) (x : ℕ) (l : List ℕ) (first-is : messages ≡ x ∷ l) where
       abbrev takes : EventT
@@ -201,7 +201,7 @@ module _ (m : Module) (k : ℕ) (u : SoundModule m) (h : Calling m k) (normal : 
       unfolding callDecision services strayField receive awaiting checked channelChecks
       receive-gives w e =
           gives m k u h 31 (pos (i + 1)) a (pos 0) (pos 0) (omega arith) (omega arith) refl (Passed i (received (getD w 0 0) (carried (process (getD w 0 0) (own m from)))) x)
-          (rw (number, place, exists, lt-ltb i (T .channelCount) there, kind, lt-ltb i channelLimit low, other, eq-eqb (c .destination) k to, eq-eqb (p .mode) 3 normal, time-out a t, lt-ltb 0 (queue m i .len) held-some, e, value-is))
+          (rw (number, place i, exists, lt-ltb i (T .channelCount) there, kind, lt-ltb i channelLimit low, other, eq-eqb (c .destination) k to, eq-eqb (p .mode) 3 normal, time-out a t, lt-ltb 0 (queue m i .len) held-some, e, value-is))
 
       receive-first : (id : ℕ) (rest : List ℕ) → waiters senders (own m from) ≡ id ∷ rest
           → FirstServed m from takes senders id rest (has m from id) × (step m takes .answer .value ≡ x) × (held (queue (step m takes .state) i) ≡ l ++ (carried (process id (own m from)) ∷ [])) × (own (step m takes .state) k ≡ own m k)
@@ -226,14 +226,25 @@ module _ (m : Module) (k : ℕ) (u : SoundModule m) (h : Calling m k) (normal : 
           let is : moved Taken (queue m i) ≡ queueOf l = moved-plain (c .size) (queue m i) (u .eachQueue i) few Taken held-some ∙ ap (λ (s : List ℕ). queueOf (drop 1 s)) first-is in
           rw (sym is) (receive-gives [] e)
 
+-- a channel by its place, and its end
+module _ (m : Module) (k : ℕ) (h : Calling m k) (i : ℕ) (end : Channel → ℕ) (q : EndOf (m .table) end (i + 1) (k - 1)) where
+  is-there : i < m .table .channelCount
+  is-there = omega (arith, q .there .1)
+
+  is-queuing : channel (m .table) i .size ≡ 0 → ⊥
+  is-queuing z = q .queuing (rw (place i) z)
+
+  is-here : end (channel (m .table) i) ≡ k
+  is-here = ap (λ j. end (channel (m .table) j)) (sym (place i)) ∙ q .here ∙ omega (arith, h .some)
+
 pub channel-calls : (m : Module) (k : ℕ) → Calling m k → (i : ℕ) → ChannelCalls m k i
 channel-calls m k h i = let u = calling-sound m k h in record {
-  sendWaits = λ x a normal q. send-waits m k u h normal i (q .there) (q .queuing) (q .here) x a;
-  receiveWaits = λ a normal q. receive-waits m k u h normal i (q .there) (q .queuing) (q .here) a;
-  sendFull = λ x normal q. send-full m k u h normal i (q .there) (q .queuing) (q .here) x;
-  receiveEmpty = λ normal q. receive-empty m k u h normal i (q .there) (q .queuing) (q .here);
-  sendFirst = λ x id rest a normal q e ok t. send-first m k u h normal i (q .there) (q .queuing) (q .here) x a ok t id rest e;
-  sendNone = λ x a normal q e room ok t. send-none m k u h normal i (q .there) (q .queuing) (q .here) x a ok t e room;
-  receiveFirst = λ x l id rest a normal q is e t. receive-first m k u h normal i (q .there) (q .queuing) (q .here) a t x l is id rest e;
-  receiveNone = λ x l a normal q is e t. receive-none m k u h normal i (q .there) (q .queuing) (q .here) a t x l is e;
+  sendWaits = λ x a normal q. send-waits m k u h normal i (is-there m k h i _ q) (is-queuing m k h i _ q) (is-here m k h i _ q) x a;
+  receiveWaits = λ a normal q. receive-waits m k u h normal i (is-there m k h i _ q) (is-queuing m k h i _ q) (is-here m k h i _ q) a;
+  sendFull = λ x normal q. send-full m k u h normal i (is-there m k h i _ q) (is-queuing m k h i _ q) (is-here m k h i _ q) x;
+  receiveEmpty = λ normal q. receive-empty m k u h normal i (is-there m k h i _ q) (is-queuing m k h i _ q) (is-here m k h i _ q);
+  sendFirst = λ x id rest a normal q e ok t. send-first m k u h normal i (is-there m k h i _ q) (is-queuing m k h i _ q) (is-here m k h i _ q) x a ok t id rest e;
+  sendNone = λ x a normal q e room ok t. send-none m k u h normal i (is-there m k h i _ q) (is-queuing m k h i _ q) (is-here m k h i _ q) x a ok t e room;
+  receiveFirst = λ x l id rest a normal q is e t. receive-first m k u h normal i (is-there m k h i _ q) (is-queuing m k h i _ q) (is-here m k h i _ q) a t x l is id rest e;
+  receiveNone = λ x l a normal q is e t. receive-none m k u h normal i (is-there m k h i _ q) (is-queuing m k h i _ q) (is-here m k h i _ q) a t x l is e;
 }

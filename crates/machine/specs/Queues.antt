@@ -237,40 +237,34 @@ pub record MessageCalls (m : Module) (k j : ℕ) : Type 0 where
       Between 1 (own m k .blackboardCount) j
       → (step m e .answer .code ≡ 0) × (blackboard j (own (step m e .state) k) ≡ record { name = blackboard j (own m k) .name; shown = false; message = 0 })
 
--- partition k is at this end of the channel at place i, which is a queuing one of the table
-pub record AtEnd (m : Module) (end : Channel → ℕ) (k i : ℕ) : Type 0 where
-  pub there : i < m .table .channelCount
-  pub queuing : channel (m .table) i .size ≡ 0 → ⊥
-  pub here : end (channel (m .table) i) ≡ k
-
--- queuing channels, by place; b is a message
+-- queuing channels: channel number i + 1; b is a message
 pub record ChannelCalls (m : Module) (k i : ℕ) : Type 0 where
   -- 30 SEND to a full queue, 31 RECEIVE from an empty one: queued last
-  pub sendWaits : (b : ℕ) (a : ℤ) → own m k .mode ≡ 3 → AtEnd m (λ c. c .source) k i → queue m i .len ≡ channel (m .table) i .size → b ≤ durationLimit → WaitsFor a
+  pub sendWaits : (b : ℕ) (a : ℤ) → own m k .mode ≡ 3 → EndOf (m .table) (λ c. c .source) (i + 1) (k - 1) → queue m i .len ≡ channel (m .table) i .size → b ≤ durationLimit → WaitsFor a
       → Queued m k (callBy k 30 (pos (i + 1)) (pos b) a (pos 0)) (Source (i + 1) b)
-  pub receiveWaits : (a : ℤ) → own m k .mode ≡ 3 → AtEnd m (λ c. c .destination) k i → held (queue m i) ≡ [] → WaitsFor a
+  pub receiveWaits : (a : ℤ) → own m k .mode ≡ 3 → EndOf (m .table) (λ c. c .destination) (i + 1) (k - 1) → held (queue m i) ≡ [] → WaitsFor a
       → Queued m k (callBy k 31 (pos (i + 1)) a (pos 0) (pos 0)) (Destination (i + 1))
   -- and with time-out 0: 2
-  pub sendFull : (b : ℕ) → own m k .mode ≡ 3 → AtEnd m (λ c. c .source) k i → queue m i .len ≡ channel (m .table) i .size → b ≤ durationLimit
+  pub sendFull : (b : ℕ) → own m k .mode ≡ 3 → EndOf (m .table) (λ c. c .source) (i + 1) (k - 1) → queue m i .len ≡ channel (m .table) i .size → b ≤ durationLimit
       → Refuses m (callBy k 30 (pos (i + 1)) (pos b) (pos 0) (pos 0)) 2
-  pub receiveEmpty : own m k .mode ≡ 3 → AtEnd m (λ c. c .destination) k i → held (queue m i) ≡ [] → Refuses m (callBy k 31 (pos (i + 1)) (pos 0) (pos 0) (pos 0)) 2
+  pub receiveEmpty : own m k .mode ≡ 3 → EndOf (m .table) (λ c. c .destination) (i + 1) (k - 1) → held (queue m i) ≡ [] → Refuses m (callBy k 31 (pos (i + 1)) (pos 0) (pos 0) (pos 0)) 2
   -- 30 SEND where receivers wait: the message goes straight into the first one's record, in the partition at the destination; the queue and the
   -- caller's record stay
   pub sendFirst : (b id : ℕ) (rest : List ℕ) (a : ℤ) → let d = channel (m .table) i .destination in
       let e = callBy k 30 (pos (i + 1)) (pos b) a (pos 0) in
-      own m k .mode ≡ 3 → AtEnd m (λ c. c .source) k i → waiters (object (Destination (i + 1))) (own m d) ≡ id ∷ rest → b ≤ durationLimit → TimeOut a
+      own m k .mode ≡ 3 → EndOf (m .table) (λ c. c .source) (i + 1) (k - 1) → waiters (object (Destination (i + 1))) (own m d) ≡ id ∷ rest → b ≤ durationLimit → TimeOut a
       → FirstServed m d e (object (Destination (i + 1))) id rest b × (held (queue (step m e .state) i) ≡ held (queue m i)) × (own (step m e .state) k ≡ own m k)
   -- where none waits and there is room: it is the queue's last message, and nothing else changes
   pub sendNone : (b : ℕ) (a : ℤ) → let d = channel (m .table) i .destination in
-      own m k .mode ≡ 3 → AtEnd m (λ c. c .source) k i → waiters (object (Destination (i + 1))) (own m d) ≡ [] → queue m i .len < channel (m .table) i .size → b ≤ durationLimit → TimeOut a
+      own m k .mode ≡ 3 → EndOf (m .table) (λ c. c .source) (i + 1) (k - 1) → waiters (object (Destination (i + 1))) (own m d) ≡ [] → queue m i .len < channel (m .table) i .size → b ≤ durationLimit → TimeOut a
       → Gives m (callBy k 30 (pos (i + 1)) (pos b) a (pos 0)) 0 0 (At 0) (withQueue i (queueOf (held (queue m i) ++ (b ∷ []))) m)
   -- 31 RECEIVE: the first message; the first waiting sender's message is let in at the end; none: the others move up, and nothing else changes
   pub receiveFirst : (b : ℕ) (l : List ℕ) (id : ℕ) (rest : List ℕ) (a : ℤ) → let d = channel (m .table) i .source in
       let e = callBy k 31 (pos (i + 1)) a (pos 0) (pos 0) in
-      own m k .mode ≡ 3 → AtEnd m (λ c. c .destination) k i → held (queue m i) ≡ b ∷ l → waiters (object (Source (i + 1) 0)) (own m d) ≡ id ∷ rest → TimeOut a
+      own m k .mode ≡ 3 → EndOf (m .table) (λ c. c .destination) (i + 1) (k - 1) → held (queue m i) ≡ b ∷ l → waiters (object (Source (i + 1) 0)) (own m d) ≡ id ∷ rest → TimeOut a
       → FirstServed m d e (object (Source (i + 1) 0)) id rest (has m d id) × (step m e .answer .value ≡ b) × (held (queue (step m e .state) i) ≡ l ++ (carried (process id (own m d)) ∷ [])) × (own (step m e .state) k ≡ own m k)
   pub receiveNone : (b : ℕ) (l : List ℕ) (a : ℤ) → let d = channel (m .table) i .source in
-      own m k .mode ≡ 3 → AtEnd m (λ c. c .destination) k i → held (queue m i) ≡ b ∷ l → waiters (object (Source (i + 1) 0)) (own m d) ≡ [] → TimeOut a
+      own m k .mode ≡ 3 → EndOf (m .table) (λ c. c .destination) (i + 1) (k - 1) → held (queue m i) ≡ b ∷ l → waiters (object (Source (i + 1) 0)) (own m d) ≡ [] → TimeOut a
       → Gives m (callBy k 31 (pos (i + 1)) a (pos 0) (pos 0)) 0 b (At 0) (withQueue i (queueOf l) m)
 
 -- the whole

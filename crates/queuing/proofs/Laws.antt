@@ -26,7 +26,7 @@ use Rattle.machine.specs.Messages.{sent, received}
 use Rattle.machine.specs.Decisions.{checked, codeOf, startMode, waitChecks, queued, awaiting}
 use Rattle.machine.specs.Partition.{within}
 use Rattle.machine.specs.Module.{noChannel, channel}
-use Rattle.machine.specs.Channels.{queuing, queuingAt, queuingPort, channelChecks, send, receive, leadsInto, refilledAt, refilledTo}
+use Rattle.machine.specs.Channels.{queuing, queuingAt, seesTraffic, queuingPort, channelChecks, send, receive, leadsInto, refilledAt, refilledTo}
 use Rattle.machine.proofs.Tests.{codesIn, Passed, and-left, and-right, by-test}
 use Rattle.machine.proofs.Bounds.{either, within-out}
 use Rattle.machine.proofs.Reached.{refilled-table}
@@ -52,6 +52,16 @@ module _ (T : Table) (i : ℕ) (b : Bool) (c : Channel) (eb : b ≡ queuingAt T 
 
   pub source-in : (1 ≤ c .source) × (c .source ≤ partitionLimit)
   source-in = rw ec (within-out partitionLimit (channel T i .source) (and-left (within partitionLimit (channel T i .source)) _ (and-right (ltb 0 (channel T i .size)) _ kind)))
+
+-- partition number 0 is at no end of a queuing channel
+pub none-at-zero : (T : Table) (i : ℕ) → seesTraffic T 0 i ≡ false
+none-at-zero T i = either (queuingAt T i)
+    (λ e.
+    let g = and-right (ltb 0 (channel T i .size)) _ (and-right (ltb i (T .channelCount)) _ e) in
+    let s = within-out partitionLimit (channel T i .source) (and-left (within partitionLimit (channel T i .source)) _ g) in
+    let d = within-out partitionLimit (channel T i .destination) (and-right (within partitionLimit (channel T i .source)) _ g) in
+    rw (e, ne-eqb (channel T i .source) 0 (λ z. omega (arith, s .0)), ne-eqb (channel T i .destination) 0 (λ z. omega (arith, d .0))))
+    (λ e. rw e)
 
 -- ---------------------------------------------------------------- checks
 -- the code of two lists of checks, one after the other

@@ -69,6 +69,9 @@ fn other_slot(table: Table, k: u32, place: usize) -> usize
 pub fn seen_slot(table: Table, k: u32, place: usize) -> usize
     ensures { λ r. ⌜ r ≡ cond (seesTraffic table k place) (otherEnd k (channel table place) - 1) partitionLimit ⌝ }
 {
+    if k == 0 {
+        return Module::PARTITIONS;
+    }
     if sees_traffic(table, k, place) {
         return other_slot(table, k, place);
     }

@@ -124,17 +124,6 @@ pub const CHANGES: [&str; 15] = [
     "erased, suspended",
 ];
 
-/// The waits that a signal ends.
-const IN_A_QUEUE: [&str; 7] = [
-    "semaphore",
-    "event",
-    "sending",
-    "receiving",
-    "blackboard",
-    "sending channel",
-    "receiving channel",
-];
-
 /// True if the rules let this happen to a wait. A periodic process is never
 /// suspended, and the mark without wait is no wait that could be suspended.
 fn may_happen(wait: &str, change: &str) -> bool {
@@ -148,7 +137,8 @@ fn may_happen(wait: &str, change: &str) -> bool {
         _ => {}
     }
     match way {
-        "by signal" => IN_A_QUEUE.contains(&wait),
+        // Those in a queue: from "semaphore" to "receiving channel".
+        "by signal" => WAITS[4..11].contains(&wait),
         "by time" => wait != "normal",
         "by NORMAL" => wait == "normal",
         "by restart" => wait == "sending channel",

@@ -139,12 +139,7 @@ fn age_refresh_and_refresh_plus_1() {
 #[test]
 fn timeout_0() {
     let mut world = World::one();
-    world.semaphore(0, 1);
-    world.flag();
-    world.buffer(1);
-    world.blackboard();
-    world.started(5);
-    world.normal();
+    world.one_of_each();
     for call in [15, 20, 25, 28] {
         world.refused(2, call, &[1, 0]);
     }

@@ -334,12 +334,7 @@ fn numbers_that_no_line_holds_are_judged_by_the_same_rules() {
         table.extend([[1, 2, 5, kind, kind, 0], [2, 1, 5, kind, kind, 0]]);
     }
     let mut world = World::new(&table);
-    world.semaphore(0, 1);
-    world.flag();
-    world.buffer(1);
-    world.blackboard();
-    world.started(5);
-    world.normal();
+    world.one_of_each();
     for call in 1..=31i64 {
         for field in 0..USED[call as usize] {
             for value in [

@@ -302,15 +302,23 @@ fn senders_wait_in_order_of_coming_whatever_their_priority() {
     );
 }
 
-#[test]
-fn suspended_waiters_of_both_ends_are_served_and_stay_suspended() {
+/// A pair in which process 2 of partition 2 waits to receive on channel 1 and
+/// process 2 of partition 1 to send 20 on channel 5, which holds 10, with these
+/// time-outs, both suspended.
+fn suspended_at_both_ends(receiver: i64, sender: i64) -> World {
     let mut world = pair(1);
-    waits(&mut world, 31, &[1, 30]);
+    waits(&mut world, 31, &[1, receiver]);
     done(&mut world, 7, &[2]);
     reach(&mut world, 1);
     done(&mut world, 30, &[5, 10, 0]);
-    waits(&mut world, 30, &[5, 20, 30]);
+    waits(&mut world, 30, &[5, 20, sender]);
     done(&mut world, 7, &[2]);
+    world
+}
+
+#[test]
+fn suspended_waiters_of_both_ends_are_served_and_stay_suspended() {
+    let mut world = suspended_at_both_ends(30, 30);
     done(&mut world, 30, &[1, 70, 0]);
     assert_eq!(waiting(&world, 2, 2), (Wait::None, None, 0, 70, true));
     reach(&mut world, 2);
@@ -445,13 +453,7 @@ fn stop_takes_a_waiter_out_of_its_queue_and_its_message_with_it() {
 
 #[test]
 fn suspended_waiters_time_out_with_6_and_keep_the_mark() {
-    let mut world = pair(1);
-    waits(&mut world, 31, &[1, 20]);
-    done(&mut world, 7, &[2]);
-    reach(&mut world, 1);
-    done(&mut world, 30, &[5, 10, 0]);
-    waits(&mut world, 30, &[5, 20, 9]);
-    done(&mut world, 7, &[2]);
+    let mut world = suspended_at_both_ends(20, 9);
     refused(&mut world, 1, 7, &[2]);
     world.ticks(12);
     for partition in [1, 2] {

@@ -126,6 +126,17 @@ impl World {
         id
     }
 
+    /// A semaphore of value 0 and max 1, an event, a buffer for 1 message, a
+    /// blackboard and a started process, in NORMAL.
+    pub fn one_of_each(&mut self) {
+        self.semaphore(0, 1);
+        self.flag();
+        self.buffer(1);
+        self.blackboard();
+        self.started(5);
+        self.normal();
+    }
+
     pub fn normal(&mut self) {
         self.done(1, &[3]);
     }

@@ -10,7 +10,7 @@ use lib.Seq.{drop-cons}
 use lib.Dec.{ltb, leb}
 use borrow.Author.Tests.{eq-eqb, ne-eqb, lt-ltb, le-ltb, le-leb, lt-leb, ltb-true, leb-true}
 use Rattle.machine.specs.Line.{lineFeed, space, zeroDigit, base}
-use Rattle.machine.proofs.Bounds.{either}
+use Rattle.machine.proofs.Either.{either}
 use Rattle.damaged_lines.specs.declared.Case.{Case}
 use Rattle.damaged_lines.specs.declared.Found.{Found}
 use Rattle.damaged_lines.specs.declared.Found.the-variants.{At, Nothing}

@@ -9,7 +9,7 @@ use Rattle.machine.specs.declared.Decision.{Decision}
 use Rattle.machine.specs.declared.Decision.the-variants.{Refused}
 use Rattle.machine.specs.Decisions.{checked, codeOf, creationChecks}
 use Rattle.machine.proofs.Tests.{codesIn, Passed, code-refuses, code-passes}
-use Rattle.machine.proofs.Bounds.{either}
+use Rattle.machine.proofs.Either.{either}
 
 module _ (l : List (Bool × ℕ)) (n : ℕ) (e : n ≡ codeOf l) (x : Decision) where
   pub refused-code : (n ≡ 0 → ⊥) → Refused n ≡ checked Refused l x

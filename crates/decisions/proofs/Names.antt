@@ -11,7 +11,7 @@ use Rattle.machine.specs.declared.Field.{Field}
 use Rattle.machine.specs.Fields.{isNumber}
 use Rattle.machine.specs.Decisions.{nameTaken}
 use Rattle.machine.proofs.Tests.{and-left, and-right}
-use Rattle.machine.proofs.Bounds.{either}
+use Rattle.machine.proofs.Either.{either}
 use Rattle.machine.proofs.Taken.{taken-done, name-found, name-more, name-done}
 
 -- none before place i has the name: it is among all where it is among the rest

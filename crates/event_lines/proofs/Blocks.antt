@@ -20,7 +20,7 @@ use Rattle.machine.specs.LeftRight.{next, after, answers}
 use Rattle.machine.specs.Limits.{lineLength}
 use Rattle.machine.specs.Line.{lineText, numberList, numbersOf, allInRange, canWrite, writeCode, written, writtenAt, readLine, readAt}
 use Rattle.machine.specs.Replay.{eventOf, answerNumbers}
-use Rattle.machine.proofs.Bounds.{either}
+use Rattle.machine.proofs.Either.{either}
 use Rattle.machine.proofs.Tests.{by-test, and-left, and-right}
 use Rattle.machine.proofs.TextInput.{few-left}
 use Rattle.machine.specs.Step.{step}

@@ -43,7 +43,8 @@ use Rattle.machine.specs.declared.Waiting.{Waiting}
 use Rattle.machine.proofs.Applied.{NoTick, called-no-tick, after-changed, after-restarted, after-written, after-passed, after-same}
 use Rattle.machine.proofs.Reached.{refilled-table}
 use Rattle.machine.proofs.Restarts.{refilled-time, refilled-sizes}
-use Rattle.machine.proofs.Bounds.{either, within-out}
+use Rattle.machine.proofs.Bounds.{within-out}
+use Rattle.machine.proofs.Either.{either}
 use Rattle.machine.proofs.Folds.{tick-to-none}
 use Rattle.machine.proofs.Starts.{waiting-time, reached-waiting}
 use Rattle.machine.proofs.Tests.{by-test, codesIn, Passed, code-refuses, code-passes, and-left, and-right}

@@ -21,7 +21,7 @@ use Rattle.machine.specs.declared.Event.{Event}
 use Rattle.machine.specs.declared.Module.{Module}
 use Rattle.machine.specs.declared.Partition.{Partition}
 use Rattle.machine.proofs.Answers.{step-table}
-use Rattle.machine.proofs.Bounds.{either}
+use Rattle.machine.proofs.Either.{either}
 use Rattle.executive.specs.Executive.{turned, noAnswer}
 use Rattle.executive.specs.Lists.{notLooked, Follows, six, eventAt, firstEvents, eventNumbers, numbersIn, eventsIn, afterList, answeredList, lastAnswer}
 use Rattle.executive.specs.declared.Turn.{Turn}

@@ -23,7 +23,7 @@ use Rattle.line.proofs.Signed.{range-back, ranges-back}
 use Rattle.line.specs.declared.Found.{Found}
 use Rattle.line.specs.declared.Found.the-variants.{Number, Nothing}
 use Rattle.line.specs.Found.{foundOf}
-use Rattle.machine.proofs.Bounds.{either}
+use Rattle.machine.proofs.Either.{either}
 
 -- ---------------------------------------------------------------- where a line ends
 module _ (l : List ℕ) (i r : ℕ) (e : lineEnd l i ≡ r) where

@@ -19,7 +19,7 @@ use borrow.Author.Tests.{eq-eqb, ne-eqb, le-leb, lt-leb, leb-true, leb-false, eq
 use Rattle.machine.specs.Limits.{numberLimit}
 use Rattle.machine.specs.Line.{space, minus, zeroDigit, base, fieldWidth, inRange, column, markAfter, columns, lastDigit, numberText, fieldText, sameBytes, spelled, readField}
 use Rattle.machine.proofs.TextField.{columns-more, columns-none, same-true, field-read, read-field}
-use Rattle.machine.proofs.Bounds.{either}
+use Rattle.machine.proofs.Either.{either}
 use Rattle.line.specs.declared.Found.{Found}
 use Rattle.line.specs.declared.Found.the-variants.{Number, Nothing}
 use Rattle.line.specs.Found.{foundOf}

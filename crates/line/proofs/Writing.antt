@@ -18,7 +18,7 @@ use Rattle.machine.specs.Limits.{lineLength}
 use Rattle.machine.specs.Line.{space, base, fieldWidth, column, markAfter, columns, lastDigit, numberText, fieldText, lineText, lineFeed, inRange, allInRange, numberList, lineRefusal, canWrite, writeCode, written, writtenAt}
 use Rattle.machine.proofs.TextField.{columns-length, columns-more, columns-none, field-length}
 use Rattle.machine.proofs.TextLine.{six-length}
-use Rattle.machine.proofs.Bounds.{either}
+use Rattle.machine.proofs.Either.{either}
 use Rattle.line.specs.Blank.{Blank, Alike}
 use Rattle.line.proofs.Parts.{tail-is, tail-put}
 

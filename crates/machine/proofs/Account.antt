@@ -57,7 +57,8 @@ use Rattle.machine.proofs.Tests.{by-test, by-codes, Passed, not-both, a
 use Rattle.machine.proofs.Fields.{in-limits}
 use Rattle.machine.proofs.Lists.{kept-snoc, cons-not}
 use Rattle.machine.proofs.Sound.{ready-off, carried-sound}
-use Rattle.machine.proofs.Bounds.{either, not-so, same-or-not, within-in, named-same, buffer-in}
+use Rattle.machine.proofs.Bounds.{not-so, same-or-not, within-in, named-same, buffer-in}
+use Rattle.machine.proofs.Either.{either}
 use Rattle.machine.proofs.Messages.{queue-first}
 use Rattle.machine.proofs.Moves as Mo
 use Rattle.machine.proofs.Flows as Fl

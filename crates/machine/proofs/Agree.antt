@@ -25,7 +25,8 @@ use Rattle.machine.specs.Ticks.{dueAt, tickAt, tickTo}
 use Rattle.machine.specs.Channels.{queuing, queuingAt, otherEnd, endedAt, passed, leadsInto, keptTo, erasedTo, admitted, refilledAt, refilledTo}
 use Rattle.machine.specs.LeftRight.{Closed}
 use Rattle.machine.proofs.Tests.{by-test, by-tests, set-both, not-both, and-left, and-right}
-use Rattle.machine.proofs.Bounds.{either, within-out}
+use Rattle.machine.proofs.Bounds.{within-out}
+use Rattle.machine.proofs.Either.{either}
 
 pub record Agree (T : Table) (S : ℕ → Bool) (m n : Module) : Type 0 where
   pub left : m .table ≡ T

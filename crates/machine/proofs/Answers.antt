@@ -30,7 +30,7 @@ use Rattle.machine.specs.Valid.{Valid, SoundDecision, SoundModule, Valid
 use Rattle.machine.proofs.Tests.{by-test, and-right}
 use Rattle.machine.proofs.Dispatch.{by-event, by-decision}
 use Rattle.machine.proofs.Bodies.{Bodily}
-use Rattle.machine.proofs.Bounds.{either}
+use Rattle.machine.proofs.Either.{either}
 use Rattle.machine.proofs.Kept.{running-caller}
 use Rattle.machine.proofs.Reached.{current-known, refilled-table, made, made-sound, made-body, decided-sound, reached-valid}
 

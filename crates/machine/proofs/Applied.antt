@@ -23,7 +23,7 @@ use Rattle.machine.specs.Channels.{passed}
 use Rattle.machine.specs.Services.{Service, services, noService, serviceOf, callDecision, called}
 use Rattle.machine.specs.Step.{restarted, moduleAfter}
 use Rattle.machine.proofs.Tests.{by-test, by-checks, and-left, and-right, not-both}
-use Rattle.machine.proofs.Bounds.{either}
+use Rattle.machine.proofs.Either.{either}
 use Rattle.machine.proofs.Bodies.{Bodily, call-body}
 
 -- a call decides no tick, and a transfer on a channel that has a place

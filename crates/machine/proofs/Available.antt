@@ -48,7 +48,8 @@ use Rattle.machine.specs.Step.{contextOf, decision, moduleAfter, step}
 use Rattle.machine.specs.Valid.{Between, contains, KnownWait, SoundBuffer, SoundMove, SoundEnd, ListedIn, settingOf, Valid, SoundContext, SoundDecision, SoundModule, Reached, plainTick}
 use Rattle.machine.specs.Queues.{available, queueNumber, NoneWaits, SameObjects}
 use Rattle.machine.proofs.Tests.{by-test, by-checks, Passed, not-both, and-left, and-right}
-use Rattle.machine.proofs.Bounds.{either, same-or-not, or-false-parts, known-id, within-in, within-out, named-out, named-same, named-other, semaphore-in, semaphore-out, event-in, event-out, buffer-in, buffer-out, blackboard-in, blackboard-out}
+use Rattle.machine.proofs.Bounds.{same-or-not, or-false-parts, known-id, within-in, within-out, named-out, named-same, named-other, semaphore-in, semaphore-out, event-in, event-out, buffer-in, buffer-out, blackboard-in, blackboard-out}
+use Rattle.machine.proofs.Either.{either}
 use Rattle.machine.proofs.Messages.{let-in-length}
 use Rattle.machine.proofs.Fields.{in-limits}
 use Rattle.machine.proofs.Keeping.{AllCreated, stored-listed, stored-rest, changed-rest, each-rest}

@@ -20,6 +20,7 @@ use Rattle.machine.specs.Ids.{follow}
 use Rattle.machine.specs.Process.{blankProcess, ready, onObject}
 use Rattle.machine.specs.Partition.{within, byId, replaced, withSemaphores, withEvents, withBuffers, withBlackboards, withProcesses, stored, created, storedSemaphore, storedEvent, storedBuffer, storedBlackboard}
 use Rattle.machine.specs.Decisions.{unknown}
+use Rattle.machine.proofs.Either.{either}
 use Rattle.machine.proofs.Tests.{by-test, or-left, or-right, and-left, and-right}
 
 -- ---------------------------------------------------------------- tests
@@ -37,11 +38,6 @@ same-or-not a b = go (eqb a b) refl
     go : (t : Bool) → eqb a b ≡ t → (a ≡ b) ⊎ (a ≡ b → ⊥)
     go true e = inl (eqb-true a b e)
     go false e = inr (eqb-false a b e)
-
--- the value of a test, with what it tells
-pub either : {P : Type 0} (b : Bool) → (b ≡ true → P) → (b ≡ false → P) → P
-either true f g = f refl
-either false f g = g refl
 
 pub or-false-parts : (a b : Bool) → (a || b) ≡ false → (a ≡ false) × (b ≡ false)
 or-false-parts a b h = (or-left a b h, or-right a b h)

@@ -29,7 +29,7 @@ use Rattle.machine.specs.Places.{malformed, strayField, noCaller}
 use Rattle.machine.specs.Step.{contextOf, decision, moduleAfter, stepped, step}
 use Rattle.machine.specs.Valid.{Valid, ValidModule, SoundModule, SoundContext}
 use Rattle.machine.specs.Starred.{own, callBy, Gives, Calling}
-use Rattle.machine.proofs.Bounds.{either}
+use Rattle.machine.proofs.Either.{either}
 use Rattle.machine.proofs.Reached.{reached-valid, current-known, release-bounds}
 
 -- ---------------------------------------------------------------- an integer as a field

@@ -53,7 +53,8 @@ use Rattle.machine.specs.Queues.{queueNumber, ChannelEnds}
 use Rattle.machine.specs.Account.{isCall, codeAt, restartsBy, erases, messageIn, Flow, channelFlow, isSend, isReceive, sends, sending, keeps, givesUp, Balances, Account}
 use Rattle.machine.proofs.Tests.{by-test, by-codes, Passed, not-both, and-left, and-right, or-left, or-right}
 use Rattle.machine.proofs.Fields.{in-limits}
-use Rattle.machine.proofs.Bounds.{either, not-so, same-or-not, named-replicate, getD-replicate-any}
+use Rattle.machine.proofs.Bounds.{not-so, same-or-not, named-replicate, getD-replicate-any}
+use Rattle.machine.proofs.Either.{either}
 use Rattle.machine.proofs.Messages.{queue-length, queue-first, moved-held}
 use Rattle.machine.proofs.Lists.{cons-not, held-queueOf}
 use Rattle.machine.proofs.Keeping.{process-stored, stored-listed}

@@ -39,7 +39,8 @@ use Rattle.machine.specs.Step.{contextOf, decision, restarted, moduleAft
 use Rattle.machine.specs.Valid.{Between, contains, KnownWait, settingOf, SoundDecision, SoundModule, SoundMove, SoundEnd, Reached}
 use Rattle.machine.specs.Queues.{queueNumber, EndOf, ChannelEnds}
 use Rattle.machine.proofs.Tests.{by-test, and-left, not-both}
-use Rattle.machine.proofs.Bounds.{either, same-or-not}
+use Rattle.machine.proofs.Bounds.{same-or-not}
+use Rattle.machine.proofs.Either.{either}
 use Rattle.machine.proofs.Fields.{in-limits}
 use Rattle.machine.proofs.Dispatch.{Calls, by-event}
 use Rattle.machine.proofs.Bodies.{Sends, Receives, OnQueue, Bodily}

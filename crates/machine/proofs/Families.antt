@@ -35,7 +35,8 @@ use Rattle.machine.specs.Step.{step}
 use Rattle.machine.specs.Valid.{Between, SoundBuffer, Valid, SoundModule}
 use Rattle.machine.specs.Starred.{own, callBy, Calling, Gives}
 use Rattle.machine.specs.Queues.{SameObjects, WaitsFor, TimeOut, Queued, FirstServed, NoneServed, AllServed, has, Queues}
-use Rattle.machine.proofs.Bounds.{either, within-in, named-same, blackboard-in}
+use Rattle.machine.proofs.Bounds.{within-in, named-same, blackboard-in}
+use Rattle.machine.proofs.Either.{either}
 use Rattle.machine.proofs.Messages.{queue-first}
 use Rattle.machine.proofs.Lists.{cons-not}
 use Rattle.machine.proofs.Moves as Mo

@@ -19,7 +19,7 @@ use Rattle.machine.specs.Starred.{own}
 use Rattle.machine.specs.Valid.{contains, Distinct}
 use Rattle.machine.specs.Account.{codeAt, restartsBy, messageIn, Flow, isSend, isReceive, sends, sending, keeps, receives, receiving, placeIn, dropped, givesUp, letInAt, lost, lostAt, sentAt, allSent, receivedAt, allReceived, Balances}
 use Rattle.machine.proofs.Tests.{not-both, and-left, and-right}
-use Rattle.machine.proofs.Bounds.{either}
+use Rattle.machine.proofs.Either.{either}
 use Rattle.machine.proofs.Lists.{kept-snoc}
 use Rattle.machine.proofs.Tracking.{contains-kept, kept-same, kept-kept, kept-all, kept-no}
 

@@ -18,7 +18,8 @@ use Rattle.machine.specs.Partition.{within, byId, process, withProcesses
 use Rattle.machine.specs.Valid.{Between, contains, Distinct, Tracks, Numbered, Family, KnownOrNext, ListedIn, ObjectsIn, SoundProcess, settingOf, Valid}
 use Rattle.machine.specs.Plain.{idsFrom}
 use Rattle.machine.proofs.Tests.{by-test, not-both}
-use Rattle.machine.proofs.Bounds.{not-so, same-or-not, and-true-parts, within-in, within-out, named-in, named-same, named-other, stored-in, stored-out, either}
+use Rattle.machine.proofs.Bounds.{not-so, same-or-not, and-true-parts, within-in, within-out, named-in, named-same, named-other, stored-in, stored-out}
+use Rattle.machine.proofs.Either.{either}
 use Rattle.machine.proofs.Tracking.{Ranged, tracks-room, tracks-append, tracks-remove, tracks-follow}
 
 -- ---------------------------------------------------------------- one of a list replaced, or the next one created

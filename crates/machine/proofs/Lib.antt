@@ -1,3 +1,4 @@
+pub mod Either
 pub mod Tests
 pub mod Fields
 pub mod Agree

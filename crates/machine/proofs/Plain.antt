@@ -47,7 +47,8 @@ use Rattle.machine.specs.Valid.{Between, contains, Tracks, NotAfter, lat
 use Rattle.machine.specs.Plain.{plainById, followed, idsFrom, changedFirst, plainStored, plainCreated, plainLast, countWith, plainSemaphore, plainEvent, plainBuffer, plainBlackboard, plainEnded, plainAll, plainApplied, EndInPlace, InPlace, plainRefilledAt, plainRefilledTo, plainTickPartition, plainTicked, plainAfter, AllInPlace, Uncapped, plainBetween, plainNumber, plainMinusOne, plainUnknown, Lossless, PlainReads, PlainNumbers, PlainTable, CapsSeen, NoBoundActs, EmptyStays}
 use Rattle.machine.proofs.Tests.{by-test, by-tests, and-left, or-left, or-right, not-both}
 use Rattle.machine.proofs.Fields.{in-limits}
-use Rattle.machine.proofs.Bounds.{either, within-in, outside-high, named-in, named-out, stored-in, created-in, semaphore-in, event-in, buffer-in, blackboard-in}
+use Rattle.machine.proofs.Bounds.{within-in, outside-high, named-in, named-out, stored-in, created-in, semaphore-in, event-in, buffer-in, blackboard-in}
+use Rattle.machine.proofs.Either.{either}
 use Rattle.machine.proofs.Tracking.{tracks-room, appended-plain}
 use Rattle.machine.proofs.Lists.{members-idsOf, appended-idsOf}
 use Rattle.machine.proofs.Messages.{moved-plain, moved-in-plain}

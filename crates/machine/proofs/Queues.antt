@@ -55,7 +55,8 @@ use Rattle.machine.specs.Plain.{plainById, followed, plainStored}
 use Rattle.machine.specs.Starred.{own, callBy, Calling, Gives, WaitEnded}
 use Rattle.machine.specs.Queues.{SameObjects, has, Queue, KeepsOrEnds, NotExchanged, QueueChanges, joining, QueueAfter, WaitsFor, TimeOut, Queued, FirstServed, NoneServed, AllServed, Queues}
 use Rattle.machine.proofs.Tests.{by-test, not-both, or-left, or-right, and-left, and-right, Passed, passed-parts, by-checks}
-use Rattle.machine.proofs.Bounds.{either, same-or-not, not-so, within-in, within-out, named-same, named-other, semaphore-in, event-in, buffer-in, created-in, created-out}
+use Rattle.machine.proofs.Bounds.{same-or-not, not-so, within-in, within-out, named-same, named-other, semaphore-in, event-in, buffer-in, created-in, created-out}
+use Rattle.machine.proofs.Either.{either}
 use Rattle.machine.proofs.Lists.{members-idsOf, kept-snoc}
 use Rattle.machine.proofs.Tracking.{contains-kept, kept-same, kept-kept, kept-all, kept-no, kept-whole}
 use Rattle.machine.proofs.Keeping.{Rest, process-other, process-stored, stored-rest, rest-count, stored-listed, each-changed, from-range, changed-rest, changed-listed, changed-process, each-listed, each-process, AllCreated}

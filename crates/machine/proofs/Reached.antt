@@ -42,7 +42,8 @@ use Rattle.machine.specs.Valid.Reached.{stepped}
 use Rattle.machine.specs.Valid.{Between, Valid, SoundQueue, SoundMove, SoundEnd, AllMessages, SoundContext, SoundDecision, SoundWindows, SoundTable, SoundMessage, Noted, SoundModule, ValidModule, Reached, plainTickTo, plainTick}
 use Rattle.machine.proofs.Tests.{by-test, and-left, and-right}
 use Rattle.machine.proofs.Fields.{in-limits}
-use Rattle.machine.proofs.Bounds.{either, same-or-not, within-in, getD-replicate-any}
+use Rattle.machine.proofs.Bounds.{same-or-not, within-in, getD-replicate-any}
+use Rattle.machine.proofs.Either.{either}
 use Rattle.machine.proofs.Dispatch.{Calls, by-event}
 use Rattle.machine.proofs.Bodies.{Sends, Receives, OnQueue, Bodily, call-body}
 use Rattle.machine.proofs.Refusals.{call-in-range}

@@ -25,7 +25,7 @@ use Rattle.machine.specs.Channels as Ch
 use Rattle.machine.specs.Step as St
 use Rattle.machine.proofs.Tests.{and-left, and-right, or-left, or-right, not-both}
 use Rattle.machine.proofs.Bodies.{bodyCode, bodyRefusal, call-body, body-code}
-use Rattle.machine.proofs.Bounds.{either}
+use Rattle.machine.proofs.Either.{either}
 
 -- a decision that answers with a refusal leaves the module: by its shape
 refused-stays : (m : Module) (k : ℕ) (d : Decision) → St.refusal (replyOf d .code) ≡ true → St.moduleAfter m k d ≡ m

@@ -27,7 +27,8 @@ use Rattle.machine.specs.Module.{noPartition, channel, part, queue, with
 use Rattle.machine.specs.Channels.{queuing, queuingAt, leadsInto, admitted, refilledAt, refilledTo}
 use Rattle.machine.specs.Valid.{Between, contains, Distinct, ListedIn, Valid, SoundModule}
 use Rattle.machine.proofs.Tests.{by-test, not-both}
-use Rattle.machine.proofs.Bounds.{either, same-or-not}
+use Rattle.machine.proofs.Bounds.{same-or-not}
+use Rattle.machine.proofs.Either.{either}
 use Rattle.machine.proofs.Tracking.{kept-all}
 use Rattle.machine.proofs.Keeping.{AllCreated, changed-process}
 use Rattle.machine.proofs.Kept.{waiters-distinct, take-in, firsts-created, firsts-distinct, let-in-valid}

@@ -15,7 +15,8 @@ use Rattle.machine.specs.Process.{ready}
 use Rattle.machine.specs.Partition.{normalMode, process, chosen, running}
 use Rattle.machine.specs.Valid.{contains, ListedIn, Runs}
 use Rattle.machine.proofs.Tests.{by-test, not-both}
-use Rattle.machine.proofs.Bounds.{so, either}
+use Rattle.machine.proofs.Bounds.{so}
+use Rattle.machine.proofs.Either.{either}
 use Rattle.machine.proofs.Keeping.{process-created}
 
 abbrev priorityOf : Partition → ℕ → ℕ

@@ -47,7 +47,8 @@ use Rattle.machine.specs.Services.{callDecision}
 use Rattle.machine.specs.Valid.{Between, contains, Distinct, ListedIn, Valid, SoundContext, SoundMove, SoundEnd, SoundChange, SoundModule}
 use Rattle.machine.specs.Queues.{queueNumber}
 use Rattle.machine.proofs.Tests.{by-test, by-checks, Passed, passed-parts, not-both, and-left, and-right}
-use Rattle.machine.proofs.Bounds.{either, same-or-not, or-false-parts, known-id, within-in, within-out, named-same, named-other, created-in, created-out, buffer-in, buffer-out}
+use Rattle.machine.proofs.Bounds.{same-or-not, or-false-parts, known-id, within-in, within-out, named-same, named-other, created-in, created-out, buffer-in, buffer-out}
+use Rattle.machine.proofs.Either.{either}
 use Rattle.machine.specs.Ids.{members}
 use Rattle.machine.proofs.Tracking.{contains-kept}
 use Rattle.machine.proofs.Keeping.{AllCreated, Rest, stored-rest, changed-rest, changed-process, each-rest, process-stored, process-other, process-created, each-process, each-listed, rest-count}

@@ -24,7 +24,8 @@ use Rattle.machine.specs.Module.{emptyTable, emptyModule}
 use Rattle.machine.specs.Table.{hasFlagged}
 use Rattle.machine.specs.Valid.{Between, AtMost, SoundWindows, SoundTable, SoundModule, Reached}
 use Rattle.machine.specs.Windows.{noWindow, windows, flaggedFor, firstFlagged, startsFrom, firstStart, aheadOf, nextStart, startsAt, waitingRefused, waitingOf, WaitingTime}
-use Rattle.machine.proofs.Bounds.{either, not-so}
+use Rattle.machine.proofs.Bounds.{not-so}
+use Rattle.machine.proofs.Either.{either}
 use Rattle.machine.proofs.Fields.{in-limits}
 use Rattle.machine.proofs.Reached.{frame-some, reached-valid}
 use Rattle.machine.proofs.Tests.{by-test, and-left, and-right, or-right, not-both}

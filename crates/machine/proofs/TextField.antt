@@ -14,7 +14,7 @@ use lib.IntN.{ℤ, pos, negsuc}
 use borrow.Author.Tests.{leb-true, eqb-true, eq-eqb}
 use Rattle.machine.specs.Limits.{numberLimit}
 use Rattle.machine.specs.Line.{space, minus, zeroDigit, base, fieldWidth, inRange, column, markAfter, columns, numberText, fieldText, sameBytes, spelled, candidate, readField}
-use Rattle.machine.proofs.Bounds.{either}
+use Rattle.machine.proofs.Either.{either}
 
 -- ---------------------------------------------------------------- bytes that are the same
 pub same-refl : (l : List ℕ) → sameBytes l l ≡ true
@@ -70,7 +70,7 @@ column-digit : (rest : ℕ) → column rest space - zeroDigit ≡ rest % base
 unfolding column
 column-digit rest = either (eqb rest 0) (λ e. rw e (rw (eqb-true rest 0 e))) (λ e. rw e (omega arith))
 
-mark-space : (rest : ℕ) → markAfter rest space ≡ space
+pub mark-space : (rest : ℕ) → markAfter rest space ≡ space
 unfolding markAfter
 mark-space rest = either (eqb rest 0) (λ e. rw e) (λ e. rw e)
 

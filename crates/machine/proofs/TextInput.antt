@@ -16,7 +16,7 @@ use Rattle.machine.specs.declared.Line.the-variants.{Six, Bad}
 use Rattle.machine.specs.Limits.{lineLength}
 use Rattle.machine.specs.Line.{lineFeed, space, minus, base, fieldWidth, column, markAfter, columns, lastDigit, numberText, fieldText, lineText, numberList, readLine, inFirst, lines, firstLength, lineEnd, readAt}
 use Rattle.machine.proofs.TextLine.{line-length, six-length, read-six, read-other}
-use Rattle.machine.proofs.Bounds.{either}
+use Rattle.machine.proofs.Either.{either}
 
 -- ---------------------------------------------------------------- what a line is
 -- no LF among these bytes

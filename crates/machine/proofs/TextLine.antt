@@ -17,7 +17,7 @@ use Rattle.machine.specs.declared.Line.the-variants.{Six, Bad}
 use Rattle.machine.specs.Limits.{lineLength}
 use Rattle.machine.specs.Line.{lineFeed, fieldWidth, fieldCount, inRange, fieldText, lineText, sameBytes, readField, joined, readNumbers, numberList, numbersOf, readLine, allInRange, canWrite, written}
 use Rattle.machine.proofs.TextField.{same-refl, same-true, field-length, field-read, read-field}
-use Rattle.machine.proofs.Bounds.{either}
+use Rattle.machine.proofs.Either.{either}
 
 pub line-length : (ns : List ℤ) → length (lineText ns) ≡ length ns * fieldWidth + 1
 unfolding lineText

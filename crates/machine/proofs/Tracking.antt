@@ -14,7 +14,8 @@ use Rattle.machine.specs.Ids.{members, idsOf, keptIf, kept, other, appen
 use Rattle.machine.specs.Valid.{contains, Distinct, Tracks}
 use Rattle.machine.proofs.Lists.{members-idsOf, appended-idsOf}
 use Rattle.machine.proofs.Tests.{not-both}
-use Rattle.machine.proofs.Bounds.{either, same-or-not, or-false-parts}
+use Rattle.machine.proofs.Bounds.{same-or-not, or-false-parts}
+use Rattle.machine.proofs.Either.{either}
 
 contains-snoc : (x : ℕ) (l : List ℕ) (id : ℕ) → contains x (l ++ (id ∷ [])) ≡ (contains x l || eqb id x)
 unfolding contains

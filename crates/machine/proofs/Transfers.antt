@@ -36,7 +36,7 @@ use Rattle.machine.specs.Valid.{Between, SoundModule, SoundMove}
 use Rattle.machine.specs.Starred.{own, callBy, Calling, Gives, Refuses}
 use Rattle.machine.specs.Queues.{WaitsFor, TimeOut, Queued, FirstServed, has, EndOf, ChannelCalls}
 use Rattle.machine.specs.Plain.{plainMoved}
-use Rattle.machine.proofs.Bounds.{either}
+use Rattle.machine.proofs.Either.{either}
 use Rattle.machine.proofs.Lists.{cons-not}
 use Rattle.machine.proofs.Messages.{queue-first, queue-length, moved-plain, moved-held}
 use Rattle.machine.proofs.Sound.{carried-sound}

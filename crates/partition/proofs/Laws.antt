@@ -26,7 +26,8 @@ use Rattle.machine.specs.Ids.{members, idsOf, kept, follow}
 use Rattle.machine.specs.Messages.{queueOf, put}
 use Rattle.machine.specs.Process.{blankProcess, due, ticked, ready, onObject}
 use Rattle.machine.specs.Partition.{within, byId, process, buffer, noBuffer, movedIn, withProcesses, withSemaphores, withEvents, withBuffers, withBlackboards, stored, created, storedSemaphore, storedEvent, storedBuffer, storedBlackboard, endedBy, applied, eachFrom, sooner, soonestFrom}
-use Rattle.machine.proofs.Bounds.{either, inside, outside-zero, outside-high, named-in, named-out, stored-in, created-in, semaphore-in, event-in, buffer-in, blackboard-in, stored-out}
+use Rattle.machine.proofs.Bounds.{inside, outside-zero, outside-high, named-in, named-out, stored-in, created-in, semaphore-in, event-in, buffer-in, blackboard-in, stored-out}
+use Rattle.machine.proofs.Either.{either}
 use Rattle.machine.proofs.Lists.{next-member, no-member, members-of, put-queueOf}
 use Rattle.machine.proofs.Folds.{soonest-more}
 use Rattle.machine.proofs.Quiet.{stored-same, ticked-same}

@@ -28,7 +28,8 @@ use Rattle.machine.specs.Partition.{within}
 use Rattle.machine.specs.Module.{noChannel, channel}
 use Rattle.machine.specs.Channels.{queuing, queuingAt, seesTraffic, queuingPort, channelChecks, send, receive, leadsInto, refilledAt, refilledTo}
 use Rattle.machine.proofs.Tests.{codesIn, Passed, and-left, and-right, by-test}
-use Rattle.machine.proofs.Bounds.{either, within-out}
+use Rattle.machine.proofs.Bounds.{within-out}
+use Rattle.machine.proofs.Either.{either}
 use Rattle.machine.proofs.Reached.{refilled-table}
 use Rattle.decisions.proofs.Laws.{by-code}
 use Rattle.queuing.specs.Ports.{numberAt}

@@ -20,7 +20,7 @@ use Rattle.machine.specs.Limits.{lineLength}
 use Rattle.machine.specs.Line.{lineFeed, lineText, numberList, readLine, lines}
 use Rattle.machine.specs.Replay.{eventOf, answerNumbers}
 use Rattle.machine.specs.Step.{step}
-use Rattle.machine.proofs.Bounds.{either}
+use Rattle.machine.proofs.Either.{either}
 use Rattle.machine.proofs.TextInput.{ended, unended, areLines, lines-are, lines-text, unfed-bad}
 use Rattle.machine.proofs.TextLine.{read-six}
 use Rattle.executive.specs.declared.Executive.{Executive}

@@ -13,7 +13,7 @@ use borrow.Author.Tests.{le-leb, leb-true, leb-false, ltb-false, le-ltb}
 use Rattle.machine.specs.declared.Numbers.{Numbers}
 use Rattle.machine.specs.Limits.{lineLength}
 use Rattle.machine.specs.Line.{lineRefusal}
-use Rattle.machine.proofs.Bounds.{either}
+use Rattle.machine.proofs.Either.{either}
 use Rattle.machine.proofs.Tests.{by-test}
 use Rattle.event_lines.specs.Blocks.{over, overAt}
 use Rattle.event_lines.proofs.Blocks.{over-length, over-more, line-short}

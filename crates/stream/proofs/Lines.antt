@@ -11,7 +11,7 @@ use lib.Dec.{eqb, ltb, leb}
 use borrow.Author.Tests.{not-true, ltb-true, ltb-false, leb-true, leb-false}
 use Rattle.machine.specs.Limits.{lineLength}
 use Rattle.machine.specs.Line.{lineFeed, readLine, inFirst, lines}
-use Rattle.machine.proofs.Bounds.{either}
+use Rattle.machine.proofs.Either.{either}
 use Rattle.machine.proofs.TextLine.{read-other}
 use Rattle.machine.proofs.TextInput.{noFeed, unfed-append}
 use Rattle.stream.specs.declared.Stream.{Stream}

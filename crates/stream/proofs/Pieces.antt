@@ -10,7 +10,8 @@ use borrow.Author.Tests.{le-leb, leb-true, leb-false, ltb-true, ltb-false}
 use Rattle.machine.specs.Limits.{lineLength}
 use Rattle.machine.specs.Line.{lineRefusal}
 use Rattle.machine.specs.Replay.{replayed, replayedRecord}
-use Rattle.machine.proofs.Bounds.{either, and-true-parts}
+use Rattle.machine.proofs.Bounds.{and-true-parts}
+use Rattle.machine.proofs.Either.{either}
 use Rattle.stream.specs.declared.Stream.{Stream}
 use Rattle.stream.specs.Stream.{begun, Fed, feed, Run, run, advanced, last, closed, isStuck, finished, finishedOf, fedAll, streamed, streamEnd, Piece, Taken, pieces}
 use Rattle.stream.proofs.Chunks.{feed-short}

@@ -16,7 +16,7 @@ use Rattle.machine.specs.Fields.{rowOf}
 use Rattle.machine.specs.Line.{lineRefusal, lineCode}
 use Rattle.machine.specs.Windows.{windows}
 use Rattle.machine.specs.Table.{headGood, headDraft, rowGood, withRow, flaggedFrom, refusedTable, checkedTable, tableFrom, tableOf}
-use Rattle.machine.proofs.Bounds.{either}
+use Rattle.machine.proofs.Either.{either}
 use Rattle.machine.proofs.Tests.{by-test}
 use Rattle.machine.proofs.Tables.{head-draft}
 

@@ -21,7 +21,7 @@ use Rattle.machine.specs.Table.{refusedTable, tableOf, readTable}
 use Rattle.machine.specs.TwoRuns.{final, replies}
 use Rattle.machine.specs.Replay.{lineAnswer, lineNext, texts, badTableLine, replayed, replayedRecord}
 use Rattle.machine.specs.Valid.{ValidModule, Reached}
-use Rattle.machine.proofs.Bounds.{either}
+use Rattle.machine.proofs.Either.{either}
 use Rattle.machine.proofs.Reached.{reached-valid}
 use Rattle.machine.proofs.Replays.{line-valid, line-in-range}
 use Rattle.machine.proofs.Tables.{table-read}

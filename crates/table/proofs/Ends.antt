@@ -17,7 +17,7 @@ use Rattle.machine.specs.Line.{readAt}
 use Rattle.machine.specs.Windows.{windows}
 use Rattle.machine.specs.Table.{headGood, headDraft, rowGood, withRow, flaggedFrom, tableFrom, tableOf, readTable}
 use Rattle.machine.specs.Replay.{eventLines}
-use Rattle.machine.proofs.Bounds.{either}
+use Rattle.machine.proofs.Either.{either}
 use Rattle.machine.proofs.Tests.{by-test}
 use Rattle.machine.proofs.TextInput.{few-left}
 use Rattle.table.proofs.Laws.{linesFrom, six-left, no-six}

@@ -20,7 +20,7 @@ use Rattle.machine.specs.Windows.{noWindow, windows, flaggedFor}
 use Rattle.machine.specs.Fields.{rowOf}
 use Rattle.machine.specs.Line.{readLine, meaning, lineMeaning, lines, lineRefusal, lineEnd, readAt}
 use Rattle.machine.specs.Table.{headGood, headDraft, rowGood, withRow, hasFlagged, flaggedFrom, refusedTable, checkedTable, tableFrom, tableHead, tableOf, readTable}
-use Rattle.machine.proofs.Bounds.{either}
+use Rattle.machine.proofs.Either.{either}
 use Rattle.machine.proofs.Taken.{taken-more, taken-done}
 use Rattle.machine.proofs.TextInput.{line-at, lines-end, six-end}
 use Rattle.line.proofs.Meaning.{reads}

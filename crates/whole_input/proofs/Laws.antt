@@ -23,7 +23,8 @@ use Rattle.machine.specs.Table.{readTable}
 use Rattle.machine.specs.TwoRuns.{replies}
 use Rattle.machine.specs.Replay.{eventOf, answerNumbers, lineAnswer, lineNext, texts, refusalNumbers, badTableLine, replayed, replayedInto}
 use Rattle.machine.specs.Valid.{ValidModule, Reached}
-use Rattle.machine.proofs.Bounds.{either, and-true-parts}
+use Rattle.machine.proofs.Bounds.{and-true-parts}
+use Rattle.machine.proofs.Either.{either}
 use Rattle.machine.proofs.Reached.{reached-valid}
 use Rattle.machine.proofs.Replays.{answer-length, texts-length, line-valid, line-in-range}
 use Rattle.machine.proofs.TextInput.{line-at, lines-end, six-end}

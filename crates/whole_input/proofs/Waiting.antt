@@ -22,7 +22,7 @@ use Rattle.machine.specs.Replay.{refusalNumbers, badTableLine, eventLines}
 use Rattle.machine.specs.Table.{readTable}
 use Rattle.machine.specs.Valid.{SoundTable}
 use Rattle.machine.specs.Windows.{waitingRefused}
-use Rattle.machine.proofs.Bounds.{either}
+use Rattle.machine.proofs.Either.{either}
 use Rattle.machine.proofs.Tables.{table-read}
 use Rattle.machine.proofs.TextInput.{line-at}
 use Rattle.machine.proofs.TextLine.{line-length}

@@ -182,3 +182,51 @@ fn an_answer_line_goes_into_the_middle_of_the_output() {
     );
     assert_eq!(&out[71..], b"xxxxx");
 }
+
+/// What the program `written_lines` prints of one write: the code, then every
+/// byte of the output, which had dots before.
+fn shown(length: usize, at: usize, six: &line::Six) -> Vec<u8> {
+    let mut out = vec![b'.'; length];
+    let code = match out.get_mut(at..).map(|part| line::write(six, part)) {
+        Some(Ok(())) => 0,
+        Some(Err(Unwritable)) | None => 11,
+    };
+    [format!("{code} ").as_bytes(), &out, b"\n"].concat()
+}
+
+/// The stored output of `written_lines`, which the gate compares with what the
+/// program writes: each number in each field, in the middle of an output; in
+/// the first field also in outputs of 61 and of 60 bytes, at the end of an
+/// output, and past it.
+#[test]
+fn the_stored_lines_are_those_that_are_written() {
+    let mut tried = vec![-1, 0, 1, 9, 10, 11];
+    for power in 2..=6 {
+        let ten = 10i64.pow(power);
+        tried.extend([ten - 1, ten, ten + 1]);
+    }
+    tried.extend([9_999_999, 10_000_000, 99_999_999, 100_000_000]);
+    tried.extend([123_456_789, 987_654_321, 999_999_999]);
+    tried.extend([-2, -9, -10, -999_999_999, 1_000_000_000]);
+    tried.extend([i64::from(u32::MAX), i64::MAX, i64::MIN]);
+    let mut expected = Vec::new();
+    for number in tried {
+        let with_number = |place: usize| {
+            let mut six = [7, 0, -1, 999_999_999, 12, 345];
+            six[place] = number;
+            six
+        };
+        for place in 0..6 {
+            expected.extend(shown(65, 2, &with_number(place)));
+        }
+        for (length, at) in [(61, 0), (60, 0), (61, 61), (61, 62)] {
+            expected.extend(shown(length, at, &with_number(0)));
+        }
+    }
+    let path = concat!(
+        env!("CARGO_MANIFEST_DIR"),
+        "/../../crates/written_lines/stdout"
+    );
+    let stored = std::fs::read(path).expect("the stored output");
+    assert!(stored == expected, "the stored lines differ");
+}

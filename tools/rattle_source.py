@@ -8,6 +8,9 @@ Token = collections.namedtuple("Token", "kind text start end")
 # any other item all of it. contract, body: of a function. start, end: its characters, with the comment above it.
 Item = collections.namedtuple("Item", "kind name owner start end line head contract body")
 CLOSING = {"(": ")", "[": "]", "{": "}"}
+LENT = {"len"}  # methods of a slice
+# The line writer, which tools/take-writer takes out and tests/writer holds.
+WRITER = ("write", "write_at")
 KEYWORDS = set("as break const continue else enum extern fn for ghost if impl in let loop match mod mut pub return self struct type use while".split())
 
 
@@ -93,6 +96,39 @@ def calls(item):
             k -= 2
         dot = k > 0 and words[k - 1].text == "."
         yield ("." if dot else "") + "".join(word.text for word in words[k:i + 1])
+
+
+def by_name(items, *kinds):
+    """The items of these kinds by name, those of an impl with its type in front."""
+    return {(f"{item.owner}::" if item.owner else "") + item.name: item for item in items if item.kind in kinds}
+
+
+def callees(item, functions, types):
+    """Each call of a function: the name of the function that it is, or None where it is none of these; and the call. Values of types are no calls."""
+    for call in calls(item):
+        path = call.removeprefix("crate::").removeprefix("self::")
+        owner, _, name = path.rpartition("::")
+        type_ = types.get(owner.split("::")[-1])
+        if path in functions:
+            yield path, call
+        elif call.startswith("."):
+            own = [key for key, function in functions.items() if function.owner and function.name == call[1:]]
+            yield from ((key, call) for key in own or [None] if own or call[1:] not in LENT)
+        elif path not in types and not (type_ and type_.kind == "enum" and name in names(type_.head)):
+            yield None, call
+
+
+def reached(functions, types, entries):
+    """The functions that these reach, by name, and the calls of them that are of no function there: pairs of a name and a call."""
+    found, left, strays = {}, list(entries), []
+    while left:
+        key = left.pop(0)
+        if key not in found:
+            found[key] = functions[key]
+            pairs = list(callees(functions[key], functions, types))
+            left += [callee for callee, _ in pairs if callee]
+            strays += [(key, call) for callee, call in pairs if not callee]
+    return found, strays
 
 
 def pages(text):

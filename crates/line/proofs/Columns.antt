@@ -10,11 +10,11 @@ use lib.Seq.{getD-append-seam, getD-append-add, getD-drop}
 use lib.Dec.{leb, ltb, eqb, lit<}
 use lib.IntN.{ℤ, pos, negsuc}
 use borrow.Author.Tests.{leb-true, lt-leb, le-leb, leb-false, lt-ltb, le-ltb, ltb-true, ltb-false, eqb-true, eq-eqb, ne-eqb}
-use Rattle.machine.specs.Line.{lineFeed, space, minus, base, fieldWidth, inRange, lastDigit, column, markAfter, columns, numberText, fieldText, lineText, allInRange, canWrite, written}
+use Rattle.machine.specs.Line.{lineFeed, space, minus, base, fieldWidth, inRange, lastDigit, column, markAfter, columns, numberText, fieldText, lineText, allInRange, canWrite, written, writtenAt}
 use Rattle.machine.proofs.Either.{either}
 use Rattle.machine.proofs.TextField.{columns-length, mark-space, field-length}
 use Rattle.machine.proofs.TextLine.{line-length}
-use Rattle.line.specs.Columns.{columnByte, lineByte, writtenByte}
+use Rattle.line.specs.Columns.{columnByte, lineByte, writtenByte, writtenAtByte}
 
 -- the last byte of a text
 last-byte : (l : List ℕ) (b place : ℕ) → length l ≡ place → getD (l ++ (b ∷ [])) place 0 ≡ b
@@ -124,3 +124,22 @@ written-byte out ns place =
     ∙ getD-drop (length (lineText ns)) out (place - length (lineText ns)) 0
     ∙ ap (λ (k : ℕ). getD out k 0) (sym i))))
     (λ t. rw t)
+
+-- nothing is written into no output
+none-written : (ns : List ℤ) (place : ℕ) → writtenByte [] ns place ≡ 0
+none-written ns place = rw (lt-leb (length (lineText ns)) 0 (omega (arith, line-length ns)))
+
+-- the same from a position on, also one past the output's end
+pub written-at-byte : (at : ℕ) (out : List ℕ) (ns : List ℤ) (place : ℕ) → getD (writtenAt at out ns) place 0 ≡ writtenAtByte at out ns place
+written-at-byte zero out ns place =
+    let e : place - 0 ≡ place = omega arith in
+    rw (le-ltb place 0 (omega arith), e) (written-byte out ns place)
+written-at-byte (suc at) [] ns place =
+    written-byte [] ns place ∙ none-written ns place ∙ either (ltb place (suc at)) (λ t. rw t) (λ t. rw t (sym (none-written ns (place - suc at))))
+written-at-byte (suc at) (b ∷ out) ns zero = rw (lt-ltb 0 (suc at) (omega arith))
+written-at-byte (suc at) (b ∷ out) ns (suc place) =
+    let e : suc place - suc at ≡ place - at = omega arith in
+    rw e
+    (either (ltb place at)
+    (λ t. rw (lt-ltb (suc place) (suc at) (omega (arith, ltb-true place at t))) (written-at-byte at out ns place ∙ rw t))
+    (λ t. rw (le-ltb (suc place) (suc at) (omega (arith, ltb-false place at t))) (written-at-byte at out ns place ∙ rw t)))

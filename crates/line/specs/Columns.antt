@@ -1,8 +1,8 @@
--- The bytes of a written line, each by its place.
+-- Each digit goes straight into its column: the bytes of a written line, each by its place.
 use Prim.Native.Nat.{ℕ, zero, suc, _+_, _-_, _*_, _/_, _%_, _^_}
 use mathlib.Core.Bool.{cond, _&&_}
 use mathlib.Core.List.{List}
-use lib.ListN.{length, getD}
+use lib.ListN.{length, getD, drop}
 use lib.Dec.{leb, ltb}
 use lib.IntN.{ℤ, pos, negsuc}
 use Rattle.machine.specs.Line.{lineFeed, space, minus, base, fieldWidth, lastDigit, canWrite}
@@ -24,3 +24,7 @@ lineByte ns place =
 -- the output after: the line's bytes, and all others as they were; where the line is refused, every byte as it was
 abbrev pub writtenByte : List ℕ → List ℤ → ℕ → ℕ
 writtenByte out ns place = cond (canWrite (length out) ns && ltb place (length ns * fieldWidth + 1)) (lineByte ns place) (getD out place 0)
+
+-- an answer line goes into the middle of the output: what lies before is as it was
+abbrev pub writtenAtByte : ℕ → List ℕ → List ℤ → ℕ → ℕ
+writtenAtByte at out ns place = cond (ltb place at) (getD out place 0) (writtenByte (drop at out) ns (place - at))

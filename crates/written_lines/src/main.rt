@@ -1,6 +1,7 @@
 // Lines of chosen numbers, written into outputs of chosen lengths: for each the answer's number, then every byte of the output, which had
 // dots before.
 use libc::STDOUT_FILENO;
+use machine::Module;
 use machine::Numbers;
 
 // The numbers that are tried; the last eight are out of range.
@@ -76,22 +77,30 @@ fn print_written(out: &mut [u8], at: usize, n: Numbers) {
     io::write_all(STDOUT_FILENO, b"\n");
 }
 
-// In the middle of an output.
+// Into the middle of an output.
 fn print_middle(n: Numbers) {
-    let mut out = [b'.'; 65];
+    let mut out = [b'.'; Module::LINE + 4];
     print_written(&mut out, 2, n);
 }
 
-// An output of a line's length, and one that is a byte shorter; at the end of an output, and past it.
+// Into an output of a line's length.
+fn print_exact(at: usize, n: Numbers) {
+    let mut out = [b'.'; Module::LINE];
+    print_written(&mut out, at, n);
+}
+
+// Into an output that is a byte too short.
+fn print_short(n: Numbers) {
+    let mut out = [b'.'; Module::LINE - 1];
+    print_written(&mut out, 0, n);
+}
+
+// Where the output just suffices and where it is too short; at its end, and past it.
 fn print_ends(n: Numbers) {
-    let mut exact = [b'.'; 61];
-    print_written(&mut exact, 0, n);
-    let mut short = [b'.'; 60];
-    print_written(&mut short, 0, n);
-    let mut full = [b'.'; 61];
-    print_written(&mut full, 61, n);
-    let mut past = [b'.'; 61];
-    print_written(&mut past, 62, n);
+    print_exact(0, n);
+    print_short(n);
+    print_exact(Module::LINE, n);
+    print_exact(Module::LINE + 1, n);
 }
 
 // A number in each field.

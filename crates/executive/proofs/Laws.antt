@@ -46,7 +46,7 @@ use Rattle.machine.proofs.Restarts.{refilled-time, refilled-sizes}
 use Rattle.machine.proofs.Bounds.{within-out}
 use Rattle.machine.proofs.Either.{either}
 use Rattle.machine.proofs.Folds.{tick-to-none}
-use Rattle.machine.proofs.Starts.{waiting-time, reached-waiting}
+use Rattle.machine.proofs.Waits.{waiting-time, reached-waiting}
 use Rattle.machine.proofs.Tests.{by-test, codesIn, Passed, code-refuses, code-passes, and-left, and-right}
 use Rattle.places.specs.Placed.{placedAt}
 use Rattle.queuing.proofs.Laws.{placed}

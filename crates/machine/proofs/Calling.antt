@@ -30,7 +30,8 @@ use Rattle.machine.specs.Step.{contextOf, decision, moduleAfter, stepped
 use Rattle.machine.specs.Valid.{Valid, ValidModule, SoundModule, SoundContext}
 use Rattle.machine.specs.Starred.{own, callBy, Gives, Calling}
 use Rattle.machine.proofs.Either.{either}
-use Rattle.machine.proofs.Reached.{reached-valid, current-known, release-bounds}
+use Rattle.machine.proofs.Reached.{reached-valid, current-known}
+use Rattle.machine.proofs.Starts.{release-bounds}
 
 -- ---------------------------------------------------------------- an integer as a field
 pub field-number : (n : ℕ) → n ≤ greatestTime → field (pos n) ≡ Number n

@@ -4,7 +4,7 @@ use mathlib.Core.Path.{_≡_, refl, sym, ap, ap₂, _∙_}
 use mathlib.Core.Bool.{Bool, true, false, cond, not, _&&_, _||_, and-false}
 use mathlib.Core.List.{List, [], _∷_}
 use native.Mathlib.Omega.{arith}
-use native.Mathlib.Nat.{mod-self, add-mod-left, mod-eq-of-lt}
+use native.Mathlib.Nat.{add-zero, mod-self, add-mod-left, mod-eq-of-lt}
 use lib.ListN.{length, getD, set, take, length-take}
 use lib.Seq.{getD-take}
 use lib.IntN.{ℤ, pos}
@@ -13,24 +13,24 @@ use borrow.Author.Tests.{eq-eqb, ne-eqb, eqb-true, le-leb, lt-leb, lt-ltb, le-lt
 use Rattle.machine.specs.declared.Process.{Process}
 use Rattle.machine.specs.declared.Partition.{Partition}
 use Rattle.machine.specs.declared.Module.{Module}
-use Rattle.machine.specs.declared.Window.{Window}
 use Rattle.machine.specs.declared.Semaphore.{Semaphore as SemaphoreT}
 use Rattle.machine.specs.declared.EventState.{EventState}
 use Rattle.machine.specs.declared.Buffer.{Buffer}
 use Rattle.machine.specs.declared.Blackboard.{Blackboard as BlackboardT}
 use Rattle.machine.specs.declared.Event.{Event as EventT}
-use Rattle.machine.specs.declared.Change.the-variants.{Nothing, Stored, Created, Last, StoredSemaphore, StoredEvent, CreatedBuffer, StoredBlackboard}
+use Rattle.machine.specs.declared.Change.the-variants.{Nothing, Stored, Created, Last, Entered, StoredSemaphore, StoredEvent, CreatedBuffer, StoredBlackboard}
 use Rattle.machine.specs.declared.Decision.the-variants.{Refused, Unchanged, Blocked, Changed}
 use Rattle.machine.specs.declared.Field.{Field}
 use Rattle.machine.specs.declared.Field.the-variants.{Number, MinusOne}
+use Rattle.machine.specs.declared.Wait.the-variants.{Normal}
 use Rattle.machine.specs.declared.Time.{Time}
 use Rattle.machine.specs.declared.Time.the-variants.{Never, At}
 use Rattle.machine.specs.Limits.{processLimit, semaphoreLimit, eventLimit, bufferLimit, messageLimit, blackboardLimit, nameLimit, priorityLimit, valueLimit, durationLimit, greatestTime}
 use Rattle.machine.specs.Fields.{field, between, isMinusOne, timeOf}
 use Rattle.machine.specs.Ids.{removed, follow}
-use Rattle.machine.specs.Process.{blankProcess, createdProcess, periodic, ready, onObject, withCurrent, startRule, startedEarly, nextRelease}
-use Rattle.machine.specs.Partition.{normalMode, process, semaphore, event, buffer, blackboard, byId, noSemaphore, noEvent, noBuffer, noBlackboard, emptyBuffer, running, withProcesses, stored, created, applied}
-use Rattle.machine.specs.Windows.{windows, noWindow, firstFlagged, releaseAfter, flaggedFor}
+use Rattle.machine.specs.Process.{blankProcess, createdProcess, periodic, ready, onObject, withCurrent, startRule, startedEarly, nextRelease, entered}
+use Rattle.machine.specs.Partition.{normalMode, process, semaphore, event, buffer, blackboard, byId, noSemaphore, noEvent, noBuffer, noBlackboard, emptyBuffer, running, withMode, withProcesses, stored, created, applied, enteredNormal}
+use Rattle.machine.specs.Windows.{StartAt, Release}
 use Rattle.machine.specs.Decisions as D
 use Rattle.machine.specs.Calls as C
 use Rattle.machine.specs.Objects as Ob
@@ -43,16 +43,16 @@ use Rattle.machine.specs.Places as Pl
 use Rattle.machine.specs.Step as St
 use Rattle.machine.specs.Valid.{Numbered, Between, NotAfter, SoundGiven, SoundPeriod, SoundCapacity, ListedIn, settingOf, plainLater, Valid, SoundModule}
 use Rattle.machine.specs.Replay.{timeNumber}
-use Rattle.machine.specs.Starred.{own, callBy, Gives, Refuses, Puts, Calling, withProcess, without, atEnd, withNew, withNewSemaphore, withNewEvent, withNewBuffer, withNewBlackboard, withSemaphoreAt, Room, NewProcess, NewSemaphore, NewEvent, NewBuffer, NewBlackboard, createBy, given, FirstFlagged, releaseAt, awaitsRelease, awaitsNext, awaitsNormal, Corners}
+use Rattle.machine.specs.Starred.{own, callBy, Gives, Refuses, Puts, Calling, withProcess, without, atEnd, withNew, withNewSemaphore, withNewEvent, withNewBuffer, withNewBlackboard, withSemaphoreAt, Room, NewProcess, NewSemaphore, NewEvent, NewBuffer, NewBlackboard, createBy, given, awaitsRelease, awaitsNext, awaitsNormal, ReleasesAt, Corners}
 use Rattle.machine.proofs.Tests.{and-left, and-right}
 use Rattle.machine.proofs.Bounds.{not-so, within-in, named-in, created-in, semaphore-in, event-in, buffer-in, blackboard-in, stored-in}
-use Rattle.machine.proofs.Keeping.{stored-listed, process-stored}
+use Rattle.machine.proofs.Keeping.{stored-listed, process-stored, each-rest, each-process}
 use Rattle.machine.proofs.Kept.{running-caller}
 use Rattle.machine.proofs.Quiet.{follow-same}
-use Rattle.machine.proofs.Reached.{release-plain}
+use Rattle.machine.proofs.Starts.{release-earliest, release-one, release-here}
 use Rattle.machine.proofs.Sound.{capacity-bound, period-not-after, ready-off}
 use Rattle.machine.proofs.Plain.{arrived-plain, release-point-plain, release-deadline-plain, next-plain, next-deadline-plain}
-use Rattle.machine.proofs.Calling.{field-number, from-zero, calling-sound, calling-valid, calling-context, asked, gives}
+use Rattle.machine.proofs.Calling.{field-number, from-zero, calling-sound, calling-low, calling-valid, calling-context, asked, gives, own-after}
 
 -- ---------------------------------------------------------------- what is given, brought to another form
 puts-is : (m : Module) (k : ℕ) {e : EventT} {code value : ℕ} (p q : Partition) → Puts m e code value k p → p ≡ q → Puts m e code value k q
@@ -94,18 +94,6 @@ capacity-fits : (period x : Time) → SoundCapacity period x → ((isMinusOne (f
 capacity-fits period Never h = refl
 capacity-fits Never (At n) h = rw (le-leb 1 n (h .0 .0), le-leb n durationLimit (h .0 .1))
 capacity-fits (At q) (At n) h = rw (le-leb 1 n (h .0 .0), le-leb n durationLimit (h .0 .1), le-ltb q n (h .1))
-
--- ---------------------------------------------------------------- the first window with flag 1
-first-is : (k s : ℕ) (ws : List Window) → FirstFlagged k s ws → firstFlagged k ws ≡ s
-unfolding firstFlagged
-first-is k s ws f = go ws (f .at) (f .inside) (f .owner) (f .flagged) (f .starts) (f .first)
-  where
-    go : (ws : List Window) (at : ℕ) → at < length ws → getD ws at noWindow .partition ≡ k → getD ws at noWindow .flag ≡ true → getD ws at noWindow .start ≡ s → ((i : ℕ) → i < at → getD ws i noWindow .partition ≡ k → getD ws i noWindow .flag ≡ true → ⊥) → firstFlagged k ws ≡ s
-    go [] at h o f e none = absurd (omega arith)
-    go (w ∷ ws) zero h o f e none = rw (f, eq-eqb (w .partition) k o) e
-    go (w ∷ ws) (suc at) h o f e none =
-        let q : flaggedFor k w ≡ false = not-so (flaggedFor k w) (λ t. none 0 (omega arith) (eqb-true (w .partition) k (and-right (w .flag) _ t)) (and-left (w .flag) _ t)) in
-        rw q (go ws at (omega arith) o f e (λ i l. none (suc i) (omega arith)))
 
 -- ---------------------------------------------------------------- a process stored
 module _ (p : Partition) (v : ListedIn p) (id : ℕ) (b : Between 1 (p .processCount) id) (x : Process) where
@@ -363,14 +351,13 @@ module _ (m : Module) (k : ℕ) (u : SoundModule m) (h : Calling m k) where
 
   -- ---------------------------------------------------------------- a periodic start in NORMAL
   -- the release point, plus a delay
-  module _ (s : ℕ) (f : FirstFlagged k s (windows (m .table))) where
-    release-is : St.contextOf m k .release ≡ (m .t / m .table .frame + 1) * m .table .frame + s
-    unfolding releaseAfter
-    release-is = release-plain (m .table) (u .table) (m .t) (u .time) k ∙ ap (λ (n : ℕ). (m .t / m .table .frame + 1) * m .table .frame + n) (first-is k s (windows (m .table)) f)
+  module _ (r : ℕ) (f : Release (m .table) k (m .t) r) where
+    release-is : St.contextOf m k .release ≡ r
+    release-is = release-one (m .table) (u .table) (m .t) k _ r (release-earliest (m .table) (u .table) (m .t) k (h .some, calling-low m k u h) (u .time)) f
 
     -- what the start rule makes of a periodic process, with its priority, mark and missed mark
-    pub started-is : (id delay n : ℕ) → Between 1 (p .processCount) id → process id p .given .period ≡ At n → delay ≤ durationLimit
-        → startRule (St.contextOf m k) delay (process id p) ≡ awaitsRelease (releaseAt m s delay) (process id p .times .delay) (process id p .given .base) false false (process id p)
+    started-is : (id delay n : ℕ) → Between 1 (p .processCount) id → process id p .given .period ≡ At n → delay ≤ durationLimit
+        → startRule (St.contextOf m k) delay (process id p) ≡ awaitsRelease (r + delay) (process id p .times .delay) (process id p .given .base) false false (process id p)
     unfolding startRule
     started-is id delay n b e short =
         let x = process id p in
@@ -380,42 +367,84 @@ module _ (m : Module) (k : ℕ) (u : SoundModule m) (h : Calling m k) where
 
     -- START with delay 0 is DELAYED_START with delay 0
     start-is : (id delay n : ℕ) → p .mode ≡ 3 → Between 1 (p .processCount) id → process id p .started ≡ false → process id p .given .period ≡ At n → delay < n
-        → C.start (St.contextOf m k) id (Number delay) p ≡ D.changed (Stored id (awaitsRelease (releaseAt m s delay) (process id p .times .delay) (process id p .given .base) false false (process id p)))
+        → C.start (St.contextOf m k) id (Number delay) p ≡ D.changed (Stored id (awaitsRelease (r + delay) (process id p .times .delay) (process id p .given .base) false false (process id p)))
     unfolding C.start D.checked
     start-is id delay n normal b off e below =
-        let r = period-high id n b e in
-        rw (known id (p .processCount) b, normal-is normal, started-is id delay n b e (omega (arith, r .1)), e, from-zero delay, le-leb delay durationLimit (omega (arith, r .1)), lt-leb n delay below, off)
+        let high = period-high id n b e in
+        rw (known id (p .processCount) b, normal-is normal, started-is id delay n b e (omega (arith, high .1)), e, from-zero delay, le-leb delay durationLimit (omega (arith, high .1)), lt-leb n delay below, off)
 
-    released : (id delay n : ℕ) → Between 1 (p .processCount) id → process id p .started ≡ false
-        → let x = awaitsRelease (releaseAt m s delay) (process id p .times .delay) (process id p .given .base) false false (process id p) in stored id x p ≡ withProcess id x (p .arrival) p
-    released id delay n b off = stored-steady p (v .lists) id b _ (dormant-unready id b off) (dormant-off id b off)
+    released : (id at : ℕ) → Between 1 (p .processCount) id → process id p .started ≡ false
+        → let x = awaitsRelease at (process id p .times .delay) (process id p .given .base) false false (process id p) in stored id x p ≡ withProcess id x (p .arrival) p
+    released id at b off = stored-steady p (v .lists) id b _ (dormant-unready id b off) (dormant-off id b off)
 
-    pub delayed-release : (id delay n : ℕ) → p .mode ≡ 3 → Between 1 (p .processCount) id → process id p .started ≡ false → process id p .given .period ≡ At n → delay < n
-        → Puts m (callBy k 4 (pos id) (pos delay) (pos 0) (pos 0)) 0 0 k (withProcess id (awaitsRelease (releaseAt m s delay) (process id p .times .delay) (process id p .given .base) false false (process id p)) (p .arrival) p)
+    delayed-release : (id delay n : ℕ) → p .mode ≡ 3 → Between 1 (p .processCount) id → process id p .started ≡ false → process id p .given .period ≡ At n → delay < n
+        → Puts m (callBy k 4 (pos id) (pos delay) (pos 0) (pos 0)) 0 0 k (withProcess id (awaitsRelease (r + delay) (process id p .times .delay) (process id p .given .base) false false (process id p)) (p .arrival) p)
     unfolding Sv.callDecision Sv.services Pl.strayField
     delayed-release id delay n normal b off e below =
-        let r = period-high id n b e in
+        let high = period-high id n b e in
         puts-is m k _ _
-        (gives m k u h 4 (pos id) (pos delay) (pos 0) (pos 0) (omega arith) (omega arith) refl (D.changed (Stored id (awaitsRelease (releaseAt m s delay) (process id p .times .delay) (process id p .given .base) false false (process id p))))
-        (rw (field-number id (small id (p .processCount) b (v .lists .numbered .few)), field-number delay (omega (arith, r .1))) (start-is id delay n normal b off e below)))
-        (released id delay n b off)
+        (gives m k u h 4 (pos id) (pos delay) (pos 0) (pos 0) (omega arith) (omega arith) refl (D.changed (Stored id (awaitsRelease (r + delay) (process id p .times .delay) (process id p .given .base) false false (process id p))))
+        (rw (field-number id (small id (p .processCount) b (v .lists .numbered .few)), field-number delay (omega (arith, high .1))) (start-is id delay n normal b off e below)))
+        (released id (r + delay) b off)
 
-    pub immediate-release : (id n : ℕ) → p .mode ≡ 3 → Between 1 (p .processCount) id → process id p .started ≡ false → process id p .given .period ≡ At n
-        → Puts m (callBy k 3 (pos id) (pos 0) (pos 0) (pos 0)) 0 0 k (withProcess id (awaitsRelease (releaseAt m s 0) (process id p .times .delay) (process id p .given .base) false false (process id p)) (p .arrival) p)
+    immediate-release : (id n : ℕ) → p .mode ≡ 3 → Between 1 (p .processCount) id → process id p .started ≡ false → process id p .given .period ≡ At n
+        → Puts m (callBy k 3 (pos id) (pos 0) (pos 0) (pos 0)) 0 0 k (withProcess id (awaitsRelease r (process id p .times .delay) (process id p .given .base) false false (process id p)) (p .arrival) p)
     unfolding Sv.callDecision Sv.services Pl.strayField
     immediate-release id n normal b off e =
-        puts-is m k _ _
-        (gives m k u h 3 (pos id) (pos 0) (pos 0) (pos 0) (omega arith) (omega arith) refl (D.changed (Stored id (awaitsRelease (releaseAt m s 0) (process id p .times .delay) (process id p .given .base) false false (process id p))))
+        let x = awaitsRelease (r + 0) (process id p .times .delay) (process id p .given .base) false false (process id p) in
+        rw (add-zero r) at
+        (puts-is m k _ _
+        (gives m k u h 3 (pos id) (pos 0) (pos 0) (pos 0) (omega arith) (omega arith) refl (D.changed (Stored id x))
         (rw (field-number id (small id (p .processCount) b (v .lists .numbered .few))) (start-is id 0 n normal b off e (period-high id n b e .0))))
-        (released id 0 n b off)
+        (released id (r + 0) b off))
 
-  delay-normal-corner : (id n s : ℕ) → Between 1 (p .processCount) id → process id p .started ≡ false → process id p .given .period ≡ At n → p .mode ≡ 3 → FirstFlagged k s (windows (m .table))
+    -- the process after START
+    pub started-process : (id n : ℕ) → p .mode ≡ 3 → Between 1 (p .processCount) id → process id p .started ≡ false → process id p .given .period ≡ At n
+        → process id (own (St.step m (callBy k 3 (pos id) (pos 0) (pos 0) (pos 0)) .state) k) ≡ awaitsRelease r (process id p .times .delay) (process id p .given .base) false false (process id p)
+    started-process id n normal b off e =
+        let x = awaitsRelease r (process id p .times .delay) (process id p .given .base) false false (process id p) in
+        ap (process id) (own-after m k u h _ (immediate-release id n normal b off e)) ∙ ap (process id) (sym (released id r b off)) ∙ process-stored p id x (v .lists) b
+
+    -- entering NORMAL
+    module _ (id n : ℕ) (early : p .mode ≡ 3 → ⊥) (b : Between 1 (p .processCount) id) (w : process id p .wait ≡ Normal) (e : process id p .given .period ≡ At n) where
+      enter-gives : Puts m (callBy k 1 (pos 3) (pos 0) (pos 0) (pos 0)) 0 0 k (enteredNormal (St.contextOf m k) p)
+      unfolding Sv.callDecision Sv.services Pl.strayField C.setMode D.checked
+      enter-gives = gives m k u h 1 (pos 3) (pos 0) (pos 0) (pos 0) (omega arith) (omega arith) refl (D.changed (Entered (St.contextOf m k)))
+          (rw (normal-not early, ne-eqb (p .processCount) 0 (λ z. omega (arith, b .0, b .1))))
+
+      entered-mode : enteredNormal (St.contextOf m k) p .mode ≡ 3
+      unfolding enteredNormal
+      entered-mode = ap (λ (q : Partition). q .mode) (each-rest (entered (St.contextOf m k)) (withMode 3 p) (v .lists))
+
+      entered-process : let x = process id p in process id (enteredNormal (St.contextOf m k) p) ≡ awaitsRelease (r + x .times .delay) (x .times .delay) (x .current) (x .suspended) false x
+      unfolding enteredNormal entered
+      entered-process =
+          each-process (entered (St.contextOf m k)) (withMode 3 p) (v .lists) id b
+          ∙ rw (started-is id (process id p .times .delay) n b e (v .eachProcess id b .lasting .delay), w)
+
+      enter-release : let a = callBy k 1 (pos 3) (pos 0) (pos 0) (pos 0) in
+          let x = process id p in
+          (St.step m a .answer .code ≡ 0) × (own (St.step m a .state) k .mode ≡ 3)
+          × (process id (own (St.step m a .state) k) ≡ awaitsRelease (r + x .times .delay) (x .times .delay) (x .current) (x .suspended) false x)
+      enter-release =
+          let q = own-after m k u h (enteredNormal (St.contextOf m k) p) enter-gives in
+          (enter-gives .codeIs, ap (λ (p : Partition). p .mode) q ∙ entered-mode, ap (process id) q ∙ entered-process)
+
+    pub releases-at : ReleasesAt m k r
+    releases-at = record { start = immediate-release; delayed = λ id n delay normal b off e. delayed-release id delay n normal b off e; entered = enter-release }
+
+  delay-normal-corner : (id n r : ℕ) → Between 1 (p .processCount) id → process id p .started ≡ false → process id p .given .period ≡ At n → p .mode ≡ 3 → Release (m .table) k (m .t) r
       → Puts m (callBy k 4 (pos id) (pos (n - 1)) (pos 0) (pos 0)) 0 0 k
-      (withProcess id (awaitsRelease (releaseAt m s (n - 1)) (process id p .times .delay) (process id p .given .base) false false (process id p)) (p .arrival) p)
+      (withProcess id (awaitsRelease (r + (n - 1)) (process id p .times .delay) (process id p .given .base) false false (process id p)) (p .arrival) p)
       × Refuses m (callBy k 4 (pos id) (pos n) (pos 0) (pos 0)) 3
-  delay-normal-corner id n s b off e normal f =
-      let r = period-high id n b e in
-      (delayed-release s f id (n - 1) n normal b off e (omega (arith, r .0)), delay-refused id n b e (r .1))
+  delay-normal-corner id n r b off e normal f =
+      let high = period-high id n b e in
+      (delayed-release r f id (n - 1) n normal b off e (omega (arith, high .0)), delay-refused id n b e (high .1))
+
+  inside-frame-corner : (s : ℕ) → let T = m .table in
+      let x = m .t % T .frame in
+      StartAt T k true s → x < s → ((y : ℕ) → StartAt T k true y → x < y → s ≤ y) → ReleasesAt m k (m .t / T .frame * T .frame + s)
+  inside-frame-corner s f late first = releases-at _ (release-here (m .table) (u .table) (m .t) k s f late first)
 
   -- ---------------------------------------------------------------- reading a channel
   age-corner : (i : ℕ) → let x = M.message m (i - 1) in
@@ -548,6 +577,7 @@ corners m k h = record {
   period = period-corner m k (calling-sound m k h) h;
   delayEarly = delay-early-corner m k (calling-sound m k h) h;
   delayNormal = delay-normal-corner m k (calling-sound m k h) h;
+  insideFrame = inside-frame-corner m k (calling-sound m k h) h;
   age = age-corner m k (calling-sound m k h) h;
   suspendSelf = suspend-self-corner m k (calling-sound m k h) h;
   timedWait = timed-wait-corner m k (calling-sound m k h) h;

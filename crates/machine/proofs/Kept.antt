@@ -308,7 +308,7 @@ module _ (c : Context) (p : Partition) (v : Valid (c .frame) (c .time) p) where
       })
 
   -- entering NORMAL
-  entered-valid : c .time ≤ timeLimit → c .frame ≤ frameLimit → c .release < c .time + c .frame + c .frame → normalMode p ≡ false → Valid (c .frame) (c .time) (enteredNormal c p)
+  entered-valid : c .time ≤ timeLimit → c .frame ≤ frameLimit → c .release ≤ c .time + c .frame → normalMode p ≡ false → Valid (c .frame) (c .time) (enteredNormal c p)
   unfolding enteredNormal
   entered-valid ends frame near e =
       let q = withMode 3 p in

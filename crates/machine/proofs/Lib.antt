@@ -33,6 +33,8 @@ pub mod Taken
 pub mod Replays
 pub mod Applied
 pub mod Starts
+pub mod Waits
+pub mod Releases
 pub mod Queues
 pub mod Available
 pub mod Moves

@@ -57,7 +57,8 @@ use Rattle.machine.proofs.Sound.{later-plain, later-not-after, at-most-
 use Rattle.machine.proofs.Dispatch.{Calls, by-event}
 use Rattle.machine.proofs.Bodies.{Bodily}
 use Rattle.machine.proofs.Kept.{change-valid, nothing-valid, waiters-created, firsts-created, end-same}
-use Rattle.machine.proofs.Reached.{frame-some, release-plain, plain-around, plain-size, plain-other, plain-part, tick-module-plain, place, context-sound, made, made-sound, made-body, decided-sound, reached-valid, part-sound, erased-sound, queuing-plain, refilled-table, refilled-sound, on-queue, transfer-sound}
+use Rattle.machine.proofs.Reached.{plain-around, plain-size, plain-other, plain-part, tick-module-plain, place, context-sound, made, made-sound, made-body, decided-sound, reached-valid, part-sound, erased-sound, queuing-plain, refilled-table, refilled-sound, on-queue, transfer-sound}
+use Rattle.machine.proofs.Starts.{frame-some, release-plain}
 use Rattle.machine.proofs.Answers.{decided-table}
 
 -- ---------------------------------------------------------------- what an id names
@@ -413,8 +414,8 @@ pub table-plain : (T : Table) → SoundTable T → (t : ℕ) → t ≤ timeLimit
 unfolding lookup nextStart releaseAfter
 table-plain T s t ends = record {
   frame = s .frame .0;
-  current = λ u. rw (frame-some T s u);
-  starts = λ u k flagged. rw (frame-some T s u);
+  current = λ u. rw (frame-some T s);
+  starts = λ u k flagged. rw (frame-some T s);
   count = rw (le-leb (T .size) partitionLimit (s .size .1));
   queuing = queuing-plain T s;
   channels = s .channelCount;

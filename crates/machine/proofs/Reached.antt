@@ -5,7 +5,6 @@ use mathlib.Core.Bool.{true, false, not, _&&_, and-true, and-false}
 use mathlib.Core.List.{List, [], _∷_, map}
 use mathlib.Core.Logic.{_⊎_, ⊎-elim, inl, inr}
 use native.Mathlib.Omega.{arith}
-use native.Mathlib.Nat.{lt-div-mul-add, div-mul-le-self}
 use lib.ListN.{length, getD, set, take, length-set, getD-replicate}
 use lib.Seq.{getD-set-same, getD-set-other}
 use lib.Dec.{eqb, ltb}
@@ -33,7 +32,7 @@ use Rattle.machine.specs.Partition.{process, waiters, firstWaiter, chang
 use Rattle.machine.specs.Decisions.{checked, noMessage}
 use Rattle.machine.specs.Services.{callDecision}
 use Rattle.machine.specs.Module.{noPartition, emptyTable, emptyModule, freshModule, channel, part, withPart, message, queue, withMessages, withMessage, withQueue, withTime}
-use Rattle.machine.specs.Windows.{windows, flaggedFor, covers, owner, lookup, firstFlagged, releaseAfter, releasePoint}
+use Rattle.machine.specs.Windows.{windows, covers, owner, lookup}
 use Rattle.machine.specs.Ticks.{tickTo, partitionCount, tickModule}
 use Rattle.machine.specs.Channels.{queuing, queuingAt, seenAt, apart, otherEnd, otherQueue, trafficOf, seesTraffic, trafficAt, portOf, passed, leadsInto, keptTo, erasedTo, admitted, refilledAt, refilledTo}
 use Rattle.machine.specs.Step.{contextOf, decision, moduleAfter, step}
@@ -50,47 +49,19 @@ use Rattle.machine.proofs.Refusals.{call-in-range}
 use Rattle.machine.proofs.Kept.{tick-valid, fresh-valid, SoundPort, call-sound, decision-valid, ended-valid, let-in-valid, let-in-queue, sent-sound, received-sound}
 use Rattle.machine.proofs.Messages.{queue-sound, moved-sound, first-sound}
 use Rattle.machine.proofs.Quiet.{tick-to-plain}
+use Rattle.machine.proofs.Starts.{frame-some, release-bounds}
 use Rattle.machine.proofs.Tables.{table-read}
 
 -- ---------------------------------------------------------------- windows
--- the first window with flag 1 starts before the frame ends
-flagged-inside : (k previous frame size : ℕ) (ws : List Window) → 1 ≤ frame → SoundWindows previous frame size ws → firstFlagged k ws < frame
-unfolding firstFlagged SoundWindows
-flagged-inside k previous frame size [] h s = h
-flagged-inside k previous frame size (w ∷ ws) h s = by-test (λ (n : ℕ). n < frame) (flaggedFor k w)
-    (λ _. omega (arith, s .0 .long, s .0 .inside))
-    (λ _. flagged-inside k (w .start + w .duration) frame size ws h (s .1))
-
 -- a window's owner is a partition
 owner-known : (previous frame size : ℕ) (ws : List Window) (x : ℕ) → SoundWindows previous frame size ws → owner ws x ≤ size
 unfolding owner SoundWindows
 owner-known previous frame size [] x s = omega arith
 owner-known previous frame size (w ∷ ws) x s = by-test (λ (n : ℕ). n ≤ size) (covers w x) (λ _. s .0 .owner .1) (λ _. owner-known (w .start + w .duration) frame size ws x (s .1))
 
-module _ (T : Table) (s : SoundTable T) (t : ℕ) where
-  -- M is not 0
-  pub frame-some : eqb (T .frame) 0 ≡ false
-  frame-some = ne-eqb (T .frame) 0 (λ z. omega (arith, s .frame .0))
-
-  pub current-known : lookup T t .partition ≤ T .size
-  unfolding lookup
-  current-known = rw frame-some (owner-known 0 (T .frame) (T .size) (windows T) (t % T .frame) (s .eachWindow))
-
-  -- the next release point lies ahead, by less than two frames
-  release-ahead : (k : ℕ) → (t < releaseAfter T t k) × (releaseAfter T t k < t + T .frame + T .frame)
-  unfolding releaseAfter
-  release-ahead k =
-      let low : t < t / T .frame * T .frame + T .frame = lt-div-mul-add (s .frame .0) in
-      let high = div-mul-le-self t (T .frame) in
-      let first = flagged-inside k 0 (T .frame) (T .size) (windows T) (s .frame .0) (s .eachWindow) in
-      (omega (arith, s .frame .0), omega (arith, s .frame .0))
-
-  pub release-plain : t ≤ timeLimit → (k : ℕ) → releasePoint T t k ≡ releaseAfter T t k
-  unfolding releasePoint
-  release-plain ends k = rw (frame-some, le-leb (releaseAfter T t k) greatestTime (omega (arith, release-ahead k .1, s .frame .1)))
-
-  pub release-bounds : t ≤ timeLimit → (k : ℕ) → (t < releasePoint T t k) × (releasePoint T t k < t + T .frame + T .frame)
-  release-bounds ends k = rw (release-plain ends k) (release-ahead k)
+pub current-known : (T : Table) → SoundTable T → (t : ℕ) → lookup T t .partition ≤ T .size
+unfolding lookup
+current-known T s t = rw (frame-some T s) (owner-known 0 (T .frame) (T .size) (windows T) (t % T .frame) (s .eachWindow))
 
 -- ---------------------------------------------------------------- a partition stored, a message stored
 noted-valid : (frame t : ℕ) (p : Partition) → Valid frame t p → Valid frame t (noted p)

@@ -196,7 +196,7 @@ with-current : (frame : ℕ) (x : Process) → LastingIn frame x → (n : ℕ) �
 with-current frame x l n b started = record { given = l .given; current = b .1; priority = λ _. b .0; delay = l .delay; early = l .early; message = l .message }
 
 -- the start rule, with any mark that the process may have and any priority
-module _ (c : Context) (ends : c .time ≤ timeLimit) (frame : c .frame ≤ frameLimit) (near : c .release < c .time + c .frame + c .frame) (normal : Bool) (e : normal ≡ true) (a : ℕ → ℕ) where
+module _ (c : Context) (ends : c .time ≤ timeLimit) (frame : c .frame ≤ frameLimit) (near : c .release ≤ c .time + c .frame) (normal : Bool) (e : normal ≡ true) (a : ℕ → ℕ) where
   module _ (delay : ℕ) (x : Process) (l : LastingIn (c .frame) x) (none : x .times .release ≡ Never) (short : delay ≤ durationLimit) (below : Below (x .given .period) delay) where
     start-release : isNever (x .given .period) ≡ false → AtMost latestWake (later (At (c .release)) (At delay))
     start-release k = later-at-most (c .release) delay latestWake (At (c .release)) (At delay) (omega arith) (omega arith) (omega (arith, delay-below (c .frame) delay (x .given .period) (l .given .period) k below))

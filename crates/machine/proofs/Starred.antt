@@ -19,7 +19,6 @@ use Rattle.machine.specs.declared.Port.{Port}
 use Rattle.machine.specs.declared.Message.{Message}
 use Rattle.machine.specs.declared.Queue.{Queue}
 use Rattle.machine.specs.declared.Transfer.{Transfer}
-use Rattle.machine.specs.declared.Change.the-variants.{Entered}
 use Rattle.machine.specs.declared.Decision.{Decision}
 use Rattle.machine.specs.declared.Decision.the-variants.{Written, Ticked, Restarted, Passed}
 use Rattle.machine.specs.declared.Field.{Field}
@@ -32,9 +31,8 @@ use Rattle.machine.specs.Limits.{timeLimit, channelLimit}
 use Rattle.machine.specs.Fields.{field, requestOf, isNumber, numberOf}
 use Rattle.machine.specs.Ids.{members, kept}
 use Rattle.machine.specs.Messages.{noQueue, held, endsWait}
-use Rattle.machine.specs.Process.{due, object, carried, onObject, ready, onlyMarked, waitEnded, woken, expired, ticked, waitsForNothing, entered}
-use Rattle.machine.specs.Partition.{process, semaphore, event, withMode, waitsOn, waiters, enteredNormal, tickPartition, noted, nothingCreated}
-use Rattle.machine.specs.Windows.{windows}
+use Rattle.machine.specs.Process.{due, object, carried, onObject, ready, onlyMarked, waitEnded, woken, expired, ticked, waitsForNothing}
+use Rattle.machine.specs.Partition.{process, semaphore, event, waitsOn, waiters, tickPartition, noted, nothingCreated}
 use Rattle.machine.specs.Services.{services, callDecision}
 use Rattle.machine.specs.Decisions as D
 use Rattle.machine.specs.Calls as C
@@ -44,22 +42,22 @@ use Rattle.machine.specs.Ticks as Ti
 use Rattle.machine.specs.Channels as Ch
 use Rattle.machine.specs.Places as Pl
 use Rattle.machine.specs.Step as St
-use Rattle.machine.specs.Starred.{own, callBy, tick, Gives, Puts, Calling, FirstFlagged, releaseAt, awaitsRelease, WaitEnded, ReadyUnmarked, Ticks, Mistakes, Starred}
+use Rattle.machine.specs.Starred.{own, callBy, tick, Gives, Calling, WaitEnded, ReadyUnmarked, Ticks, Mistakes, Starred}
 use Rattle.machine.specs.Valid.{Between, SoundModule, contains, plainTick}
 use Rattle.machine.proofs.Tests.{by-test, and-left, and-right, not-both}
 use Rattle.machine.proofs.Bounds.{not-so, same-or-not}
 use Rattle.machine.proofs.Dispatch.{by-event, by-decision, ticks-decided}
 use Rattle.machine.proofs.Bodies.{FromSource, Sends, Receives, OnQueue, Bodily, call-body}
 use Rattle.machine.proofs.Refusals.{refused-same, places, call-in-range}
-use Rattle.machine.proofs.Keeping.{each-rest, each-process}
+use Rattle.machine.proofs.Keeping.{each-process}
 use Rattle.machine.proofs.Kept.{waiters-exact, nothing-valid}
 use Rattle.machine.proofs.Lists.{held-queueOf}
 use Rattle.machine.proofs.Restarts.{refilled-messages, refilled-queue, refilled-queue-other, refilled-part-other}
 use Rattle.machine.proofs.Reached.{reached-valid, valid-sound, plain-part, tick-module-plain, part-sound, erased-sound, Fills, queuing-plain}
 use Rattle.machine.proofs.Queues.{signal-first, set-event}
-use Rattle.machine.proofs.Calling.{field-number, from-zero, number-is, number-of, calling-sound, calling-place, calling-valid, gives, own-after}
+use Rattle.machine.proofs.Calling.{field-number, from-zero, number-is, number-of, calling-sound, calling-place, calling-valid, gives}
 use Rattle.machine.proofs.Worked.{worked}
-use Rattle.machine.proofs.Corners.{normal-not, started-is, immediate-release, delayed-release, corners}
+use Rattle.machine.proofs.Corners.{releases-at, corners}
 
 -- ---------------------------------------------------------------- a neighbour's running process
 unseen : (m : Module) (e : EventT) → St.sees (requestOf e) (St.step m e .answer .current) ≡ false → St.step m e .answer .running ≡ 0
@@ -321,30 +319,6 @@ module _ (m : Module) (u : SoundModule m) (room : m .t < timeLimit) (k id : ℕ)
 
 -- ---------------------------------------------------------------- calls
 module _ (m : Module) (k : ℕ) (u : SoundModule m) (h : Calling m k) where
-  module _ (id n s : ℕ) (early : own m k .mode ≡ 3 → ⊥) (b : Between 1 (own m k .processCount) id) (w : process id (own m k) .wait ≡ Normal) (e : process id (own m k) .given .period ≡ At n) (f : FirstFlagged k s (windows (m .table))) where
-    enter-gives : Puts m (callBy k 1 (pos 3) (pos 0) (pos 0) (pos 0)) 0 0 k (enteredNormal (St.contextOf m k) (own m k))
-    unfolding callDecision services Pl.strayField C.setMode D.checked
-    enter-gives = gives m k u h 1 (pos 3) (pos 0) (pos 0) (pos 0) (omega arith) (omega arith) refl (D.changed (Entered (St.contextOf m k)))
-        (rw (normal-not m k u h early, ne-eqb (own m k .processCount) 0 (λ z. omega (arith, b .0, b .1))))
-
-    entered-mode : enteredNormal (St.contextOf m k) (own m k) .mode ≡ 3
-    unfolding enteredNormal
-    entered-mode = ap (λ (q : Partition). q .mode) (each-rest (entered (St.contextOf m k)) (withMode 3 (own m k)) (calling-valid m k u h .lists))
-
-    entered-process : process id (enteredNormal (St.contextOf m k) (own m k)) ≡ awaitsRelease (releaseAt m s (process id (own m k) .times .delay)) (process id (own m k) .times .delay) (process id (own m k) .current) (process id (own m k) .suspended) false (process id (own m k))
-    unfolding enteredNormal entered
-    entered-process =
-        let x = process id (own m k) in
-        each-process (entered (St.contextOf m k)) (withMode 3 (own m k)) (calling-valid m k u h .lists) id b
-        ∙ rw (started-is m k u h s f id (x .times .delay) n b e (calling-valid m k u h .eachProcess id b .lasting .delay), w)
-
-    enter-deadline : let a = callBy k 1 (pos 3) (pos 0) (pos 0) (pos 0) in
-        (St.step m a .answer .code ≡ 0) × (own (St.step m a .state) k .mode ≡ 3)
-        × (process id (own (St.step m a .state) k) ≡ awaitsRelease (releaseAt m s (process id (own m k) .times .delay)) (process id (own m k) .times .delay) (process id (own m k) .current) (process id (own m k) .suspended) false (process id (own m k)))
-    enter-deadline =
-        let q = own-after m k u h (enteredNormal (St.contextOf m k) (own m k)) enter-gives in
-        (enter-gives .codeIs, ap (λ (p : Partition). p .mode) q ∙ entered-mode, ap (process id) q ∙ entered-process)
-
   -- ---------------------------------------------------------------- modes 0, 1, 2
   module _ (mode : ℕ) (low : mode ≤ 2) (warm : mode ≡ 2 → own m k .mode ≡ 1 → ⊥) where
     restart-gives : Gives m (callBy k 1 (pos mode) (pos 0) (pos 0) (pos 0)) 0 0 (At 0) (St.restarted k (nothingCreated mode) m)
@@ -427,8 +401,7 @@ mistakes = record {
   frozen = λ m reached room k id b. never-frozen m (valid-sound m (reached-valid m reached) (k - 1) (omega (arith, b .0, b .1))) room k id b;
   neighbour = neighbour;
   neighbourInEight = neighbour-in-eight;
-  startDeadline = λ m k h id n s normal b off e f. let u = calling-sound m k h in (immediate-release m k u h s f id n normal b off e, λ delay below. delayed-release m k u h s f id delay n normal b off e below);
-  enterDeadline = λ m k h. enter-deadline m k (calling-sound m k h) h;
+  periodicDeadline = λ m k h. releases-at m k (calling-sound m k h) h;
   signalled = λ m k h. signal-ends m k (calling-sound m k h) h;
   eventSet = λ m k h. set-ends m k (calling-sound m k h) h;
   restart = restart-keeps;

@@ -1,4 +1,4 @@
--- The worked example of document 01 and its continuation: what is put in and what is printed, in columns.
+-- The worked example of document 01 and its continuation, and one of document 02: what is put in and what is printed, in columns.
 use Prim.Native.Nat.{ℕ}
 use Prim.Native.String.{String}
 use Prim.Native.Char.{code}
@@ -56,3 +56,47 @@ printedAfter =
     "         0         0         0         4         1         1" ∷
     "         0         0         0         5         1         1" ∷
     "         0         0         0         6         2         0" ∷ []
+
+-- ---------------------------------------------------------------- releases inside a frame (document 02, d)
+-- partition 1 has windows with flag 1 from 0 and from 5, and one without it from 3
+unfoldable pub twoWindows : List String
+twoWindows =
+    "        10         2         4         0         0         0" ∷
+    "         0         3         1         1         0         0" ∷
+    "         3         1         1         0         0         0" ∷
+    "         4         1         2         1         0         0" ∷
+    "         5         5         1         1         0         0" ∷ []
+
+-- process 1 starts the periodic process 2 at t = 1; at t = 5 the status of 2, PERIODIC_WAIT of 2, its status again
+unfoldable pub startedInFirst : List String
+startedInFirst =
+    "         1         2         8        10        -1        -1" ∷
+    "         1         2         7        50        10         4" ∷
+    "         1         3         1         0         0         0" ∷
+    "         1         1         3         0         0         0" ∷
+    "         0         0         0         0         0         0" ∷
+    "         1         3         2         0         0         0" ∷
+    "         0         0         0         0         0         0" ∷
+    "         0         0         0         0         0         0" ∷
+    "         0         0         0         0         0         0" ∷
+    "         0         0         0         0         0         0" ∷
+    "         1        13         2         0         0         0" ∷
+    "         1        10         0         0         0         0" ∷
+    "         1        13         2         0         0         0" ∷ []
+
+-- t = 3 runs 1 still; t = 5 runs 2, with deadline 9; PERIODIC_WAIT brings it to 19
+unfoldable pub releasedInSecond : List String
+releasedInSecond =
+    "         0         1         0         0         1         0" ∷
+    "         0         2         0         0         1         0" ∷
+    "         0         0         0         0         1         0" ∷
+    "         0         0         0         0         1         1" ∷
+    "         0         0         0         1         1         1" ∷
+    "         0         0         0         1         1         1" ∷
+    "         0         0         0         2         1         1" ∷
+    "         0         0         0         3         1         1" ∷
+    "         0         0         0         4         2         0" ∷
+    "         0         0         0         5         1         2" ∷
+    "         0         2         9         5         1         2" ∷
+    "         7         0         0         5         1         1" ∷
+    "         0         3        19         5         1         1" ∷ []

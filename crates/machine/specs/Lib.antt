@@ -24,6 +24,7 @@ pub mod TwoRuns
 pub mod LeftRight
 pub mod Valid
 pub mod Starred
+pub mod Releases
 pub mod Plain
 pub mod Queues
 pub mod Account

@@ -39,7 +39,7 @@ use Rattle.machine.specs.Process.{blankProcess, later, carried, ready, o
 use Rattle.machine.specs.Partition.{normalMode, nothingCreated, noSemaphore, noEvent, noBuffer, noBlackboard, process, semaphore, event, buffer, blackboard, emptyBuffer, withMode, withProcesses, withSemaphores, withEvents, withBuffers, withBlackboards, waiters, noted}
 use Rattle.machine.specs.Decisions.{replyOf, unknown}
 use Rattle.machine.specs.Objects.{oneMore}
-use Rattle.machine.specs.Windows.{windows, owner, lookup, firstFlagged, releasePoint, startsFrom, firstStart, aheadOf, nextStart}
+use Rattle.machine.specs.Windows.{windows, owner, lookup, releasePoint, startsFrom, firstStart, aheadOf, nextStart}
 use Rattle.machine.specs.Table.{hasFlagged}
 use Rattle.machine.specs.Module.{emptyModule, channel, part, queue, withPart, withMessage, withQueue}
 use Rattle.machine.specs.Ticks.{partitionCount}
@@ -286,7 +286,7 @@ pub record PlainNumbers (p : Partition) : Type 0 where
   pub values : (k : ℕ) → Between 1 (p .semaphoreCount) k → semaphore k p .value < greatestValue
 
 -- M is not 0: the current partition and the next start of a window are the plain ones at every time; P is at most 8, there are at most 16 channels, and a
--- channel is queuing by its size alone; every partition has a window with flag 1, and its release point is (t div M + 1) × M + start of the first of them
+-- channel is queuing by its size alone; every partition has a window with flag 1, and its release point is the next start of one, from t on
 pub record PlainTable (T : Table) (t : ℕ) : Type 0 where
   pub frame : 1 ≤ T .frame
   pub current : (t : ℕ) → lookup T t .partition ≡ owner (windows T) (t % T .frame)
@@ -296,7 +296,7 @@ pub record PlainTable (T : Table) (t : ℕ) : Type 0 where
   pub queuing : (i : ℕ) → i < T .channelCount → queuing (channel T i) ≡ ltb 0 (channel T i .size)
   pub channels : T .channelCount ≤ channelLimit
   pub flagged : (k : ℕ) → Between 1 (T .size) k → hasFlagged k (windows T) ≡ true
-  pub release : (k : ℕ) → releasePoint T t k ≡ (t / T .frame + 1) * T .frame + firstFlagged k (windows T)
+  pub release : (k : ℕ) → releasePoint T t k ≡ t + nextStart T t k true
 
 -- a cap that acts is seen: a sum of times is the plain one or the greatest time, also where one more is added to it, and one more than a
 -- semaphore's value is the plain one or not below the greatest

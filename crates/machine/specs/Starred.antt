@@ -1,8 +1,8 @@
--- The cases of document 01 marked with a star, and its mistakes to shut out, as one list of claims about `step`: each for every reached
--- record, table and event to which it applies, with what the answer and the record then hold; the worked example and its
--- continuation as computed runs from bytes. The premises speak of an event's numbers, the table, the record, the current partition and
+-- The cases of document 01 marked with a star, and its mistakes to shut out, with what document 02 adds, as one list of claims about
+-- `step`: each for every reached record, table and event to which it applies, with what the answer and the record then hold; the worked
+-- example, its continuation and the example of releases inside a frame as computed runs from bytes. The premises speak of an event's numbers, the table, the record, the current partition and
 -- the running process.
-use Prim.Native.Nat.{ℕ, suc, _+_, _-_, _*_, _/_, _≤_, _<_}
+use Prim.Native.Nat.{ℕ, suc, _+_, _-_, _*_, _/_, _%_, _≤_, _<_}
 use mathlib.Core.Path.{_≡_}
 use mathlib.Core.Bool.{Bool, true, false, cond}
 use mathlib.Core.List.{List, [], _∷_, _++_, map}
@@ -14,7 +14,6 @@ use Rattle.machine.specs.declared.Process.{Process}
 use Rattle.machine.specs.declared.Partition.{Partition}
 use Rattle.machine.specs.declared.Event.{Event as EventT}
 use Rattle.machine.specs.declared.Module.{Module}
-use Rattle.machine.specs.declared.Window.{Window}
 use Rattle.machine.specs.declared.Wait.the-variants.{None, Normal, Delay, Timed, Period, Semaphore, Event, Sending, Receiving, Blackboard, Source, Destination}
 use Rattle.machine.specs.declared.Time.{Time}
 use Rattle.machine.specs.declared.Time.the-variants.{Never, At}
@@ -23,12 +22,12 @@ use Rattle.machine.specs.Ids.{members, idsOf, kept, other}
 use Rattle.machine.specs.Process.{createdProcess, object, carried, ready, withCurrent}
 use Rattle.machine.specs.Partition.{process, semaphore, event, buffer, blackboard, waiters, running, nothingCreated, noted, withProcesses, withSemaphores, withEvents, withBuffers, withBlackboards}
 use Rattle.machine.specs.Messages.{held, queueOf}
-use Rattle.machine.specs.Windows.{windows, noWindow}
+use Rattle.machine.specs.Windows.{StartAt, Release}
 use Rattle.machine.specs.Module.{part, message, queue, channel, current, withPart}
 use Rattle.machine.specs.Step.{step}
 use Rattle.machine.specs.Valid.{Between, SoundPeriod, SoundCapacity, Reached, contains, plainLater}
 use Rattle.machine.specs.Replay.{replayed, replayedRecord, timeNumber}
-use Rattle.machine.specs.Examples.{text, table, events, printed, toFour, tickLine, printedAfter}
+use Rattle.machine.specs.Examples.{text, table, events, printed, toFour, tickLine, printedAfter, twoWindows, startedInFirst, releasedInSecond}
 
 -- the worked example prints its six lines; continued, t = 4 runs 1, t = 5 sets missed, t = 6 current 2
 pub record Worked : Type 0 where
@@ -36,6 +35,8 @@ pub record Worked : Type 0 where
   pub continued : replayed (text (table ++ (events ++ (toFour ++ (tickLine ++ tickLine))))) ≡ text (printed ++ printedAfter)
   pub four : process 1 (part (replayedRecord (text (table ++ (events ++ toFour)))) 0) .missed ≡ false
   pub five : process 1 (part (replayedRecord (text (table ++ (events ++ (toFour ++ tickLine))))) 0) .missed ≡ true
+  -- two flagged windows a frame: a process started in the first is released at the second, and t = 5 runs it
+  pub released : replayed (text (twoWindows ++ startedInFirst)) ≡ text releasedInSecond
 
 -- ---------------------------------------------------------------- events, and what they give
 -- partition k's record
@@ -137,19 +138,6 @@ abbrev pub given : ℕ → ℕ → Time → Time → Given
 given name base period capacity = record { name = name; base = base; period = period; capacity = capacity }
 
 -- ---------------------------------------------------------------- releases
--- s is the start of the partition's first window with flag 1
-pub record FirstFlagged (k s : ℕ) (ws : List Window) : Type 0 where
-  pub at : ℕ
-  pub inside : at < length ws
-  pub owner : getD ws at noWindow .partition ≡ k
-  pub flagged : getD ws at noWindow .flag ≡ true
-  pub starts : getD ws at noWindow .start ≡ s
-  pub first : (i : ℕ) → i < at → getD ws i noWindow .partition ≡ k → getD ws i noWindow .flag ≡ true → ⊥
-
--- r = (t div M + 1) × M + start of the partition's first window with flag 1, plus delay
-abbrev pub releaseAt : Module → ℕ → ℕ → ℕ
-releaseAt m s delay = (m .t / m .table .frame + 1) * m .table .frame + s + delay
-
 -- it waits for its release r: w = r, d = r + capacity, or −1, whatever t is; priority and marks as given
 abbrev pub awaitsRelease : ℕ → ℕ → ℕ → Bool → Bool → Process → Process
 awaitsRelease r delay n mark missed x = record {
@@ -191,6 +179,25 @@ awaitsNormal delay x = record {
   started = true;
   wait = Normal;
 }
+
+-- a periodic process of partition k that the start rule starts now is released at r, plus its delay
+pub record ReleasesAt (m : Module) (k r : ℕ) : Type 0 where
+  -- START and DELAYED_START in NORMAL
+  pub start : (id n : ℕ) → let p = own m k in
+      let x = process id p in
+      p .mode ≡ 3 → Between 1 (p .processCount) id → x .started ≡ false → x .given .period ≡ At n
+      → Puts m (callBy k 3 (pos id) (pos 0) (pos 0) (pos 0)) 0 0 k (withProcess id (awaitsRelease r (x .times .delay) (x .given .base) false false x) (p .arrival) p)
+  pub delayed : (id n delay : ℕ) → let p = own m k in
+      let x = process id p in
+      p .mode ≡ 3 → Between 1 (p .processCount) id → x .started ≡ false → x .given .period ≡ At n → delay < n
+      → Puts m (callBy k 4 (pos id) (pos delay) (pos 0) (pos 0)) 0 0 k (withProcess id (awaitsRelease (r + delay) (x .times .delay) (x .given .base) false false x) (p .arrival) p)
+  -- and on entering NORMAL
+  pub entered : (id n : ℕ) → let p = own m k in
+      let x = process id p in
+      let e = callBy k 1 (pos 3) (pos 0) (pos 0) (pos 0) in
+      (p .mode ≡ 3 → ⊥) → Between 1 (p .processCount) id → x .wait ≡ Normal → x .given .period ≡ At n
+      → (step m e .answer .code ≡ 0) × (own (step m e .state) k .mode ≡ 3)
+      × (process id (own (step m e .state) k) ≡ awaitsRelease (r + x .times .delay) (x .times .delay) (x .current) (x .suspended) false x)
 
 -- ---------------------------------------------------------------- the corners
 pub record Corners (m : Module) (k : ℕ) : Type 0 where
@@ -236,12 +243,16 @@ pub record Corners (m : Module) (k : ℕ) : Type 0 where
       Between 1 (p .processCount) id → process id p .started ≡ false → process id p .given .period ≡ At n → (p .mode ≡ 3 → ⊥)
       → Puts m (callBy k 4 (pos id) (pos (n - 1)) (pos 0) (pos 0)) 0 0 k (withProcess id (awaitsNormal (n - 1) (process id p)) (p .arrival) p)
       × Refuses m (callBy k 4 (pos id) (pos n) (pos 0) (pos 0)) 3
-  pub delayNormal : (id n s : ℕ) → let p = own m k in
+  pub delayNormal : (id n r : ℕ) → let p = own m k in
       let x = process id p in
-      Between 1 (p .processCount) id → x .started ≡ false → x .given .period ≡ At n → p .mode ≡ 3 → FirstFlagged k s (windows (m .table))
+      Between 1 (p .processCount) id → x .started ≡ false → x .given .period ≡ At n → p .mode ≡ 3 → Release (m .table) k (m .t) r
       → Puts m (callBy k 4 (pos id) (pos (n - 1)) (pos 0) (pos 0)) 0 0 k
-      (withProcess id (awaitsRelease (releaseAt m s (n - 1)) (x .times .delay) (x .given .base) false false x) (p .arrival) p)
+      (withProcess id (awaitsRelease (r + (n - 1)) (x .times .delay) (x .given .base) false false x) (p .arrival) p)
       × Refuses m (callBy k 4 (pos id) (pos n) (pos 0) (pos 0)) 3
+  -- t before a flagged window of the same frame: the release is the nearest of these, in this frame (document 02, d)
+  pub insideFrame : (s : ℕ) → let T = m .table in
+      let x = m .t % T .frame in
+      StartAt T k true s → x < s → ((y : ℕ) → StartAt T k true y → x < y → s ≤ y) → ReleasesAt m k (m .t / T .frame * T .frame + s)
   -- age refresh/refresh + 1, of a sampling channel
   pub age : (i : ℕ) → let x = message m (i - 1) in
       let refresh = channel (m .table) (i - 1) .refresh in
@@ -321,19 +332,8 @@ pub record Mistakes : Type 0 where
   -- showing a neighbour's running process: whatever the code, it reads 0 where the event's partition is neither 0 nor current
   pub neighbour : (m : Module) (e : EventT) → (e .partition ≡ pos 0 → ⊥) → (e .partition ≡ pos (current (step m e .state)) → ⊥) → step m e .answer .running ≡ 0
   pub neighbourInEight : (m : Module) (e : EventT) → step m e .answer .code ≡ 8 → step m e .answer .running ≡ 0
-  -- computing a periodic deadline from t: START and DELAYED_START in NORMAL
-  pub startDeadline : (m : Module) (k : ℕ) → Calling m k → (id n s : ℕ) → let p = own m k in
-      let x = process id p in
-      p .mode ≡ 3 → Between 1 (p .processCount) id → x .started ≡ false → x .given .period ≡ At n → FirstFlagged k s (windows (m .table))
-      → Puts m (callBy k 3 (pos id) (pos 0) (pos 0) (pos 0)) 0 0 k (withProcess id (awaitsRelease (releaseAt m s 0) (x .times .delay) (x .given .base) false false x) (p .arrival) p)
-      × ((delay : ℕ) → delay < n → Puts m (callBy k 4 (pos id) (pos delay) (pos 0) (pos 0)) 0 0 k (withProcess id (awaitsRelease (releaseAt m s delay) (x .times .delay) (x .given .base) false false x) (p .arrival) p))
-  -- and on entering NORMAL
-  pub enterDeadline : (m : Module) (k : ℕ) → Calling m k → (id n s : ℕ) → let p = own m k in
-      let x = process id p in
-      let e = callBy k 1 (pos 3) (pos 0) (pos 0) (pos 0) in
-      (p .mode ≡ 3 → ⊥) → Between 1 (p .processCount) id → x .wait ≡ Normal → x .given .period ≡ At n → FirstFlagged k s (windows (m .table))
-      → (step m e .answer .code ≡ 0) × (own (step m e .state) k .mode ≡ 3)
-      × (process id (own (step m e .state) k) ≡ awaitsRelease (releaseAt m s (x .times .delay)) (x .times .delay) (x .current) (x .suspended) false x)
+  -- computing a periodic deadline from t: START, DELAYED_START and entering NORMAL compute it from the release
+  pub periodicDeadline : (m : Module) (k : ℕ) → Calling m k → (r : ℕ) → Release (m .table) k (m .t) r → ReleasesAt m k r
   -- an ended wait making a suspended process READY: SIGNAL ends the first wait of the queue, w −1 and wake code 0, and the mark stays
   pub signalled : (m : Module) (k : ℕ) → Calling m k → (j id : ℕ) (before after : List ℕ) → let p = own m k in
       let e = callBy k 16 (pos j) (pos 0) (pos 0) (pos 0) in

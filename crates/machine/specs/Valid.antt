@@ -72,11 +72,11 @@ pub record Tracks (f : ℕ → Bool) (q : Ids) : Type 0 where
   pub exact : (id : ℕ) → contains id (members q) ≡ f id
 
 -- ---------------------------------------------------------------- times
--- no release point and no wake time comes after this one: 110,019,996
+-- no release point and no wake time comes after this one: 110,009,997
 abbrev pub latestWake : ℕ
-latestWake = timeLimit + frameLimit + frameLimit + durationLimit - 2
+latestWake = timeLimit + frameLimit + durationLimit - 1
 
--- no deadline comes after this one: 120,019,995
+-- no deadline comes after this one: 120,009,996
 abbrev pub latestDeadline : ℕ
 latestDeadline = latestWake + durationLimit
 
@@ -302,7 +302,7 @@ pub record SoundContext (c : Context) (p : Partition) : Type 0 where
   pub time : c .time ≤ timeLimit
   pub frame : Between 1 frameLimit (c .frame)
   pub ahead : c .time < c .release
-  pub near : c .release < c .time + c .frame + c .frame
+  pub near : c .release ≤ c .time + c .frame
   pub caller : c .caller ≡ running p
   pub calls : noCaller p ≡ false
 

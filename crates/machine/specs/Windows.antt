@@ -1,8 +1,8 @@
--- The windows of a table: the current partition, the release point and the waiting time.
-use Prim.Native.Nat.{ℕ, _+_, _-_, _%_, _*_, _/_, _≤_}
+-- The windows of a table: the current partition, the next start of a window, the release point and the waiting time.
+use Prim.Native.Nat.{ℕ, _+_, _-_, _%_, _≤_, _<_}
 use mathlib.Core.Bool.{Bool, true, false, cond, not, _&&_, _||_}
 use mathlib.Core.List.{List, [], _∷_}
-use lib.ListN.{take}
+use lib.ListN.{length, getD, take}
 use lib.Dec.{leb, ltb, eqb}
 use Rattle.machine.specs.declared.Field.{Field}
 use Rattle.machine.specs.Limits.{timeLimit}
@@ -35,23 +35,11 @@ owner (w ∷ ws) x = cond (covers w x) (w .partition) (owner ws x)
 unfoldable pub lookup : Table → ℕ → Lookup
 lookup T t = record { partition = cond (eqb (T .frame) 0) 0 (owner (windows T) (t % T .frame)) }
 
--- the partition's first window with flag 1
+-- a window of the partition with flag 1
 abbrev pub flaggedFor : ℕ → Window → Bool
 flaggedFor k w = w .flag && eqb (w .partition) k
 
-unfoldable pub firstFlagged : ℕ → List Window → ℕ
-firstFlagged k [] = 0
-firstFlagged k (w ∷ ws) = cond (flaggedFor k w) (w .start) (firstFlagged k ws)
-
--- (t div M + 1) × M + start of the partition's first window with flag 1
-unfoldable pub releaseAfter : Table → ℕ → ℕ → ℕ
-releaseAfter T t k = (t / T .frame + 1) * T .frame + firstFlagged k (windows T)
-
--- bound: 0 where M is 0, and no time is past the greatest
-unfoldable pub releasePoint : Table → ℕ → ℕ → ℕ
-releasePoint T t k = cond (eqb (T .frame) 0) 0 (capped (releaseAfter T t k))
-
--- ---------------------------------------------------------------- the waiting time
+-- ---------------------------------------------------------------- the next start
 -- a window of partition k, with flag 1 where it is asked for, that does not start before this place of the frame
 abbrev pub startsFrom : ℕ → Bool → ℕ → Window → Bool
 startsFrom k flagged from w = eqb (w .partition) k && ((not flagged || w .flag) && leb from (w .start))
@@ -74,6 +62,30 @@ nextStart T t k flagged =
     cond (eqb (T .frame) 0) 0
     (aheadOf (T .frame) x (firstStart (startsFrom k flagged (x + 1)) (windows T)) (firstStart (startsFrom k flagged 0) (windows T)))
 
+-- ---------------------------------------------------------------- the release point
+-- the earliest start of a window with flag 1, of that partition, strictly after t
+unfoldable pub releaseAfter : Table → ℕ → ℕ → ℕ
+releaseAfter T t k = t + nextStart T t k true
+
+-- bound: no time is past the greatest
+unfoldable pub releasePoint : Table → ℕ → ℕ → ℕ
+releasePoint T t k = capped (releaseAfter T t k)
+
+-- a window of partition k with this flag starts at place x of the frame
+pub record StartAt (T : Table) (k : ℕ) (flag : Bool) (x : ℕ) : Type 0 where
+  pub at : ℕ
+  pub inside : at < length (windows T)
+  pub owner : getD (windows T) at noWindow .partition ≡ k
+  pub flagIs : getD (windows T) at noWindow .flag ≡ flag
+  pub starts : getD (windows T) at noWindow .start ≡ x
+
+-- r is the earliest start of a window with flag 1, of that partition, strictly after t
+pub record Release (T : Table) (k t r : ℕ) : Type 0 where
+  pub starts : StartAt T k true (r % T .frame)
+  pub after : t < r
+  pub earliest : (s : ℕ) → StartAt T k true (s % T .frame) → t < s → r ≤ s
+
+-- ---------------------------------------------------------------- the waiting time
 -- a window of partition k starts at x
 unfoldable pub startsAt : ℕ → ℕ → List Window → Bool
 startsAt k x [] = false

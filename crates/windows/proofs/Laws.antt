@@ -1,9 +1,9 @@
 -- Loops over the windows of a table: what is left from window i on. Assumes nothing.
-use Prim.Native.Nat.{ℕ, _+_, _-_, _*_, _/_, _%_, _≤_, _<_}
+use Prim.Native.Nat.{ℕ, _+_, _-_, _%_, _≤_, _<_}
 use mathlib.Core.Bool.{Bool, true, false, not}
 use mathlib.Core.List.{[], _∷_}
 use mathlib.Core.Path.{_≡_, sym}
-use native.Mathlib.Nat.{div-mul-le-self, div-le-self, mod-lt}
+use native.Mathlib.Nat.{mod-lt}
 use native.Mathlib.Omega.{arith}
 use lib.IntN.{ℤ}
 use lib.ListN.{length, getD, drop}
@@ -53,14 +53,6 @@ module _ (T : Table) (i : ℕ) where
     pub start-done : length (windows T) ≤ i → firstStart f (drop i (windows T)) ≡ Never
     unfolding firstStart
     start-done h = rw (no-window h)
-
--- ---------------------------------------------------------------- the next release point
-pub frames : (t frame : ℕ) → t / frame ≤ t
-frames t frame = div-le-self t frame
-
--- the next frame begins less than a frame after t
-pub next-frame : (t frame : ℕ) → (t / frame + 1) * frame ≤ t + frame
-next-frame t frame = let h = div-mul-le-self t frame in omega arith
 
 -- ---------------------------------------------------------------- the next start
 pub place : (T : Table) (t : ℕ) → (T .frame ≡ 0 → ⊥) → t % T .frame < T .frame

@@ -1,4 +1,4 @@
-// The windows of a table: the current partition, the next release point and the waiting time.
+// The windows of a table: the current partition, the next start of a window, the release point and the waiting time.
 ghost use mathlib.Core.Path.{_≡_};
 ghost use Prim.Native.Nat.{_≤_};
 ghost use lib.ListN.{length};
@@ -104,22 +104,6 @@ fn first_start(table: Table, k: u32, flagged: bool, from: u32) -> Time
     Time::Never
 }
 
-// The next release point of partition k at t.
-pub fn release_point(table: Table, t: u32, k: u32) -> u32
-    ensures { λ r. ⌜ r ≡ releasePoint table t k ⌝ }
-{
-    let frame = table.frame as u32;
-    if frame == 0 {
-        return 0;
-    }
-    let first = match first_start(table, k, true, 0) {
-        Time::Never => 0,
-        Time::At(s) => s,
-    };
-    let past = t / frame;
-    process::capped_time((past as u64 + 1) * frame as u64 + first as u64)
-}
-
 // The next start after t of a window of partition k, as a number of ticks.
 pub fn next_start(table: Table, t: u32, k: u32, flagged: bool) -> u32
     ensures { λ r. ⌜ r ≡ nextStart table t k flagged ⌝ }
@@ -136,6 +120,14 @@ pub fn next_start(table: Table, t: u32, k: u32, flagged: bool) -> u32
             Time::Never => frame,
         },
     }
+}
+
+// The release point of partition k at t: the next start of a window with flag 1.
+pub fn release_point(table: Table, t: u32, k: u32) -> u32
+    ensures { λ r. ⌜ r ≡ releasePoint table t k ⌝ }
+{
+    let ahead = next_start(table, t, k, true);
+    process::capped_time(t as u64 + ahead as u64)
 }
 
 // The waiting time: 13 where t or the partition is out of range.

@@ -1,4 +1,3 @@
-use native.Mathlib.Omega.{arith}
 use borrow.Author.Needs.{needs}
 use Rattle.machine.specs.Windows.{releaseAfter, releasePoint}
 use Rattle.windows.proofs.release_point.Statement.{statement}
@@ -9,4 +8,4 @@ unfolding releasePoint releaseAfter
 returns c = rw (c .capped-time .ensures, c .before .next-start .ensures)
 
 pub release-point-spec : {M : Type 1} → statement M
-release-point-spec = tie.close (tie.spec (λ _ _. tt) (λ c. search needs) (λ c. search needs) (λ c. search needs) (λ _ _. tt) returns)
+release-point-spec = tie.close (tie.spec (λ _ _. tt) (λ c. search needs) (λ c. search needs) (λ _ _. tt) returns)

@@ -1,6 +1,7 @@
 //! The generator reaches what it is there to reach.
 
-use separate::coverage::{Coverage, CHANGES, CORNERS, REASONS, SHAPES, TABLES, WAITS};
+use separate::coverage::WAITS;
+use separate::coverage::{Coverage, CHANGES, CORNERS, REASONS, RELEASES, SHAPES, STARTS, TABLES};
 use separate::generate::{generate, Kind};
 use separate::line::{self, Line};
 use separate::replay::{final_record, read_table, replay, Lines};
@@ -92,6 +93,24 @@ fn a_run_of_nothing_names_every_wait_as_missing() {
     assert!(!missing.contains(&("period", "by time, suspended")));
     assert!(!missing.contains(&("receiving channel", "by restart")));
     assert_eq!(CHANGES.len() * WAITS.len(), 180);
+}
+
+#[test]
+fn every_sort_of_release_is_reached_by_every_way_to_start() {
+    let coverage = Coverage::of_seeds(1, 200, 1000);
+    assert_eq!(coverage.missing_releases(), []);
+}
+
+#[test]
+fn a_run_of_nothing_names_every_release_as_missing() {
+    let missing = Coverage::new().missing_releases();
+    // START has no delay.
+    assert_eq!(missing.len(), RELEASES.len() * STARTS.len() - 2);
+    let second_window = "more: in this frame, at a later flagged start";
+    for start in STARTS {
+        assert!(missing.contains(&(start, second_window)));
+    }
+    assert!(!missing.contains(&("START", "in this frame, with a delay")));
 }
 
 #[test]

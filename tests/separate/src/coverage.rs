@@ -314,13 +314,21 @@ impl Coverage {
         let mut coverage = Coverage::new();
         for seed in from..=to {
             coverage.take_table(seed);
-            coverage.take_events(seed, count);
+            coverage.take_events(Events::with_table(seed).1, count);
         }
         coverage
     }
 
-    fn take_events(&mut self, seed: u64, count: u64) {
-        let (_, mut events) = Events::with_table(seed);
+    /// The same for the events that mostly start and stop.
+    pub fn of_starts(from: u64, to: u64, count: u64) -> Coverage {
+        let mut coverage = Coverage::new();
+        for seed in from..=to {
+            coverage.take_events(Events::of_starts(seed).1, count);
+        }
+        coverage
+    }
+
+    fn take_events(&mut self, mut events: Events, count: u64) {
         self.take_shapes(&events.module);
         let mut before = events.module.clone();
         for _ in 0..count {

@@ -315,19 +315,25 @@ fn check_releases(before: &Module, event: &Event, after: &Module) -> usize {
     released
 }
 
+/// How many releases so many made-up events gave.
+fn releases_of(mut events: Events, count: usize) -> usize {
+    let mut released = 0;
+    for _ in 0..count {
+        let before = events.module.clone();
+        let (event, answer) = events.next_event();
+        if answer.code == 0 && event.call != 0 {
+            released += check_releases(&before, &event, &events.module);
+        }
+    }
+    released
+}
+
 #[test]
 fn every_release_of_made_up_events_is_the_next_flagged_start_plus_the_delay() {
     let mut released = 0;
     for seed in 0..100 {
-        let (_, mut events) = Events::with_table(seed);
-        for _ in 0..500 {
-            let event = events.choose();
-            let before = events.module.clone();
-            let answer = events.module.step(&event);
-            if answer.code == 0 && event.call != 0 {
-                released += check_releases(&before, &event, &events.module);
-            }
-        }
+        released += releases_of(Events::with_table(seed).1, 500);
+        released += releases_of(Events::of_starts(seed).1, 500);
     }
-    assert!(released > 500, "{released}");
+    assert!(released > 2_000, "{released}");
 }

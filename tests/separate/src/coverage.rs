@@ -2,6 +2,9 @@
 
 mod messages;
 mod queuing;
+mod releases;
+
+pub use releases::{RELEASES, STARTS};
 
 use crate::events::Events;
 use crate::generate;
@@ -285,6 +288,8 @@ pub struct Coverage {
     pub waits: [[u64; CHANGES.len()]; WAITS.len()],
     pub reasons: [u64; REASONS.len()],
     pub corners: [u64; CORNERS.len()],
+    /// By the way to start.
+    pub releases: [[u64; RELEASES.len()]; STARTS.len()],
     pub shapes: [u64; SHAPES.len()],
     pub tables: [u64; TABLES.len()],
     pub events: u64,
@@ -297,6 +302,7 @@ impl Coverage {
             waits: [[0; CHANGES.len()]; WAITS.len()],
             reasons: [0; REASONS.len()],
             corners: [0; CORNERS.len()],
+            releases: [[0; RELEASES.len()]; STARTS.len()],
             shapes: [0; SHAPES.len()],
             tables: [0; TABLES.len()],
             events: 0,
@@ -308,13 +314,21 @@ impl Coverage {
         let mut coverage = Coverage::new();
         for seed in from..=to {
             coverage.take_table(seed);
-            coverage.take_events(seed, count);
+            coverage.take_events(Events::with_table(seed).1, count);
         }
         coverage
     }
 
-    fn take_events(&mut self, seed: u64, count: u64) {
-        let (_, mut events) = Events::with_table(seed);
+    /// The same for the events that mostly start and stop.
+    pub fn of_starts(from: u64, to: u64, count: u64) -> Coverage {
+        let mut coverage = Coverage::new();
+        for seed in from..=to {
+            coverage.take_events(Events::of_starts(seed).1, count);
+        }
+        coverage
+    }
+
+    fn take_events(&mut self, mut events: Events, count: u64) {
         self.take_shapes(&events.module);
         let mut before = events.module.clone();
         for _ in 0..count {
@@ -417,6 +431,7 @@ impl Coverage {
         if event.call == 0 {
             return;
         }
+        self.take_releases(before, event, after);
         let own = event.partition as usize;
         let (old, new) = (before.partition(own), after.partition(own));
         match event.call {
@@ -573,19 +588,25 @@ impl Coverage {
         self.print_waits(out)?;
         print_list(out, "reasons for 13", &REASONS, &self.reasons)?;
         print_list(out, "corners", &CORNERS, &self.corners)?;
+        self.print_releases(out)?;
         print_list(out, "channels", &SHAPES, &self.shapes)?;
         print_list(out, "tables", &TABLES, &self.tables)?;
         print_pairs(out, "allowed and not reached", &self.missing())?;
         print_pairs(out, "reached and not allowed", &self.unforeseen())?;
-        print_waits(
+        print_named(
             out,
             "waits: possible and not reached",
             &self.missing_waits(),
         )?;
-        print_waits(
+        print_named(
             out,
             "waits: reached and not possible",
             &self.unforeseen_waits(),
+        )?;
+        print_named(
+            out,
+            "releases: possible and not reached",
+            &self.missing_releases(),
         )
     }
 
@@ -726,10 +747,10 @@ fn print_pairs(out: &mut impl Write, title: &str, pairs: &[(usize, usize)]) -> i
     Ok(())
 }
 
-fn print_waits(out: &mut impl Write, title: &str, waits: &[(&str, &str)]) -> io::Result<()> {
-    writeln!(out, "\n{title}: {}", waits.len())?;
-    for (wait, change) in waits {
-        writeln!(out, "  {wait}: {change}")?;
+fn print_named(out: &mut impl Write, title: &str, pairs: &[(&str, &str)]) -> io::Result<()> {
+    writeln!(out, "\n{title}: {}", pairs.len())?;
+    for (of, name) in pairs {
+        writeln!(out, "  {of}: {name}")?;
     }
     Ok(())
 }

@@ -30,6 +30,8 @@ enum Mostly {
     Passing,
     /// Sends and receives over queuing channels.
     Queuing,
+    /// Starts and stops periodic processes.
+    Starting,
 }
 
 /// Tells of a message queue and of how many wait to send and to receive.
@@ -57,6 +59,17 @@ impl Events {
         let numbers = tables::accepted(&mut rng);
         let module = tables::module(&numbers).expect("an accepted table");
         (numbers, Events::of(module, rng))
+    }
+
+    /// The same where partitions have several windows and mostly start and
+    /// stop periodic processes.
+    pub fn of_starts(seed: u64) -> (Vec<line::Six>, Events) {
+        let mut rng = Rng::new(seed);
+        let numbers = tables::several_windows(&mut rng);
+        let module = tables::module(&numbers).expect("an accepted table");
+        let mut events = Events::of(module, rng);
+        events.mostly = Mostly::Starting;
+        (numbers, events)
     }
 
     /// A source of events for a module.
@@ -152,6 +165,7 @@ impl Events {
                 }
             }
             Mostly::Queuing => self.weigh_channels(own, &mut weights),
+            Mostly::Starting => weigh_starts(&mut weights),
         }
         weights
     }
@@ -222,6 +236,11 @@ impl Events {
             for weight in &mut weights[14..] {
                 *weight = weight.div_ceil(4);
             }
+        }
+        if self.mostly == Mostly::Starting {
+            weigh_starts(&mut weights);
+            weights[1] = 12;
+            weights[2] = 40;
         }
         weights
     }
@@ -401,7 +420,7 @@ impl Events {
         let waits = partition.processes.iter().any(suspended_waiter) || self.channels_wait(own);
         let weights = match partition.mode {
             // 0, 1, 2, 3, out of range
-            Mode::Normal if waits => [1, 25, 35, 20, 19],
+            Mode::Normal if waits || self.mostly == Mostly::Starting => [1, 25, 35, 20, 19],
             Mode::Normal => [1, 8, 10, 50, 31],
             _ if self.awaiting(own) > 0 => [3, 20, 25, 40, 12],
             _ if started && waits => [1, 5, 12, 72, 10],
@@ -464,6 +483,9 @@ impl Events {
     fn period(&mut self) -> i64 {
         let frame = self.module.frame;
         let last_multiple = MOST_TIME / frame * frame;
+        if self.mostly == Mostly::Starting && self.rng.percent(60) {
+            return frame * self.rng.range(1, 3);
+        }
         match self.rng.below(40) {
             0..=23 => -1,
             24..=33 => frame * self.rng.range(1, 3),
@@ -749,6 +771,15 @@ impl Events {
             _ => self.rng.range(1, 6),
         }
     }
+}
+
+/// Mostly ticks, restarts, starts and stops.
+fn weigh_starts(weights: &mut Weights) {
+    for weight in weights[6..].iter_mut() {
+        *weight = weight.div_ceil(4);
+    }
+    weights[..6].copy_from_slice(&[20, 4, 1, 20, 20, 20]);
+    weights[10] = 6;
 }
 
 /// The number of an item of the wanted sort for the most part, else of any

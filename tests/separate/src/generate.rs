@@ -12,6 +12,7 @@ use std::io::{self, Write};
 pub enum Kind {
     Table,
     Events,
+    Releases,
     Busy,
     Passing,
     Queuing,
@@ -24,6 +25,7 @@ impl Kind {
         match name {
             "table" => Some(Kind::Table),
             "events" => Some(Kind::Events),
+            "releases" => Some(Kind::Releases),
             "busy" => Some(Kind::Busy),
             "passing" => Some(Kind::Passing),
             "queuing" => Some(Kind::Queuing),
@@ -38,7 +40,8 @@ impl Kind {
 pub fn generate(seed: u64, kind: Kind, count: u64, out: &mut impl Write) -> io::Result<()> {
     match kind {
         Kind::Table => out.write_all(&table(seed)),
-        Kind::Events => print_events(seed, count, out),
+        Kind::Events => print_events(Events::with_table(seed), count, out),
+        Kind::Releases => print_events(Events::of_starts(seed), count, out),
         Kind::Busy => print_busy(seed, count, out),
         Kind::Passing => print_passing(seed, count, out),
         Kind::Queuing => print_queuing(seed, count, out),
@@ -94,8 +97,11 @@ pub(crate) fn print_table(numbers: &[line::Six], out: &mut impl Write) -> io::Re
         .try_for_each(|six| out.write_all(&line::text(six)))
 }
 
-fn print_events(seed: u64, count: u64, out: &mut impl Write) -> io::Result<()> {
-    let (numbers, mut events) = Events::with_table(seed);
+fn print_events(
+    (numbers, mut events): (Vec<line::Six>, Events),
+    count: u64,
+    out: &mut impl Write,
+) -> io::Result<()> {
     print_table(&numbers, out)?;
     for _ in 0..count {
         let (event, _) = events.next_event();

@@ -523,11 +523,17 @@ impl Module {
         }
     }
 
-    /// Start of the partition's first window with flag 1.
-    pub(crate) fn first_release(&self, partition: Id) -> i64 {
+    /// The earliest start of a window with flag 1, of that partition, strictly
+    /// after t (document 02, d): in this frame or in the next one.
+    pub(crate) fn next_flagged_start(&self, partition: Id) -> i64 {
+        let this_frame = self.t - self.t % self.frame;
+        let next_frame = this_frame + self.frame;
         self.windows
             .iter()
-            .find(|window| window.partition == partition && window.flag)
-            .map_or(0, |window| window.start)
+            .filter(|window| window.partition == partition && window.flag)
+            .flat_map(|window| [this_frame + window.start, next_frame + window.start])
+            .filter(|&start| start > self.t)
+            .min()
+            .expect("every partition has a window with flag 1")
     }
 }

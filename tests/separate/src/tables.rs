@@ -27,6 +27,17 @@ pub fn accepted(rng: &mut Rng) -> Vec<Six> {
     lines
 }
 
+/// An accepted table without channels in which partitions have several
+/// windows, with and without flag 1.
+pub fn several_windows(rng: &mut Rng) -> Vec<Six> {
+    let partitions = rng.range(1, 3);
+    let windows = partitions * rng.range(2, 5);
+    let frame = windows + rng.range(0, 20);
+    let mut lines = vec![[frame, partitions, windows, 0, 0, 0]];
+    lines.extend(window_lines(rng, frame, partitions, windows));
+    lines
+}
+
 /// Small and large major frames, the greatest one too.
 fn pick_frame(rng: &mut Rng, windows: i64) -> i64 {
     match rng.below(16) {

@@ -442,7 +442,7 @@ fn a_delayed_start_of_0_is_ready_at_once() {
 }
 
 #[test]
-fn the_start_rule_of_a_periodic_process_counts_from_the_next_frame() {
+fn the_start_rule_of_a_periodic_process_counts_from_the_next_flagged_window() {
     // Partition 1 has windows at 1 (no flag), 4 (flag) and 7 (flag).
     let table = [
         [10, 1, 3, 0, 0, 0],
@@ -462,14 +462,14 @@ fn the_start_rule_of_a_periodic_process_counts_from_the_next_frame() {
     let process = world.process(2);
     assert_eq!(
         (process.release, process.wake, process.deadline),
-        (Some(24), Some(24), Some(30))
+        (Some(14), Some(14), Some(20))
     );
     assert_eq!(process.wait, Wait::Period);
     world.done(4, &[3, 5]);
     let process = world.process(3);
     assert_eq!(
         (process.release, process.wake, process.deadline),
-        (Some(29), Some(29), None)
+        (Some(19), Some(19), None)
     );
 }
 

@@ -1,6 +1,7 @@
 //! The generator reaches what it is there to reach.
 
-use separate::coverage::{Coverage, CHANGES, CORNERS, REASONS, SHAPES, TABLES, WAITS};
+use separate::coverage::WAITS;
+use separate::coverage::{Coverage, CHANGES, CORNERS, REASONS, RELEASES, SHAPES, STARTS, TABLES};
 use separate::generate::{generate, Kind};
 use separate::line::{self, Line};
 use separate::replay::{final_record, read_table, replay, Lines};
@@ -95,10 +96,35 @@ fn a_run_of_nothing_names_every_wait_as_missing() {
 }
 
 #[test]
+fn every_sort_of_release_is_reached_by_every_way_to_start() {
+    let coverage = Coverage::of_seeds(1, 200, 1000);
+    assert_eq!(coverage.missing_releases(), []);
+    // Where partitions mostly start and stop, each comes up several times.
+    let mut coverage = Coverage::of_starts(3301, 3360, 1000);
+    for count in coverage.releases.iter_mut().flatten() {
+        *count = count.saturating_sub(4);
+    }
+    assert_eq!(coverage.missing_releases(), []);
+}
+
+#[test]
+fn a_run_of_nothing_names_every_release_as_missing() {
+    let missing = Coverage::new().missing_releases();
+    // START has no delay.
+    assert_eq!(missing.len(), RELEASES.len() * STARTS.len() - 2);
+    let second_window = "more: in this frame, at a later flagged start";
+    for start in STARTS {
+        assert!(missing.contains(&(start, second_window)));
+    }
+    assert!(!missing.contains(&("START", "in this frame, with a delay")));
+}
+
+#[test]
 fn one_seed_gives_one_input() {
     for kind in [
         Kind::Table,
         Kind::Events,
+        Kind::Releases,
         Kind::Busy,
         Kind::Passing,
         Kind::Queuing,
@@ -112,8 +138,9 @@ fn one_seed_gives_one_input() {
 
 #[test]
 fn events_print_an_accepted_table_and_count_good_lines() {
-    for seed in 0..50 {
-        let bytes = input(seed, Kind::Events, 100);
+    let kinds = [Kind::Events, Kind::Releases];
+    for (seed, kind) in (0..50).flat_map(|seed| kinds.map(|kind| (seed, kind))) {
+        let bytes = input(seed, kind, 100);
         let mut lines = Lines::new(bytes.as_slice());
         let module = read_table(&mut lines).expect("an accepted table");
         let table = 1 + module.windows().len() + module.channels().len();

@@ -259,14 +259,10 @@ fn time_ends_at_99_999_999_with_10() {
 
 #[test]
 fn the_latest_deadline_of_all_still_fits_an_answer_line() {
-    // Of all M, 9990 gives the latest d: the next frame starts at 100,009,890,
-    // the first window with flag 1 is its last tick, and the greatest period
-    // gives the greatest delay and capacity.
-    let table = [
-        [9990, 1, 2, 0, 0, 0],
-        [0, 100, 1, 0, 0, 0],
-        [9989, 1, 1, 1, 0, 0],
-    ];
+    // Of all M, 9990 gives the latest d: time ends at the start of the only
+    // window with flag 1, the next one is M later, at 100,009,989, and the
+    // greatest period gives the greatest delay and capacity.
+    let table = [[9990, 1, 1, 0, 0, 0], [99, 1, 1, 1, 0, 0]];
     let mut world = World::new(&table);
     for _ in 0..99_999_999 {
         world.module.step(&Event::TICK);
@@ -277,9 +273,9 @@ fn the_latest_deadline_of_all_still_fits_an_answer_line() {
     world.done(4, &[1, 9_999_989]);
     world.done(3, &[2]);
     world.normal();
-    assert_eq!(world.process(1).release, Some(110_019_868));
+    assert_eq!(world.process(1).release, Some(110_009_978));
     let answer = world.event([1, 13, 1, 0, 0, 0]);
-    assert_eq!(answer, [0, 3, 120_019_858, 99_999_999, 1, 2]);
+    assert_eq!(answer, [0, 3, 120_009_968, 99_999_999, 1, 2]);
     assert!(separate::line::write(&answer, &mut [0; 61]).is_ok());
 }
 

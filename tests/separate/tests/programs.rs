@@ -296,7 +296,12 @@ fn generate_and_coverage_refuse_other_arguments() {
         let output = run(GENERATE, arguments, b"");
         assert!(!output.status.success() && output.stdout.is_empty());
     }
-    for arguments in [&["1", "2"][..], &["1", "2", "x"]] {
+    for arguments in [
+        &["1", "2"][..],
+        &["1", "2", "x"],
+        &["1", "2", "0", "busy"],
+        &["1", "2", "0", "events", "1"],
+    ] {
         assert!(!run(COVERAGE, arguments, b"").status.success());
     }
 }
@@ -312,4 +317,5 @@ fn coverage_names_what_was_not_reached() {
     assert!(printed.contains("  call 31 RECEIVE code 7\n"));
     assert!(printed.contains("  sending channel: by restart\n"));
     assert!(printed.contains("  source's restart with receivers waiting: 0\n"));
+    assert!(printed.contains("  START: more: in this frame, at a later flagged start\n"));
 }

@@ -1,4 +1,4 @@
-//! Calls 1, 3 and 4 with the start rule.
+//! Calls 1, 3 and 4 with the start rule (its release: document 02, d).
 
 use super::{refuse, D};
 use crate::machine::Outcome;
@@ -8,17 +8,15 @@ use crate::record::{Id, Mode, Module, Partition, Process, Wait};
 #[derive(Clone, Copy)]
 struct Clock {
     t: i64,
-    frame: i64,
-    /// Start of the partition's first window with flag 1.
-    first_release: i64,
+    /// From where a release counts.
+    next_flagged: i64,
 }
 
 impl Module {
     fn clock(&self, partition: Id) -> Clock {
         Clock {
             t: self.t,
-            frame: self.frame,
-            first_release: self.first_release(partition),
+            next_flagged: self.next_flagged_start(partition),
         }
     }
 
@@ -118,8 +116,7 @@ impl Process {
     /// The start rule's wait, r, w and d.
     fn take_times(&mut self, clock: Clock, delay: i64) {
         if self.periodic() {
-            let next_frame = (clock.t / clock.frame + 1) * clock.frame;
-            let release = next_frame + clock.first_release + delay;
+            let release = clock.next_flagged + delay;
             self.release = Some(release);
             self.wake = Some(release);
             self.deadline = self.capacity.map(|capacity| release + capacity);

@@ -13,7 +13,7 @@ use mir.Val.{toZ, ofZ, SFits}
 use mir.ValLaws.{toZ-ofZ}
 use borrow.Author.Tests.{ne-eqb, lt-ltb, ltb-true, ltb-false, eqb-true, eqb-false, leb-true, not-false}
 use Rattle.machine.specs.Channels.{portAt, portOf, queuingAt, seesTraffic, otherEnd, otherQueue, noTraffic, trafficOf, passed, leadsInto, keptTo, refilledTo}
-use Rattle.machine.specs.Decisions.{coded, checked, codeOf, replyOf, changes, restarts, writtenAt, messageOf, passedAt, transferOf, noMessage}
+use Rattle.machine.specs.Decisions.{noCallerAs, coded, checked, codeOf, replyOf, changes, restarts, writtenAt, messageOf, passedAt, transferOf, noMessage}
 use Rattle.machine.specs.Messages.{noQueue, moved, endsWait}
 use Rattle.machine.specs.Fields.{requestOf, numberOf}
 use Rattle.machine.specs.Limits.{partitionLimit, channelLimit}
@@ -45,13 +45,14 @@ use Rattle.machine.proofs.Reached.{refilled-table}
 use Rattle.machine.proofs.Restarts.{refilled-time, refilled-sizes}
 use Rattle.machine.proofs.Bounds.{within-out}
 use Rattle.machine.proofs.Either.{either}
+use Rattle.machine.proofs.Dispatch.{release-unseen}
 use Rattle.machine.proofs.Folds.{tick-to-none}
 use Rattle.machine.proofs.Waits.{waiting-time, reached-waiting}
-use Rattle.machine.proofs.Tests.{by-test, codesIn, Passed, code-refuses, code-passes, and-left, and-right}
+use Rattle.machine.proofs.Tests.{by-test, codesIn, Passed, code-refuses, code-passes, and-left, and-right, or-left, or-right}
 use Rattle.places.specs.Placed.{placedAt}
 use Rattle.queuing.proofs.Laws.{placed}
 use Rattle.executive.specs.Executive.{turned, answerOf, Awaited}
-use Rattle.executive.specs.Lists.{callChecks, tickCount, slotOf, callSlot, shownSlot, planOf}
+use Rattle.executive.specs.Lists.{callChecks, tickCount, slotOf, callSlot, takesStartRule, releaseFor, shownSlot, planOf}
 use Rattle.executive.specs.declared.Plan.{Plan}
 
 -- ---------------------------------------------------------------- lists of checks
@@ -67,6 +68,17 @@ unfolding checked
 code-more [] k h = refl
 code-more ((true, n) ∷ l) k h = rw (ne-eqb n 0 (λ z. let g = leb-true 1 n (and-left (leb 1 n) (codesIn (leb 1) l) h) in omega arith))
 code-more ((false, n) ∷ l) k h = code-more l k (and-right (leb 1 n) (codesIn (leb 1) l) h)
+
+-- ---------------------------------------------------------------- the release point
+-- a call that takes no start rule may be shown another
+release-shown : (T : Table) (t k caller n : ℕ) (x : Port) (r : Request) (p : Partition)
+    → called (record { time = t; frame = T .frame; release = releaseFor T t k n; caller = caller }) x n r p ≡ called (record { time = t; frame = T .frame; release = releasePoint T t k; caller = caller }) x n r p
+release-shown T t k caller n x r p = either (takesStartRule n)
+    (λ e. rw e)
+    (λ e.
+    let late = or-right (eqb n 1) _ e in
+    ap (checked Refused ((noCallerAs caller p, 9) ∷ []))
+    (release-unseen t (T .frame) caller n x r p (eqb-false n 1 (or-left (eqb n 1) _ e)) (eqb-false n 3 (or-left (eqb n 3) _ late)) (eqb-false n 4 (or-right (eqb n 3) _ late)) _ _))
 
 -- ---------------------------------------------------------------- the places
 abbrev own : Request → ℕ
@@ -349,14 +361,16 @@ module _ {m : Module} {e : Event} {T : Table} {x : Plan} (f : Planned m e T x) w
       called-same = let c = calls inside in still (rw (c .none, c .some)) (time-called (m .table) (m .t) now r (c .some))
 
       -- what the code decides is the machine's decision
-      module _ {caller v : ℕ} {hold : Message} {port : Port} {d : Decision} (runs : caller ≡ running (part q (x .slot))) (point : v ≡ releasePoint T (q .t) (x .own)) (lies : hold ≡ message q (x .place))
+      module _ {caller v : ℕ} {hold : Message} {port : Port} {d : Decision} (runs : caller ≡ running (part q (x .slot))) (point : v ≡ releaseFor T (q .t) (x .own) (x .call)) (lies : hold ≡ message q (x .place))
           {view : Traffic} (shows : view ≡ seenTraffic T q (x .own) (x .place)) (sees-port : port ≡ portAt T (x .own) (x .request .a) hold view)
           (made : d ≡ called (record { time = q .t; frame = T .frame; release = v; caller = caller }) port (x .call) (x .request) (part q (x .slot))) where
         made-is : d ≡ decision m r
         made-is =
             let c = calls inside in
             let w = called-same in
-            made ∙ rw (runs, point, sees-port, lies, shows, w, ← f .same, request-is, own-is, call-is, place-is, c .slot) (sym (place-passed m r (f .long) now seen (x .code) code-is (c .none) ∙ rw (c .some)))
+            let shown : called (record { time = q .t; frame = T .frame; release = v; caller = caller }) port (x .call) (x .request) (part q (x .slot)) ≡ called (record { time = q .t; frame = T .frame; release = releasePoint T (q .t) (x .own); caller = caller }) port (x .call) (x .request) (part q (x .slot)) =
+            rw point (release-shown T (q .t) (x .own) caller (x .call) port (x .request) (part q (x .slot))) in
+            made ∙ shown ∙ rw (runs, sees-port, lies, shows, w, ← f .same, request-is, own-is, call-is, place-is, c .slot) (sym (place-passed m r (f .long) now seen (x .code) code-is (c .none) ∙ rw (c .some)))
 
         made-called : d ≡ called (contextOf m k) (portOf m k r) (numberOf (r .call)) r (part m (k - 1))
         made-called = made-is ∙ place-passed m r (f .long) now seen (x .code) code-is (calls inside .none) ∙ chosen (calls inside .some)

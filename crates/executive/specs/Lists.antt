@@ -1,6 +1,6 @@
 -- What an event does before its partition is looked at, and the lent list of numbers: six of an event, which the six of its answer replace.
 use Prim.Native.Nat.{ℕ, zero, suc, _-_, _+_, _*_, _/_, _<_}
-use mathlib.Core.Bool.{Bool, cond, not, _&&_}
+use mathlib.Core.Bool.{Bool, cond, not, _&&_, _||_}
 use mathlib.Core.List.{List, [], _∷_, _++_}
 use mathlib.Core.Path.{_≡_}
 use lib.Dec.{eqb, ltb}
@@ -15,7 +15,7 @@ use Rattle.machine.specs.Partition.{running}
 use Rattle.machine.specs.Replay.{answerNumbers}
 use Rattle.machine.specs.Step.{sees, step}
 use Rattle.machine.specs.Ticks.{partitionCount}
-use Rattle.machine.specs.Windows.{lookup}
+use Rattle.machine.specs.Windows.{lookup, releasePoint}
 use Rattle.machine.specs.declared.Answer.{Answer}
 use Rattle.machine.specs.declared.Event.{Event}
 use Rattle.machine.specs.declared.EventRecord.{EventRecord}
@@ -49,6 +49,14 @@ slotOf k = cond (eqb k 0) partitionLimit (k - 1)
 -- where the one lies that makes a call
 abbrev pub callSlot : ℕ → ℕ → ℕ
 callSlot code k = cond (eqb code 0) (slotOf k) partitionLimit
+
+-- the calls that take the start rule: SET_PARTITION_MODE, START, DELAYED_START
+abbrev pub takesStartRule : ℕ → Bool
+takesStartRule n = eqb n 1 || (eqb n 3 || eqb n 4)
+
+-- the release point that call n of partition k is shown: those that take no start rule do not look at it
+abbrev pub releaseFor : Table → ℕ → ℕ → ℕ → ℕ
+releaseFor T t k n = cond (takesStartRule n) (releasePoint T t k) 0
 
 -- where the one lies whose running process is shown
 abbrev pub shownSlot : Request → ℕ → ℕ

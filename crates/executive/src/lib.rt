@@ -7,7 +7,7 @@ ghost use Rattle.machine.specs.Step.{sees, step};
 ghost use Rattle.machine.specs.Replay.{timeNumber, answerNumbers, unread};
 ghost use Rattle.machine.specs.Table.{readTable};
 ghost use Rattle.executive.specs.Executive.{turned, opened, noAnswer, answerOf, Awaited};
-ghost use Rattle.executive.specs.Lists.{six, eventAt, placeCode, tickCount, slotOf, callSlot, shownSlot, planOf, afterList, answeredList, lastAnswer, eventsIn};
+ghost use Rattle.executive.specs.Lists.{six, eventAt, placeCode, tickCount, slotOf, callSlot, takesStartRule, releaseFor, shownSlot, planOf, afterList, answeredList, lastAnswer, eventsIn};
 use channels::Messages;
 use machine::Answer;
 use machine::Context;
@@ -95,6 +95,29 @@ fn slot_of(k: u32) -> usize
         return Module::PARTITIONS;
     }
     (k - 1) as usize
+}
+
+// Whether a call takes the start rule.
+fn takes_start_rule(call: u32) -> bool
+    ensures { λ r. ⌜ r ≡ takesStartRule call ⌝ }
+{
+    if call == 1 {
+        return true;
+    }
+    if call == 3 {
+        return true;
+    }
+    call == 4
+}
+
+// The release point that a call of partition k is shown: it is looked up only for one that takes the start rule.
+fn release_for(table: Table, t: u32, k: u32, call: u32) -> u32
+    ensures { λ r. ⌜ r ≡ releaseFor table t k call ⌝ }
+{
+    if takes_start_rule(call) {
+        return windows::release_point(table, t, k);
+    }
+    0
 }
 
 fn call_slot(code: u8, k: u32) -> usize
@@ -284,7 +307,7 @@ impl Executive {
                 let context = Context {
                     time: m.t,
                     frame: table.frame,
-                    release: windows::release_point(table, m.t, x.own),
+                    release: release_for(table, m.t, x.own, x.call),
                     caller: runs[slot],
                 };
                 let port = channels::port_at(table, x.own, a, held, traffic);

@@ -30,7 +30,7 @@ use Rattle.machine.specs.Fields.{field, between, isMinusOne, timeOf}
 use Rattle.machine.specs.Ids.{removed, follow}
 use Rattle.machine.specs.Process.{blankProcess, createdProcess, periodic, ready, onObject, withCurrent, startRule, startedEarly, nextRelease, entered}
 use Rattle.machine.specs.Partition.{normalMode, process, semaphore, event, buffer, blackboard, byId, noSemaphore, noEvent, noBuffer, noBlackboard, emptyBuffer, running, withMode, withProcesses, stored, created, applied, enteredNormal}
-use Rattle.machine.specs.Windows.{StartAt, Release}
+use Rattle.machine.specs.Windows.{Release, NextFlagged}
 use Rattle.machine.specs.Decisions as D
 use Rattle.machine.specs.Calls as C
 use Rattle.machine.specs.Objects as Ob
@@ -441,10 +441,8 @@ module _ (m : Module) (k : ℕ) (u : SoundModule m) (h : Calling m k) where
       let high = period-high id n b e in
       (delayed-release r f id (n - 1) n normal b off e (omega (arith, high .0)), delay-refused id n b e (high .1))
 
-  inside-frame-corner : (s : ℕ) → let T = m .table in
-      let x = m .t % T .frame in
-      StartAt T k true s → x < s → ((y : ℕ) → StartAt T k true y → x < y → s ≤ y) → ReleasesAt m k (m .t / T .frame * T .frame + s)
-  inside-frame-corner s f late first = releases-at _ (release-here (m .table) (u .table) (m .t) k s f late first)
+  inside-frame-corner : (s : ℕ) → let T = m .table in NextFlagged T k (m .t % T .frame) s → ReleasesAt m k (m .t / T .frame * T .frame + s)
+  inside-frame-corner s f = releases-at _ (release-here (m .table) (u .table) (m .t) k s f)
 
   -- ---------------------------------------------------------------- reading a channel
   age-corner : (i : ℕ) → let x = M.message m (i - 1) in

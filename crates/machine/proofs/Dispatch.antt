@@ -27,7 +27,7 @@ use Rattle.machine.specs.Calls.{setMode, createProcess, start, stop, sto
 use Rattle.machine.specs.Objects.{createSemaphore, createEvent, waitSemaphore, waitEvent, signal, setEvent, resetEvent}
 use Rattle.machine.specs.Buffers.{createBuffer, sendBuffer, receiveBuffer}
 use Rattle.machine.specs.Blackboards.{createBlackboard, show, readBlackboard, clear}
-use Rattle.machine.specs.Decisions.{checked}
+use Rattle.machine.specs.Decisions.{checked, awaiting, queued}
 use Rattle.machine.specs.Services.{Service, services, noService, callDecision}
 use Rattle.machine.specs.Places.{malformed, noCaller, ticks}
 use Rattle.machine.specs.Step.{contextOf, decision, restarted, moduleAfter}
@@ -92,6 +92,22 @@ module _ (c : Context) (x : Port) (n : ℕ) (r : Request) (p : Partition) (P : D
       by-test (λ (s : Service). P (s .decides c x r p)) (eqb n 0) (λ z. other (λ lo hi. let e = eqb-true n 0 z in omega arith)) λ z.
       let some = eqb-false n 0 z in
       by-place (λ j (s : Service). n ≡ j → P (s .decides c x r p)) services noService 1 each (n - 1) n (omega arith) (λ h _. other (λ lo hi. let e = all in omega arith)) refl
+
+-- a call that takes no start rule does not look at the release point
+module _ (time frame caller n : ℕ) (x : Port) (r : Request) (p : Partition) (mode : n ≡ 1 → ⊥) (start : n ≡ 3 → ⊥) (delayed : n ≡ 4 → ⊥) (u v : ℕ) where
+  abbrev seen : ℕ → Context
+  seen release = record { time = time; frame = frame; release = release; caller = caller }
+
+  alike : Each (λ j (s : Service). n ≡ j → s .decides (seen u) x r p ≡ s .decides (seen v) x r p) 1 services
+  unfolding Each services awaiting queued createProcess stop stopSelf suspend suspendSelf timedWait periodicWait resume getStatus waitSemaphore waitEvent write read sendBuffer receiveBuffer readBlackboard send receive
+  alike = (λ e. absurd (mode e), (λ _. refl, (λ e. absurd (start e), (λ e. absurd (delayed e), (λ _. refl, (λ _. refl, (λ _. refl, (λ _. refl, (λ _. refl, (λ _. refl, (λ _. refl, (λ _. refl, (λ _. refl, (λ _. refl, (λ _. refl, (λ _. refl, (λ _. refl, (λ _. refl, (λ _. refl, (λ _. refl, (λ _. refl, (λ _. refl, (λ _. refl, (λ _. refl, (λ _. refl, (λ _. refl, (λ _. refl, (λ _. refl, (λ _. refl, (λ _. refl, (λ _. refl, tt)))))))))))))))))))))))))))))))
+
+  pub release-unseen : callDecision (seen u) x n r p ≡ callDecision (seen v) x n r p
+  unfolding callDecision
+  release-unseen =
+      by-test (λ (s : Service). s .decides (seen u) x r p ≡ s .decides (seen v) x r p) (eqb n 0) (λ z. refl) λ z.
+      let some = eqb-false n 0 z in
+      by-place (λ j (s : Service). n ≡ j → s .decides (seen u) x r p ≡ s .decides (seen v) x r p) services noService 1 alike (n - 1) n (omega arith) (λ h _. refl) refl
 
 -- ---------------------------------------------------------------- events
 -- a number that an event gets before the body of its call

@@ -31,10 +31,10 @@ module _ (m : Module) (k : ℕ) (u : SoundModule m) (h : Calling m k) where
         some = point;
         one = release-one T (u .table) t k;
         near = λ r f. omega (arith, f .earliest _ (point .starts) (point .after), release-bounds T (u .table) t (u .time) k .1);
-        atStart = λ s next f e g. releases-at m k u h _ (release-here T (u .table) t k next (g .0) (g .1) (g .2));
+        atStart = λ s next f e g. releases-at m k u h _ (release-here T (u .table) t k next g);
         atLast = λ s first l past f. releases-at m k u h _ (release-next T (u .table) t k first (f .0) (f .1) (λ y g. omega (arith, l .1 y g)));
         single = λ s f one past. releases-at m k u h _ (release-next T (u .table) t k s f (λ y g. omega (arith, one y g)) (λ y g. omega (arith, one y g)));
-        passedOver = λ w s off early before f. releases-at m k u h _ (release-here T (u .table) t k s (f .0) (f .1) (f .2));
+        passedOver = λ w s off early before f. releases-at m k u h _ (release-here T (u .table) t k s f);
         window = λ id n r i normal b off e is inside starts.
             let r-is : releasePoint T t k ≡ r = at-is _ r (sym (ap (λ (x : Process). x .times .release) (started-process m k u h _ point id n normal b off e)) ∙ is) in
             release-window T (u .table) t k r (rw r-is at point) i inside starts;

@@ -16,7 +16,7 @@ use Rattle.machine.specs.declared.Window.{Window}
 use Rattle.machine.specs.Limits.{timeLimit, greatestTime}
 use Rattle.machine.specs.Table.{hasFlagged}
 use Rattle.machine.specs.Valid.{Between, AtMost, SoundWindows, SoundTable}
-use Rattle.machine.specs.Windows.{noWindow, windows, flaggedFor, startsFrom, firstStart, aheadOf, nextStart, releaseAfter, releasePoint, StartAt, Release}
+use Rattle.machine.specs.Windows.{noWindow, windows, flaggedFor, startsFrom, firstStart, aheadOf, nextStart, releaseAfter, releasePoint, StartAt, NextFlagged, Release}
 use Rattle.machine.proofs.Either.{either}
 use Rattle.machine.proofs.Tests.{by-test, and-left, and-right, not-both}
 
@@ -275,8 +275,10 @@ module _ (T : Table) (s : SoundTable T) (t k : ℕ) where
   in-frame q y lo hi = let e : q * T .frame + (y - q * T .frame) ≡ y = omega arith in ap (λ (j : ℕ). j % T .frame) (sym e) ∙ at-frame q (y - q * T .frame) (omega arith)
 
   -- a start ahead in this frame: the nearest of them
-  pub release-here : (x : ℕ) → StartAt T k true x → t % T .frame < x → ((y : ℕ) → StartAt T k true y → t % T .frame < y → x ≤ y) → Release T k t (t / T .frame * T .frame + x)
-  release-here x f late first =
+  pub release-here : (x : ℕ) → NextFlagged T k (t % T .frame) x → Release T k t (t / T .frame * T .frame + x)
+  release-here x h =
+      let f = h .0 in
+      let late = h .1 in
       let q = t / T .frame in
       let split : q * T .frame + t % T .frame ≡ t = div-add-mod' t (T .frame) in
       let last = start-inside true x f in
@@ -284,7 +286,7 @@ module _ (T : Table) (s : SoundTable T) (t k : ℕ) where
         starts = rw (at-frame q x last) f;
         after = omega arith;
         earliest = λ y g after. either (ltb y (q * T .frame + T .frame))
-            (λ p. let e = in-frame q y (omega arith) (ltb-true _ _ p) in let h = first (y - q * T .frame) (rw (← e) g) (omega arith) in omega arith)
+            (λ p. let e = in-frame q y (omega arith) (ltb-true _ _ p) in let o = h .2 (y - q * T .frame) (rw (← e) g) (omega arith) in omega arith)
             (λ p. omega (arith, ltb-false y (q * T .frame + T .frame) p));
       }
 

@@ -1,7 +1,7 @@
 -- The cases of document 01 marked with a star, and its mistakes to shut out, with what document 02 adds, as one list of claims about
 -- `step`: each for every reached record, table and event to which it applies, with what the answer and the record then hold; the worked
--- example, its continuation and the example of releases inside a frame as computed runs from bytes. The premises speak of an event's numbers, the table, the record, the current partition and
--- the running process.
+-- example, its continuation and the example of releases inside a frame as computed runs from bytes. The premises speak of an event's
+-- numbers, the table, the record, the current partition and the running process.
 use Prim.Native.Nat.{ℕ, suc, _+_, _-_, _*_, _/_, _%_, _≤_, _<_}
 use mathlib.Core.Path.{_≡_}
 use mathlib.Core.Bool.{Bool, true, false, cond}
@@ -22,7 +22,7 @@ use Rattle.machine.specs.Ids.{members, idsOf, kept, other}
 use Rattle.machine.specs.Process.{createdProcess, object, carried, ready, withCurrent}
 use Rattle.machine.specs.Partition.{process, semaphore, event, buffer, blackboard, waiters, running, nothingCreated, noted, withProcesses, withSemaphores, withEvents, withBuffers, withBlackboards}
 use Rattle.machine.specs.Messages.{held, queueOf}
-use Rattle.machine.specs.Windows.{StartAt, Release}
+use Rattle.machine.specs.Windows.{Release, NextFlagged}
 use Rattle.machine.specs.Module.{part, message, queue, channel, current, withPart}
 use Rattle.machine.specs.Step.{step}
 use Rattle.machine.specs.Valid.{Between, SoundPeriod, SoundCapacity, Reached, contains, plainLater}
@@ -251,8 +251,7 @@ pub record Corners (m : Module) (k : ℕ) : Type 0 where
       × Refuses m (callBy k 4 (pos id) (pos n) (pos 0) (pos 0)) 3
   -- t before a flagged window of the same frame: the release is the nearest of these, in this frame (document 02, d)
   pub insideFrame : (s : ℕ) → let T = m .table in
-      let x = m .t % T .frame in
-      StartAt T k true s → x < s → ((y : ℕ) → StartAt T k true y → x < y → s ≤ y) → ReleasesAt m k (m .t / T .frame * T .frame + s)
+      NextFlagged T k (m .t % T .frame) s → ReleasesAt m k (m .t / T .frame * T .frame + s)
   -- age refresh/refresh + 1, of a sampling channel
   pub age : (i : ℕ) → let x = message m (i - 1) in
       let refresh = channel (m .table) (i - 1) .refresh in

@@ -79,6 +79,10 @@ pub record StartAt (T : Table) (k : ℕ) (flag : Bool) (x : ℕ) : Type 0 where
   pub flagIs : getD (windows T) at noWindow .flag ≡ flag
   pub starts : getD (windows T) at noWindow .start ≡ x
 
+-- in the frame s is the nearest start of a window of partition k with flag 1 after place x
+abbrev pub NextFlagged : Table → ℕ → ℕ → ℕ → Type 0
+NextFlagged T k x s = StartAt T k true s × (x < s) × ((y : ℕ) → StartAt T k true y → x < y → s ≤ y)
+
 -- r is the earliest start of a window with flag 1, of that partition, strictly after t
 pub record Release (T : Table) (k t r : ℕ) : Type 0 where
   pub starts : StartAt T k true (r % T .frame)

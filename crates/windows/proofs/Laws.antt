@@ -1,8 +1,8 @@
 -- Loops over the windows of a table: what is left from window i on. Assumes nothing.
 use Prim.Native.Nat.{ℕ, _+_, _-_, _%_, _≤_, _<_}
 use mathlib.Core.Bool.{Bool, true, false, not}
-use mathlib.Core.List.{List, [], _∷_}
-use mathlib.Core.Path.{_≡_, refl, sym, _∙_}
+use mathlib.Core.List.{[], _∷_}
+use mathlib.Core.Path.{_≡_, sym}
 use native.Mathlib.Nat.{mod-lt}
 use native.Mathlib.Omega.{arith}
 use lib.IntN.{ℤ}
@@ -16,10 +16,8 @@ use Rattle.machine.specs.declared.Table.{Table}
 use Rattle.machine.specs.declared.Time.{Time}
 use Rattle.machine.specs.declared.Time.the-variants.{Never, At}
 use Rattle.machine.specs.declared.Window.{Window}
-use Rattle.machine.proofs.Either.{either}
 use Rattle.machine.proofs.Starts.{found-from, found-before}
 use Rattle.machine.proofs.Taken.{taken-more, taken-done}
-use Rattle.windows.specs.Search.{orElse}
 
 module _ (T : Table) (i : ℕ) where
   next-window : i < length (windows T) → drop i (windows T) ≡ getD (T .windows) i noWindow ∷ drop (i + 1) (windows T)
@@ -72,40 +70,6 @@ module _ (T : Table) (t k : ℕ) (flagged : Bool) where
       → aheadOf (T .frame) (t % T .frame) r r′ ≡ nextStart T t k flagged
   unfolding nextStart
   next-found some r r′ e e′ = rw (e, e′, ne-eqb (T .frame) 0 some)
-
--- two searches in one pass: from a place on, and from the frame's begin on, whose first start has been found or lies in the windows that are left
-abbrev pub Searched : Table → ℕ → Bool → ℕ → Time → ℕ → Type 0
-Searched T k flagged from first i = let ws = windows T in
-    (firstStart (startsFrom k flagged from) (drop i ws) ≡ firstStart (startsFrom k flagged from) ws)
-    × (orElse first (firstStart (startsFrom k flagged 0) (drop i ws)) ≡ firstStart (startsFrom k flagged 0) ws)
-
-or-else-more : (f : Window → Bool) (first : Time) (w : Window) (ws : List Window) → orElse (orElse first (firstStart f (w ∷ []))) (firstStart f ws) ≡ orElse first (firstStart f (w ∷ ws))
-unfolding firstStart
-or-else-more f (At s) w ws = refl
-or-else-more f Never w ws = either (f w) (λ e. rw e) (λ e. rw e)
-
-or-else-done : (first : Time) → orElse first Never ≡ first
-or-else-done Never = refl
-or-else-done (At s) = refl
-
-module _ (T : Table) (k : ℕ) (flagged : Bool) (from : ℕ) (first : Time) (i n : ℕ) (all : n ≡ length (windows T)) (h : Searched T k flagged from first i) where
-  pub searched-found : i < n → startsFrom k flagged from (getD (T .windows) i noWindow) ≡ true → At (getD (T .windows) i noWindow .start) ≡ firstStart (startsFrom k flagged from) (windows T)
-  searched-found lo e = sym (start-here T i (startsFrom k flagged from) (rw all at lo) e) ∙ h .0
-
-  pub searched-more : i < n → startsFrom k flagged from (getD (T .windows) i noWindow) ≡ false
-      → (next : Time) → next ≡ orElse first (firstStart (startsFrom k flagged 0) (getD (T .windows) i noWindow ∷ [])) → Searched T k flagged from next (i + 1)
-  searched-more lo e next is =
-      let inside : i < length (windows T) = rw all at lo in
-      let f = startsFrom k flagged 0 in
-      let w = getD (T .windows) i noWindow in
-      let left : orElse first (firstStart f (w ∷ drop (i + 1) (windows T))) ≡ firstStart f (windows T) = rw (← next-window T i inside) (h .1) in
-      (sym (start-more T i (startsFrom k flagged from) inside e) ∙ h .0, rw is (or-else-more f first w (drop (i + 1) (windows T)) ∙ left))
-
-  pub searched-done : n ≤ i → (Never ≡ firstStart (startsFrom k flagged from) (windows T)) × (first ≡ firstStart (startsFrom k flagged 0) (windows T))
-  searched-done lo =
-      let past : length (windows T) ≤ i = rw all at lo in
-      let left : orElse first Never ≡ firstStart (startsFrom k flagged 0) (windows T) = rw (← start-done T i (startsFrom k flagged 0) past) (h .1) in
-      (sym (start-done T i (startsFrom k flagged from) past) ∙ h .0, sym (or-else-done first) ∙ left)
 
 -- ---------------------------------------------------------------- the waiting time
 -- the answers, by the two fields and their tests

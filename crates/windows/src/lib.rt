@@ -1,11 +1,9 @@
 // The windows of a table: the current partition, the next start of a window, the release point and the waiting time.
-ghost use mathlib.Core.List.{[], _∷_};
 ghost use mathlib.Core.Path.{_≡_};
 ghost use Prim.Native.Nat.{_≤_};
 ghost use lib.ListN.{length};
 ghost use Rattle.machine.specs.Limits.{windowLimit};
 ghost use Rattle.machine.specs.Windows.{windows, covers, owner, lookup, flaggedFor, releasePoint, startsFrom, firstStart, nextStart, waitingOf};
-ghost use Rattle.windows.specs.Search.{orElse};
 use machine::Lookup;
 use machine::Module;
 use machine::Table;
@@ -90,23 +88,23 @@ fn does_start_from(w: Window, k: u32, flagged: bool, from: u32) -> bool
     from <= w.start as u32
 }
 
-// The start that was found before or, where none was, that of this window if it is wanted.
-fn first_start(before: Time, w: Window, k: u32, flagged: bool) -> Time
-    ensures { λ r. ⌜ r ≡ orElse before (firstStart (startsFrom k flagged 0) (w ∷ [])) ⌝ }
+// The start of the first such window.
+fn first_start(table: Table, k: u32, flagged: bool, from: u32) -> Time
+    ensures { λ r. ⌜ r ≡ firstStart (startsFrom k flagged from) (windows table) ⌝ }
 {
-    match before {
-        Time::At(s) => Time::At(s),
-        Time::Never => {
-            if does_start_from(w, k, flagged, 0) {
-                Time::At(w.start as u32)
-            } else {
-                Time::Never
-            }
+    let n = count(table);
+    let mut i: usize = 0;
+    while i < n {
+        let w = table.windows[i];
+        if does_start_from(w, k, flagged, from) {
+            return Time::At(w.start as u32);
         }
+        i = i + 1;
     }
+    Time::Never
 }
 
-// The next start after t of a window of partition k, as a number of ticks: the first one after this place of the frame, else the frame's first.
+// The next start after t of a window of partition k, as a number of ticks.
 pub fn next_start(table: Table, t: u32, k: u32, flagged: bool) -> u32
     ensures { λ r. ⌜ r ≡ nextStart table t k flagged ⌝ }
 {
@@ -115,21 +113,12 @@ pub fn next_start(table: Table, t: u32, k: u32, flagged: bool) -> u32
         return 0;
     }
     let x = t % frame;
-    let after = x + 1;
-    let n = count(table);
-    let mut first = Time::Never;
-    let mut i: usize = 0;
-    while i < n {
-        let w = table.windows[i];
-        if does_start_from(w, k, flagged, after) {
-            return w.start as u32 - x;
-        }
-        first = first_start(first, w, k, flagged);
-        i = i + 1;
-    }
-    match first {
-        Time::At(s) => s + frame - x,
-        Time::Never => frame,
+    match first_start(table, k, flagged, x + 1) {
+        Time::At(s) => s - x,
+        Time::Never => match first_start(table, k, flagged, 0) {
+            Time::At(s) => s + frame - x,
+            Time::Never => frame,
+        },
     }
 }
 

@@ -187,7 +187,7 @@ module _ (T : Table) (s : SoundTable T) (t k : ℕ) (flagged : Bool) where
   unfolding nextStart
   next-bounds =
       let x = t % T .frame in
-      rw (frame-some T s) (ahead-bounds (T .frame) x place _ _ (found-from k flagged (x + 1) (windows T)) (found-inside (x + 1)) (found-before k flagged (x + 1) (windows T)))
+      rw (frame-some T s) (ahead-bounds (T .frame) x place _ _ (found-from k flagged _ (windows T)) (found-inside _) (found-before k flagged _ (windows T)))
 
   -- a window that passes starts then
   pub next-starts : Between 1 (T .size) k → Passes (startsFrom k flagged 0) (windows T) ((t + nextStart T t k flagged) % T .frame)
@@ -197,7 +197,7 @@ module _ (T : Table) (s : SoundTable T) (t k : ℕ) (flagged : Bool) where
       let ws = windows T in
       let ahead : Passes (startsFrom k flagged 0) ws ((x + nextStart T t k flagged) % T .frame) =
       rw (frame-some T s) (ahead-starts (T .frame) x place (Passes (startsFrom k flagged 0) ws) (inside-frame (startsFrom k flagged 0)) _ _
-      (found-from k flagged (x + 1) ws) (found-start k flagged (x + 1) ws) (found-before k flagged (x + 1) ws) (found-start k flagged 0 ws) (flagged-found k flagged ws (s .flagged k own))) in
+      (found-from k flagged _ ws) (found-start k flagged _ ws) (found-before k flagged _ ws) (found-start k flagged _ ws) (flagged-found k flagged ws (s .flagged k own))) in
       subst (Passes (startsFrom k flagged 0) ws) (mod-add-mod t (T .frame) (nextStart T t k flagged)) ahead
 
   -- and none starts sooner
@@ -215,7 +215,10 @@ module _ (T : Table) (s : SoundTable T) (t : ℕ) where
   -- it lies ahead, by a frame at most
   release-ahead : (k : ℕ) → (t < releaseAfter T t k) × (releaseAfter T t k ≤ t + T .frame)
   unfolding releaseAfter
-  release-ahead k = let b = next-bounds T s t k true in (omega (arith, b .0), omega (arith, b .1))
+  release-ahead k = from-now _ (next-bounds T s t k _)
+    where
+      from-now : (n : ℕ) → Between 1 (T .frame) n → (t < t + n) × (t + n ≤ t + T .frame)
+      from-now n b = (omega (arith, b .0), omega (arith, b .1))
 
   pub release-plain : t ≤ timeLimit → (k : ℕ) → releasePoint T t k ≡ releaseAfter T t k
   unfolding releasePoint
@@ -241,16 +244,15 @@ module _ (T : Table) (s : SoundTable T) (t k : ℕ) where
   pub release-earliest : Between 1 (T .size) k → t ≤ timeLimit → Release T k t (releasePoint T t k)
   unfolding releaseAfter
   release-earliest own ends =
-      let n = nextStart T t k true in
-      let b = next-bounds T s t k true in
+      let ahead = release-ahead T s t k in
       rw (release-plain T s t ends k) (record {
-        starts = start-at T k ((t + n) % T .frame) (next-starts T s t k true own);
-        after = omega (arith, b .0);
+        starts = start-at T k _ (next-starts T s t k _ own);
+        after = ahead .0;
         earliest = λ y f late. either (leb (y - t) (T .frame))
             (λ q.
             let e : t + (y - t) ≡ y = omega arith in
             omega (arith, next-least T s t k true (y - t) (rw e (start-passes T k (y % T .frame) f)) (omega arith) (leb-true _ _ q)))
-            (λ q. omega (arith, b .1, leb-false (y - t) (T .frame) q));
+            (λ q. omega (arith, ahead .1, leb-false (y - t) (T .frame) q));
       })
 
   -- there is one only

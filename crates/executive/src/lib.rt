@@ -97,7 +97,7 @@ fn slot_of(k: u32) -> usize
     (k - 1) as usize
 }
 
-// Whether a call takes the start rule.
+// Whether a call takes the start rule: 1 SET_PARTITION_MODE, 3 START, 4 DELAYED_START.
 fn takes_start_rule(call: u32) -> bool
     ensures { λ r. ⌜ r ≡ takesStartRule call ⌝ }
 {

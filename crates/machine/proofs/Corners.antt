@@ -1,5 +1,5 @@
 -- The starred corners, proved. Assumes nothing.
-use Prim.Native.Nat.{ℕ, zero, suc, _+_, _-_, _*_, _/_, _%_, _≤_, _<_, max}
+use Prim.Native.Nat.{ℕ, suc, _+_, _-_, _*_, _/_, _%_, _≤_, _<_, max}
 use mathlib.Core.Path.{_≡_, refl, sym, ap, ap₂, _∙_}
 use mathlib.Core.Bool.{Bool, true, false, cond, not, _&&_, _||_, and-false}
 use mathlib.Core.List.{List, [], _∷_}
@@ -9,7 +9,7 @@ use lib.ListN.{length, getD, set, take, length-take}
 use lib.Seq.{getD-take}
 use lib.IntN.{ℤ, pos}
 use lib.Dec.{leb, eqb}
-use borrow.Author.Tests.{eq-eqb, ne-eqb, eqb-true, le-leb, lt-leb, lt-ltb, le-ltb}
+use borrow.Author.Tests.{eq-eqb, ne-eqb, le-leb, lt-leb, lt-ltb, le-ltb}
 use Rattle.machine.specs.declared.Process.{Process}
 use Rattle.machine.specs.declared.Partition.{Partition}
 use Rattle.machine.specs.declared.Module.{Module}
@@ -44,8 +44,7 @@ use Rattle.machine.specs.Step as St
 use Rattle.machine.specs.Valid.{Numbered, Between, NotAfter, SoundGiven, SoundPeriod, SoundCapacity, ListedIn, settingOf, plainLater, Valid, SoundModule}
 use Rattle.machine.specs.Replay.{timeNumber}
 use Rattle.machine.specs.Starred.{own, callBy, Gives, Refuses, Puts, Calling, withProcess, without, atEnd, withNew, withNewSemaphore, withNewEvent, withNewBuffer, withNewBlackboard, withSemaphoreAt, Room, NewProcess, NewSemaphore, NewEvent, NewBuffer, NewBlackboard, createBy, given, awaitsRelease, awaitsNext, awaitsNormal, ReleasesAt, Corners}
-use Rattle.machine.proofs.Tests.{and-left, and-right}
-use Rattle.machine.proofs.Bounds.{not-so, within-in, named-in, created-in, semaphore-in, event-in, buffer-in, blackboard-in, stored-in}
+use Rattle.machine.proofs.Bounds.{within-in, named-in, created-in, semaphore-in, event-in, buffer-in, blackboard-in, stored-in}
 use Rattle.machine.proofs.Keeping.{stored-listed, process-stored, each-rest, each-process}
 use Rattle.machine.proofs.Kept.{running-caller}
 use Rattle.machine.proofs.Quiet.{follow-same}

@@ -1,5 +1,5 @@
 -- Every record that a run reaches is valid, and a tick that passes over partitions is the plain one there. Assumes nothing.
-use Prim.Native.Nat.{ℕ, zero, suc, _+_, _-_, _*_, _/_, _%_, _≤_, _<_}
+use Prim.Native.Nat.{ℕ, zero, suc, _+_, _-_, _%_, _≤_, _<_}
 use mathlib.Core.Path.{_≡_, refl, ap, sym, _∙_}
 use mathlib.Core.Bool.{true, false, not, _&&_, and-true, and-false}
 use mathlib.Core.List.{List, [], _∷_, map}
@@ -24,7 +24,7 @@ use Rattle.machine.specs.declared.Request.{Request}
 use Rattle.machine.specs.declared.Decision.{Decision}
 use Rattle.machine.specs.declared.Decision.the-variants.{Refused, Unchanged, Ticked, Blocked, Changed, Restarted, Written, Passed}
 use Rattle.machine.specs.declared.Event.{Event as EventT}
-use Rattle.machine.specs.Limits.{timeLimit, durationLimit, messageLimit, partitionLimit, channelLimit, greatestTime}
+use Rattle.machine.specs.Limits.{timeLimit, durationLimit, messageLimit, partitionLimit, channelLimit}
 use Rattle.machine.specs.Fields.{requestOf, numberOf}
 use Rattle.machine.specs.Messages.{noQueue, queueOf, sent, received, moved, endsWait}
 use Rattle.machine.specs.Process.{object, carried, served}

@@ -1,12 +1,9 @@
 -- Which start releases a periodic process, proved. Assumes nothing.
-use Prim.Native.Nat.{ℕ, _%_, _≤_, _<_}
-use mathlib.Core.Path.{_≡_, refl, ap, sym, _∙_}
-use mathlib.Core.Bool.{true}
+use Prim.Native.Nat.{ℕ}
+use mathlib.Core.Path.{_≡_, ap, sym, _∙_}
 use native.Mathlib.Omega.{arith}
-use lib.ListN.{length, getD}
 use Rattle.machine.specs.declared.Module.{Module}
 use Rattle.machine.specs.declared.Process.{Process}
-use Rattle.machine.specs.declared.Time.{Time}
 use Rattle.machine.specs.declared.Time.the-variants.{At}
 use Rattle.machine.specs.Valid.{SoundModule}
 use Rattle.machine.specs.Windows.{releasePoint, Release}

@@ -16,7 +16,7 @@ use Rattle.machine.specs.declared.Window.{Window}
 use Rattle.machine.specs.Limits.{timeLimit, greatestTime}
 use Rattle.machine.specs.Table.{hasFlagged}
 use Rattle.machine.specs.Valid.{Between, AtMost, SoundWindows, SoundTable}
-use Rattle.machine.specs.Windows.{noWindow, windows, flaggedFor, startsFrom, firstStart, aheadOf, nextStart, releaseAfter, releasePoint, StartAt, NextFlagged, Release}
+use Rattle.machine.specs.Windows.{noWindow, windows, flaggedFor, startsFrom, firstStart, aheadOf, nextStart, releaseAfter, releasePoint, WindowAt, NextFlagged, Release}
 use Rattle.machine.proofs.Either.{either}
 use Rattle.machine.proofs.Tests.{by-test, and-left, and-right, not-both}
 
@@ -229,12 +229,12 @@ module _ (T : Table) (s : SoundTable T) (t : ℕ) where
 
 -- two words for a window with flag 1 of the partition
 module _ (T : Table) (k x : ℕ) where
-  start-at : Passes (startsFrom k true 0) (windows T) x → StartAt T k true x
+  start-at : Passes (startsFrom k true 0) (windows T) x → WindowAt T k true x
   start-at p =
       let w = getD (windows T) (p .at) noWindow in
       record { at = p .at; inside = p .inside; owner = eqb-true (w .partition) k (passes-own k true 0 w (p .passed)); flagIs = passes-flag k true 0 w (p .passed); starts = p .starts }
 
-  start-passes : StartAt T k true x → Passes (startsFrom k true 0) (windows T) x
+  start-passes : WindowAt T k true x → Passes (startsFrom k true 0) (windows T) x
   start-passes f =
       let w = getD (windows T) (f .at) noWindow in
       record { at = f .at; inside = f .inside; passed = rw (eq-eqb (w .partition) k (f .owner), f .flagIs) (le-leb 0 (w .start) (omega arith)); starts = f .starts }
@@ -266,8 +266,8 @@ module _ (T : Table) (s : SoundTable T) (t k : ℕ) where
       let w = one-start 0 (T .frame) (T .size) (windows T) (s .eachWindow) i (z .at) inside (z .inside) (e ∙ sym (z .starts)) in
       (ap (λ (v : Window). v .partition) w ∙ z .owner, ap (λ (v : Window). v .flag) w ∙ z .flagIs)
 
-  start-inside : (flag : Bool) (x : ℕ) → StartAt T k flag x → x < T .frame
-  start-inside flag x f = omega (arith, starts-after 0 (T .frame) (T .size) (windows T) (s .eachWindow) (f .at) (f .inside) .1, f .starts)
+  start-inside : (x : ℕ) → WindowAt T k true x → x < T .frame
+  start-inside x f = inside-frame T s t k true (startsFrom k true 0) x (start-passes T k x f)
 
   -- a place of frame q
   at-frame : (q y : ℕ) → y < T .frame → (q * T .frame + y) % T .frame ≡ y
@@ -283,7 +283,7 @@ module _ (T : Table) (s : SoundTable T) (t k : ℕ) where
       let late = h .1 in
       let q = t / T .frame in
       let split : q * T .frame + t % T .frame ≡ t = div-add-mod' t (T .frame) in
-      let last = start-inside true x f in
+      let last = start-inside x f in
       record {
         starts = rw (at-frame q x last) f;
         after = omega arith;
@@ -293,12 +293,12 @@ module _ (T : Table) (s : SoundTable T) (t k : ℕ) where
       }
 
   -- none ahead in this frame: the first of the next one
-  pub release-next : (x : ℕ) → StartAt T k true x → ((y : ℕ) → StartAt T k true y → x ≤ y) → ((y : ℕ) → StartAt T k true y → y ≤ t % T .frame) → Release T k t ((t / T .frame + 1) * T .frame + x)
+  pub release-next : (x : ℕ) → WindowAt T k true x → ((y : ℕ) → WindowAt T k true y → x ≤ y) → ((y : ℕ) → WindowAt T k true y → y ≤ t % T .frame) → Release T k t ((t / T .frame + 1) * T .frame + x)
   release-next x f first past =
       let q = t / T .frame in
       let split : q * T .frame + t % T .frame ≡ t = div-add-mod' t (T .frame) in
       let here : t % T .frame < T .frame = place T s t k true in
-      let last = start-inside true x f in
+      let last = start-inside x f in
       record {
         starts = rw (at-frame (q + 1) x last) f;
         after = omega arith;

@@ -11,15 +11,15 @@ use Rattle.machine.specs.declared.Time.the-variants.{At}
 use Rattle.machine.specs.Partition.{process}
 use Rattle.machine.specs.Step.{step}
 use Rattle.machine.specs.Valid.{Between}
-use Rattle.machine.specs.Windows.{windows, noWindow, releasePoint, StartAt, NextFlagged, Release}
+use Rattle.machine.specs.Windows.{windows, noWindow, releasePoint, WindowAt, NextFlagged, Release}
 use Rattle.machine.specs.Starred.{own, callBy, ReleasesAt}
 
 -- s is the first in the frame of the starts of windows of partition k with flag 1, the last of them
 abbrev pub FirstFlagged : Table → ℕ → ℕ → Type 0
-FirstFlagged T k s = StartAt T k true s × ((y : ℕ) → StartAt T k true y → s ≤ y)
+FirstFlagged T k s = WindowAt T k true s × ((y : ℕ) → WindowAt T k true y → s ≤ y)
 
 abbrev pub LastFlagged : Table → ℕ → ℕ → Type 0
-LastFlagged T k s = StartAt T k true s × ((y : ℕ) → StartAt T k true y → y ≤ s)
+LastFlagged T k s = WindowAt T k true s × ((y : ℕ) → WindowAt T k true y → y ≤ s)
 
 pub record Releases (m : Module) (k : ℕ) : Type 0 where
   -- there is an earliest start, which is the machine's release point, and one only
@@ -31,7 +31,7 @@ pub record Releases (m : Module) (k : ℕ) : Type 0 where
   pub atStart : (s next : ℕ) → let T = m .table in
       let q = m .t / T .frame in
       let x = m .t % T .frame in
-      StartAt T k true s → x ≡ s → NextFlagged T k x next → ReleasesAt m k (q * T .frame + next)
+      WindowAt T k true s → x ≡ s → NextFlagged T k x next → ReleasesAt m k (q * T .frame + next)
   -- and at or after the frame's last one, the first of the next frame
   pub atLast : (s first : ℕ) → let T = m .table in
       let q = m .t / T .frame in
@@ -41,12 +41,12 @@ pub record Releases (m : Module) (k : ℕ) : Type 0 where
   pub single : (s : ℕ) → let T = m .table in
       let q = m .t / T .frame in
       let x = m .t % T .frame in
-      StartAt T k true s → ((y : ℕ) → StartAt T k true y → y ≡ s) → s ≤ x → ReleasesAt m k ((q + 1) * T .frame + s)
+      WindowAt T k true s → ((y : ℕ) → WindowAt T k true y → y ≡ s) → s ≤ x → ReleasesAt m k ((q + 1) * T .frame + s)
   -- windows without the flag are passed over: one that starts before the next flagged one
   pub passedOver : (u s : ℕ) → let T = m .table in
       let q = m .t / T .frame in
       let x = m .t % T .frame in
-      StartAt T k false u → x < u → u < s → NextFlagged T k x s → ReleasesAt m k (q * T .frame + s)
+      WindowAt T k false u → x < u → u < s → NextFlagged T k x s → ReleasesAt m k (q * T .frame + s)
   -- and whichever window starts where START has put the release, it is the partition's and has flag 1
   pub window : (id n r i : ℕ) → let T = m .table in
       let p = own m k in

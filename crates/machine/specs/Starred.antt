@@ -6,7 +6,7 @@ use Prim.Native.Nat.{ℕ, suc, _+_, _-_, _*_, _/_, _%_, _≤_, _<_}
 use mathlib.Core.Path.{_≡_}
 use mathlib.Core.Bool.{Bool, true, false, cond}
 use mathlib.Core.List.{List, [], _∷_, _++_, map}
-use lib.ListN.{length, getD, set, take}
+use lib.ListN.{set, take}
 use lib.IntN.{ℤ, pos}
 use Rattle.machine.specs.declared.Given.{Given}
 use Rattle.machine.specs.declared.Ids.{Ids}

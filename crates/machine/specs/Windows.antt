@@ -55,7 +55,7 @@ aheadOf frame x (At s) next = s - x
 aheadOf frame x Never (At s) = s + frame - x
 aheadOf frame x Never Never = frame
 
--- the next start after t of a window of partition k, as a number of ticks. Bound: 0 where M is 0
+-- the next start after t of a window of partition k, with flag 1 where it is asked for, as a number of ticks. Bound: 0 where M is 0
 unfoldable pub nextStart : Table → ℕ → ℕ → Bool → ℕ
 nextStart T t k flagged =
     let x = t % T .frame in
@@ -72,7 +72,7 @@ unfoldable pub releasePoint : Table → ℕ → ℕ → ℕ
 releasePoint T t k = capped (releaseAfter T t k)
 
 -- a window of partition k with this flag starts at place x of the frame
-pub record StartAt (T : Table) (k : ℕ) (flag : Bool) (x : ℕ) : Type 0 where
+pub record WindowAt (T : Table) (k : ℕ) (flag : Bool) (x : ℕ) : Type 0 where
   pub at : ℕ
   pub inside : at < length (windows T)
   pub owner : getD (windows T) at noWindow .partition ≡ k
@@ -81,13 +81,13 @@ pub record StartAt (T : Table) (k : ℕ) (flag : Bool) (x : ℕ) : Type 0 where
 
 -- in the frame s is the nearest start of a window of partition k with flag 1 after place x
 abbrev pub NextFlagged : Table → ℕ → ℕ → ℕ → Type 0
-NextFlagged T k x s = StartAt T k true s × (x < s) × ((y : ℕ) → StartAt T k true y → x < y → s ≤ y)
+NextFlagged T k x s = WindowAt T k true s × (x < s) × ((y : ℕ) → WindowAt T k true y → x < y → s ≤ y)
 
 -- r is the earliest start of a window with flag 1, of that partition, strictly after t
 pub record Release (T : Table) (k t r : ℕ) : Type 0 where
-  pub starts : StartAt T k true (r % T .frame)
+  pub starts : WindowAt T k true (r % T .frame)
   pub after : t < r
-  pub earliest : (s : ℕ) → StartAt T k true (s % T .frame) → t < s → r ≤ s
+  pub earliest : (s : ℕ) → WindowAt T k true (s % T .frame) → t < s → r ≤ s
 
 -- ---------------------------------------------------------------- the waiting time
 -- a window of partition k starts at x

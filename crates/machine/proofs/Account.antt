@@ -468,7 +468,7 @@ module _ (j : ℕ) (m : Module) (s : SoundModule m) (e : EventT) (es : List Even
           let ok = in-limits 0 durationLimit (r .b) (and-left (isMessage (r .b)) _ (not-false _ (h .1 .1 .0))) .1 in
           by-test EvenAfter (hasRoom now)
           (λ room. sent-even (waiters (queueNumber 4 j) p) refl room ok)
-          (λ _. by-codes EvenAfter bodyRefusal Refused _ _ refl refused-by (λ _. record { is = blocked-even (running p) (caller-in (in-normal ctx p own-valid sound-ctx (h .1 .0))) (later (At (m .t)) (timeOf (r .c))) refl })))
+          (λ _. by-codes EvenAfter bodyRefusal Refused _ _ refl refused-by (λ _. by-codes EvenAfter bodyRefusal Refused _ _ refl refused-by (λ _. record { is = blocked-even (running p) (caller-in (in-normal ctx p own-valid sound-ctx (h .1 .0))) (later (At (m .t)) (timeOf (r .c))) refl }))))
 
     -- ------------------------------------------------------------ RECEIVE
     module _ (to : isSend flow-is e ≡ false) (from : isReceive flow-is e ≡ true) (on : (code : ℕ) → restartsBy k e code ≡ false) (stays-on : givesUp flow-is e 0 ≡ false) where
@@ -533,10 +533,10 @@ module _ (j : ℕ) (m : Module) (s : SoundModule m) (e : EventT) (es : List Even
       receive-even = by-codes EvenAfter bodyRefusal Refused _ _ refl refused-by (λ h.
           by-test EvenAfter (holds now)
           (λ some. received-even (waiters senders p) refl some)
-          (λ _. by-codes EvenAfter bodyRefusal Refused _ _ refl refused-by (λ _.
+          (λ _. by-codes EvenAfter bodyRefusal Refused _ _ refl refused-by (λ _. by-codes EvenAfter bodyRefusal Refused _ _ refl refused-by (λ _.
           let x = waitingFor (Receiving j) (later (At (m .t)) (timeOf (r .b))) (process (running p) p) in
           let q = withPart (k - 1) (stored (running p) x p) m in
-          record { is = waits-even (running p) x (caller-in (in-normal ctx p own-valid sound-ctx (h .1 .0))) (λ z. omega arith) 7 0 (on 7) (and-false (isReceive flow-is e)) (Fl.no-sent flow-is m e es q 7 to) (Fl.refused-received flow-is m e es q 7 0 refl) })))
+          record { is = waits-even (running p) x (caller-in (in-normal ctx p own-valid sound-ctx (h .1 .0))) (λ z. omega arith) 7 0 (on 7) (and-false (isReceive flow-is e)) (Fl.no-sent flow-is m e es q 7 to) (Fl.refused-received flow-is m e es q 7 0 refl) }))))
 
     -- ------------------------------------------------------------ every call
     -- a SEND with a bad message is refused

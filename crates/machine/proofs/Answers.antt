@@ -77,7 +77,7 @@ decided-range m s r =
 pub running-bound : (frame t : ℕ) (p : Partition) → Valid frame t p → running p ≤ processLimit
 running-bound frame t p v = either (eqb (running p) 0)
     (λ e. omega (arith, eqb-true (running p) 0 e))
-    (λ e. let b = running-caller p (v .lists) (eqb-false (running p) 0 e) .created in omega (arith, b .1, v .lists .numbered .few))
+    (λ e. let b = running-caller p (v .lists) (v .lock) (eqb-false (running p) 0 e) .created in omega (arith, b .1, v .lists .numbered .few))
 
 shown-bound : (m : Module) → SoundModule m → (b : Bool) → cond b (runningIn (current m) m) 0 ≤ processLimit
 shown-bound m s b = by-test (λ (n : ℕ). n ≤ processLimit) b

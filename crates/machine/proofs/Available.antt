@@ -19,7 +19,7 @@ use Rattle.machine.specs.declared.Blackboard.{Blackboard as BlackboardT}
 use Rattle.machine.specs.declared.Transfer.{Transfer}
 use Rattle.machine.specs.declared.Transfer.the-variants.{Put, HandedTo, Taken, LetIn}
 use Rattle.machine.specs.declared.Change.{Change}
-use Rattle.machine.specs.declared.Change.the-variants.{Nothing, Stored, Created, Last, StoredSemaphore, StoredEvent, CreatedBuffer, Moved, StoredBlackboard, Ended, Handed, Entered}
+use Rattle.machine.specs.declared.Change.the-variants.{Nothing, Stored, Created, Last, StoredSemaphore, StoredEvent, CreatedBuffer, Moved, StoredBlackboard, Ended, Handed, LevelSet, Entered}
 use Rattle.machine.specs.declared.Decision.{Decision}
 use Rattle.machine.specs.declared.Decision.the-variants.{Refused, Unchanged, Ticked, Blocked, Changed, Restarted, Written, Passed as PassedOn}
 use Rattle.machine.specs.declared.Wait.{Wait}
@@ -34,7 +34,7 @@ use Rattle.machine.specs.Process.{Class, classOf, objectIn, object, late
 use Rattle.machine.specs.Partition.{within, byId, noSemaphore, noEvent, noBuffer, noBlackboard, process, event, buffer, blackboard, normalMode, movedIn, endedBy, firstWaiter, withMode, stored, storedSemaphore, storedEvent, storedBuffer, storedBlackboard, created, arrivedLast, waiters, changedAll, each, enteredNormal, tickPartition, applied, nothingCreated, noted, freshPartition}
 use Rattle.machine.specs.Fields.{isNumber, isMessage, numberOf, timeOf, requestOf}
 use Rattle.machine.specs.Decisions.{checked, changed, blocked, unknown, startMode, queued, awaiting}
-use Rattle.machine.specs.Calls.{setMode, createProcess, start, stop, stopSelf, suspend, suspendSelf, timedWait, periodicWait, resume, setPriority, getStatus}
+use Rattle.machine.specs.Calls.{setMode, createProcess, start, stop, stopSelf, suspend, suspendSelf, timedWait, periodicWait, resume, setPriority, getStatus, lockPreemption, unlockPreemption}
 use Rattle.machine.specs.Objects.{withUp, createSemaphore, waitSemaphore, signalled, signal, createEvent, setEvent, resetEvent, waitEvent}
 use Rattle.machine.specs.Buffers.{createBuffer, hasRoom, holds, sendBuffer, receiveBuffer}
 use Rattle.machine.specs.Blackboards.{createBlackboard, show, showing, readBlackboard, clear}
@@ -84,6 +84,7 @@ OnProcesses (Moved k a) = ⊥
 OnProcesses (StoredBlackboard k b) = ⊥
 OnProcesses (Ended o) = Unit {0}
 OnProcesses (Handed o m) = Unit {0}
+OnProcesses (LevelSet level holder) = Unit {0}
 OnProcesses (Entered c) = Unit {0}
 
 pub objects-stay : (a : Change) → OnProcesses a → (p : Partition) → ListedIn p → SameObjects p (applied a p)
@@ -99,6 +100,7 @@ objects-stay (Moved k a) h p v = absurd h
 objects-stay (StoredBlackboard k b) h p v = absurd h
 objects-stay (Ended o) h p v = rest-objects p _ (changed-rest served (waiters o p) p)
 objects-stay (Handed o m) h p v = rest-objects p _ (changed-rest (handed m) (waiters o p) p)
+objects-stay (LevelSet level holder) h p v = record { semaphores = refl; events = refl; buffers = refl; blackboards = refl }
 objects-stay (Entered c) h p v = along-objects p (withMode 3 p) _ (record { semaphores = refl; events = refl; buffers = refl; blackboards = refl }) (rest-objects (withMode 3 p) _ (each-rest (entered c) (withMode 3 p) v))
 
 pub available-same : (p q : Partition) → SameObjects p q → (kind k : ℕ) → available kind k q ≡ available kind k p
@@ -326,7 +328,7 @@ module _ (c : Context) (p : Partition) (v : Valid (c .frame) (c .time) p) (s : S
       let b = known-id j count (h .0) in
       by-test (IsFair x n p) at-once
       (λ e. done b (and-left beside _ (not-false _ (h .1 .1 .0))) e)
-      (λ e. fair-checks _ _ (λ _. fair (on-object (c .caller) (waitingFor w (later (At (c .time)) (timeOf a)) (process (c .caller) p)) kind j (ap objectIn class) (omega (arith, b .1)) below (is ∙ e)))))
+      (λ e. fair-checks _ _ (λ _. fair-checks _ _ (λ _. fair (on-object (c .caller) (waitingFor w (later (At (c .time)) (timeOf a)) (process (c .caller) p)) kind j (ap objectIn class) (omega (arith, b .1)) below (is ∙ e))))))
 
   -- nobody waits where there is no first
   no-first : (o : ℕ) → eqb (firstWaiter o p) 0 ≡ true → waiters o p ≡ []
@@ -467,20 +469,20 @@ module _ (c : Context) (p : Partition) (v : Valid (c .frame) (c .time) p) (s : S
   send-channel-fair call m a = fair-checks _ _ (λ h.
       let on = not-false _ (h .1 .0) in
       let k = ltb-true (x .place) channelLimit (and-right (queuing (x .channel)) _ on) in
-      by-test (IsFair x n p) (ltb (x .traffic .len) (x .channel .size)) (λ _. fair tt) (λ e. fair-checks _ _ (λ _. fair (
+      by-test (IsFair x n p) (ltb (x .traffic .len) (x .channel .size)) (λ _. fair tt) (λ e. fair-checks _ _ (λ _. fair-checks _ _ (λ _. fair (
         at-end (Source (x .place + 1) (numberOf m)) 6 (x .place + 1) refl (omega arith),
         (λ j few o. record { call = call; place = omega arith; there = not-false _ (h .0); kind = and-left (queuing (x .channel)) _ on; source = eqb-true _ _ (not-false _ (h .1 .1 .1 .0)); full = ltb-false _ _ e }, λ j few o. absurd (omega arith)),
-      ))))
+      )))))
 
   receive-channel-fair : n ≡ 31 → (a : Field) → IsFair x n p (receive c x a p)
   unfolding receive awaiting queued blocked channelChecks Passed
   receive-channel-fair call a = fair-checks _ _ (λ h.
       let on = not-false _ (h .1 .0) in
       let k = ltb-true (x .place) channelLimit (and-right (queuing (x .channel)) _ on) in
-      by-test (IsFair x n p) (ltb 0 (x .traffic .len)) (λ _. fair tt) (λ e. fair-checks _ _ (λ _. fair (
+      by-test (IsFair x n p) (ltb 0 (x .traffic .len)) (λ _. fair tt) (λ e. fair-checks _ _ (λ _. fair-checks _ _ (λ _. fair (
         at-end (Destination (x .place + 1)) 7 (x .place + 1) refl (omega arith),
         (λ j few o. absurd (omega arith), λ j few o. record { call = call; place = omega arith; there = not-false _ (h .0); kind = and-left (queuing (x .channel)) _ on; destination = eqb-true _ _ (not-false _ (h .1 .1 .1 .0)); empty = let z : x .traffic .len ≤ 0 = ltb-false 0 _ e in omega arith }),
-      ))))
+      )))))
 
   -- ------------------------------------------------------------ blackboards
   create-blackboard-fair : (name : Field) → IsFair x n p (createBlackboard name p)
@@ -508,21 +510,21 @@ module _ (c : Context) (p : Partition) (v : Valid (c .frame) (c .time) p) (s : S
   unfolding suspendSelf blocked Passed
   self-fair a = fair-checks _ _ (λ h. by-test (IsFair x n p) (isNumber 0 a) (λ _. fair tt) (λ _.
       let q = normal-caller c p v s (in-normal c p v s (or-false-parts (startMode p) _ (h .0) .0)) in
-      fair (no-object (c .caller) (suspendedUntil (later (At (c .time)) (timeOf a)) (process (c .caller) p)) (ready-off (process (c .caller) p) (q .isReady)))))
+      fair-checks _ _ (λ _. fair (no-object (c .caller) (suspendedUntil (later (At (c .time)) (timeOf a)) (process (c .caller) p)) (ready-off (process (c .caller) p) (q .isReady))))))
 
   pub call-fair : (r : Request) → IsFair x n p (callDecision c x n r p)
-  unfolding setMode createProcess start stop stopSelf suspend timedWait periodicWait resume setPriority getStatus blocked write read channelChecks Passed
+  unfolding setMode createProcess start stop stopSelf suspend timedWait periodicWait resume setPriority getStatus blocked write read channelChecks lockPreemption unlockPreemption Passed
   call-fair r =
       by-call c x n r p (IsFair x n p)
       (λ _. fair-checks _ _ (λ _. by-test (IsFair x n p) (isNumber 3 (r .a)) (λ _. fair (one-process (Entered c) tt)) (λ _. fair tt)))
       (λ _. fair-checks _ _ (λ _. fair (one-process (Created _ _) tt)))
       (λ id delay. fair-checks _ _ (λ _. fair (one-process (Stored id _) tt)))
       (λ _ id. fair-checks _ _ (λ _. fair (one-process (Stored id _) tt)))
-      (fair-checks _ _ (λ _. fair (one-process (Stored (c .caller) _) tt)))
+      (λ _. fair-checks _ _ (λ _. fair (by-processes (LevelSet 0 0) (Stored (c .caller) _) 0 tt tt lists)))
       (λ id. fair-checks _ _ (λ _. fair (one-process (Stored id _) tt)))
       self-fair
-      (λ a. fair-checks _ _ (λ _. by-test (IsFair x n p) (isNumber 0 a) (λ _. fair (one-process (Last (c .caller)) tt)) (λ _. fair (no-object (c .caller) (waitingFor Timed (later (At (c .time)) (timeOf a)) (process (c .caller) p)) refl))))
-      (fair-checks _ _ (λ _. fair (no-object (c .caller) (nextRelease (process (c .caller) p)) refl)))
+      (λ a. fair-checks _ _ (λ _. by-test (IsFair x n p) (isNumber 0 a) (λ _. fair (one-process (Last (c .caller)) tt)) (λ _. fair-checks _ _ (λ _. fair (no-object (c .caller) (waitingFor Timed (later (At (c .time)) (timeOf a)) (process (c .caller) p)) refl)))))
+      (fair-checks _ _ (λ _. fair-checks _ _ (λ _. fair (no-object (c .caller) (nextRelease (process (c .caller) p)) refl))))
       (λ id. fair-checks _ _ (λ _. fair (one-process (Stored id _) tt)))
       (λ id a. fair-checks _ _ (λ h.
       let b = known-id id (p .processCount) (h .0) in
@@ -547,6 +549,8 @@ module _ (c : Context) (p : Partition) (v : Valid (c .frame) (c .time) p) (s : S
       clear-fair
       (λ e. send-channel-fair e _ _)
       (λ e. receive-channel-fair e _)
+      (λ _. fair-checks _ _ (λ _. fair (one-process (LevelSet _ _) tt)))
+      (λ _. fair-checks _ _ (λ _. fair (one-process (LevelSet _ _) tt)))
       (λ _. fair tt)
 
 -- ---------------------------------------------------------------- a partition after a decision

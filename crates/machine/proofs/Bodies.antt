@@ -1,5 +1,5 @@
 -- The bodies of calls answer 0, 7 or a code 1 to 5, a message is left by its channel's source alone, and a transfer is made at the ends of a queuing
--- channel alone: for every record and every event.
+-- channel alone, and the preemption lock is reached by calls 1, 6, 32 and 33 alone: for every record and every event.
 -- Assumes nothing.
 use Prim.Native.Nat.{ℕ, _≤_, _<_}
 use mathlib.Core.Path.{_≡_, refl}
@@ -14,14 +14,19 @@ use Rattle.machine.specs.declared.Port.{Port}
 use Rattle.machine.specs.declared.Request.{Request}
 use Rattle.machine.specs.declared.Field.{Field}
 use Rattle.machine.specs.declared.Wait.{Wait}
+use Rattle.machine.specs.declared.Wait.the-variants.{Semaphore}
 use Rattle.machine.specs.declared.Transfer.{Transfer}
+use Rattle.machine.specs.declared.Change.{Change}
+use Rattle.machine.specs.declared.Change.the-variants.{Nothing, Stored, Created, Last, StoredSemaphore, StoredEvent, CreatedBuffer, Moved, StoredBlackboard, Ended, Handed, LevelSet, Entered}
 use Rattle.machine.specs.declared.Decision.{Decision}
 use Rattle.machine.specs.declared.Decision.the-variants.{Refused, Unchanged, Ticked, Blocked, Changed, Restarted, Written, Passed as PassedOn}
 use Rattle.machine.specs.Fields.{isNumber, isTimeout, numberOf}
 use Rattle.machine.specs.Messages.{sent, received}
+use Rattle.machine.specs.Process.{object, ready, withCurrent}
+use Rattle.machine.specs.Partition.{process, waiters}
 use Rattle.machine.specs.Decisions.{checked, replyOf, blocked, startMode, waitChecks, queued, awaiting}
-use Rattle.machine.specs.Calls.{setMode, createProcess, start, stop, stopSelf, suspend, suspendSelf, timedWait, periodicWait, resume, setPriority, getStatus}
-use Rattle.machine.specs.Objects.{createSemaphore, waitSemaphore, signal, createEvent, setEvent, resetEvent, waitEvent}
+use Rattle.machine.specs.Calls.{setMode, createProcess, start, stop, stopSelf, suspend, suspendSelf, timedWait, periodicWait, resume, setPriority, getStatus, lockPreemption, unlockPreemption}
+use Rattle.machine.specs.Objects.{createSemaphore, waitSemaphore, signalled, signal, createEvent, setEvent, resetEvent, waitEvent}
 use Rattle.machine.specs.Channels.{queuing, queuingPort, channelChecks, write, read, send, receive}
 use Rattle.machine.specs.Buffers.{createBuffer, sendBuffer, receiveBuffer}
 use Rattle.machine.specs.Blackboards.{createBlackboard, show, readBlackboard, clear}
@@ -71,14 +76,34 @@ pub record OnQueue (x : Port) (n i : ℕ) (a : Transfer) (value : ℕ) : Type 0 
   pub placed : x .place < channelLimit
   pub end : Sends x n a value ⊎ Receives x n a value
 
+-- calls 1, 6, 32 and 33
+abbrev pub setsLevel : ℕ → Bool
+setsLevel n = eqb n 1 || (eqb n 6 || (eqb n 32 || eqb n 33))
+
+-- a change that leaves the preemption lock, unless the call is one of these
+abbrev pub LevelBy : ℕ → Change → Type 0
+LevelBy n Nothing = Unit {0}
+LevelBy n (Stored id x) = Unit {0}
+LevelBy n (Created id x) = Unit {0}
+LevelBy n (Last id) = Unit {0}
+LevelBy n (StoredSemaphore k s) = Unit {0}
+LevelBy n (StoredEvent k e) = Unit {0}
+LevelBy n (CreatedBuffer k name limit) = Unit {0}
+LevelBy n (Moved k a) = Unit {0}
+LevelBy n (StoredBlackboard k b) = Unit {0}
+LevelBy n (Ended o) = Unit {0}
+LevelBy n (Handed o m) = Unit {0}
+LevelBy n (LevelSet level holder) = setsLevel n ≡ true
+LevelBy n (Entered c) = setsLevel n ≡ true
+
 -- what the body of a call decides
 abbrev pub Bodily : Port → ℕ → Decision → Type 0
 Bodily x n (Refused code) = bodyRefusal code ≡ true
 Bodily x n (Unchanged value extra) = Unit {0}
 Bodily x n Ticked = ⊥
 Bodily x n (Blocked id y) = Unit {0}
-Bodily x n (Changed a b value) = Unit {0}
-Bodily x n (Restarted mode) = Unit {0}
+Bodily x n (Changed a b value) = LevelBy n a × LevelBy n b
+Bodily x n (Restarted mode) = setsLevel n ≡ true
 Bodily x n (Written i y) = FromSource x n i
 Bodily x n (PassedOn i a value) = OnQueue x n i a value
 
@@ -101,45 +126,55 @@ module _ (x : Port) (n : ℕ) where
   in-wait c before beside after a b success w p h f =
       in-body _ _ h (λ g.
       let u = passed-parts before _ g in
-      by-test (Body x n) b (λ e. f (u .0) (and-left beside _ (not-false _ (u .1 .1 .0))) e) (λ _. in-body _ _ refl (λ _. fine tt)))
+      by-test (Body x n) b (λ e. f (u .0) (and-left beside _ (not-false _ (u .1 .1 .0))) e) (λ _. in-body _ _ refl (λ _. in-body _ _ refl (λ _. fine tt))))
+
+  signalled-by : (l : List ℕ) (k : ℕ) (p : Partition) → LevelBy n (signalled l k p)
+  unfolding signalled
+  signalled-by [] k p = tt
+  signalled-by (id ∷ l) k p = tt
 
   -- the body of each call
   pub call-body : (c : Context) (r : Request) (p : Partition) → 1 ≤ n → n ≤ callLimit → Body x n (callDecision c x n r p)
-  unfolding setMode createProcess start stop stopSelf suspend suspendSelf timedWait periodicWait resume setPriority getStatus createSemaphore createEvent blocked waitSemaphore waitEvent signal setEvent resetEvent write read channelChecks createBuffer sendBuffer receiveBuffer createBlackboard show readBlackboard clear send receive Passed
+  unfolding setMode createProcess start stop stopSelf suspend suspendSelf timedWait periodicWait resume setPriority getStatus createSemaphore createEvent blocked waitSemaphore waitEvent signal setEvent resetEvent write read channelChecks createBuffer sendBuffer receiveBuffer createBlackboard show readBlackboard clear send receive lockPreemption unlockPreemption Passed
   call-body c r p lo hi =
       by-call c x n r p (Body x n)
-      (λ _. in-body _ _ refl (λ _. by-test (Body x n) (isNumber 3 (r .a)) (λ _. fine tt) (λ _. fine tt)))
+      (λ e. in-body _ _ refl (λ _. by-test (Body x n) (isNumber 3 (r .a)) (λ _. fine (sets e, tt)) (λ _. fine (sets e))))
+      (λ _. in-body _ _ refl (λ _. fine (tt, tt)))
+      (λ _ _. in-body _ _ refl (λ _. fine (tt, tt)))
+      (λ _ _. in-body _ _ refl (λ _. fine (tt, tt)))
+      (λ e. in-body _ _ refl (λ _. fine (rw e, tt)))
+      (λ _. in-body _ _ refl (λ _. fine (tt, tt)))
+      (λ a. in-body _ _ refl (λ _. by-test (Body x n) (isNumber 0 a) (λ _. fine tt) (λ _. in-body _ _ refl (λ _. fine tt))))
+      (λ a. in-body _ _ refl (λ _. by-test (Body x n) (isNumber 0 a) (λ _. fine (tt, tt)) (λ _. in-body _ _ refl (λ _. fine tt))))
+      (in-body _ _ refl (λ _. in-body _ _ refl (λ _. fine tt)))
+      (λ _. in-body _ _ refl (λ _. fine (tt, tt)))
+      (λ id a. in-body _ _ refl (λ _. by-test (λ (b : Change). Body x n (Changed (Stored id (withCurrent (numberOf a) (process id p))) b 0)) (ready (process id p)) (λ _. fine (tt, tt)) (λ _. fine (tt, tt))))
       (λ _. in-body _ _ refl (λ _. fine tt))
-      (λ _ _. in-body _ _ refl (λ _. fine tt))
-      (λ _ _. in-body _ _ refl (λ _. fine tt))
-      (in-body _ _ refl (λ _. fine tt))
-      (λ _. in-body _ _ refl (λ _. fine tt))
-      (λ a. in-body _ _ refl (λ _. by-test (Body x n) (isNumber 0 a) (λ _. fine tt) (λ _. fine tt)))
-      (λ a. in-body _ _ refl (λ _. by-test (Body x n) (isNumber 0 a) (λ _. fine tt) (λ _. fine tt)))
-      (in-body _ _ refl (λ _. fine tt))
-      (λ _. in-body _ _ refl (λ _. fine tt))
-      (λ _ _. in-body _ _ refl (λ _. fine tt))
-      (λ _. in-body _ _ refl (λ _. fine tt))
-      (λ _. in-body _ _ refl (λ _. fine tt))
-      (λ _ _. in-wait c _ _ _ _ _ _ _ p refl (λ _ _ _. fine tt))
-      (λ _. in-body _ _ refl (λ _. fine tt))
-      (λ _. in-body _ _ refl (λ _. fine tt))
-      (λ _. in-body _ _ refl (λ _. fine tt))
-      (λ _. in-body _ _ refl (λ _. fine tt))
+      (λ _. in-body _ _ refl (λ _. fine (tt, tt)))
+      (λ _ _. in-wait c _ _ _ _ _ _ _ p refl (λ _ _ _. fine (tt, tt)))
+      (λ k. in-body _ _ refl (λ _. fine (signalled-by (waiters (object (Semaphore k)) p) k p, tt)))
+      (λ _. in-body _ _ refl (λ _. fine (tt, tt)))
+      (λ _. in-body _ _ refl (λ _. fine (tt, tt)))
+      (λ _. in-body _ _ refl (λ _. fine (tt, tt)))
       (λ _ _. in-wait c _ _ _ _ _ _ _ p refl (λ _ _ _. fine tt))
       (λ e _. in-body _ _ refl (λ h. in-body _ _ refl (λ _. fine (record { call = e; place = refl; there = not-false _ (h .0); source = eqb-true _ _ (not-false _ (h .1 .1 .1 .0)) }))))
       (in-body _ _ refl (λ _. in-body _ _ refl (λ _. fine tt)))
-      (λ _ _. in-body _ _ refl (λ _. fine tt))
-      (λ _. in-wait c _ _ _ _ _ _ _ p refl (λ _ _ _. fine tt))
-      (λ _. in-wait c _ _ _ _ _ _ _ p refl (λ _ _ _. fine tt))
-      (λ _. in-body _ _ refl (λ _. fine tt))
-      (λ _ _. in-body _ _ refl (λ _. fine tt))
+      (λ _ _. in-body _ _ refl (λ _. fine (tt, tt)))
+      (λ _. in-wait c _ _ _ _ _ _ _ p refl (λ _ _ _. fine (tt, tt)))
+      (λ _. in-wait c _ _ _ _ _ _ _ p refl (λ _ _ _. fine (tt, tt)))
+      (λ _. in-body _ _ refl (λ _. fine (tt, tt)))
+      (λ _ _. in-body _ _ refl (λ _. fine (tt, tt)))
       (λ _ _. in-wait c _ _ _ _ _ _ _ p refl (λ _ _ _. fine tt))
-      (λ _. in-body _ _ refl (λ _. fine tt))
+      (λ _. in-body _ _ refl (λ _. fine (tt, tt)))
       (λ e. in-wait c _ _ _ _ _ _ _ p refl (λ h g b. fine (on-queue (x .channel .source) h (inl (record { call = e; source = at-end (x .channel .source) h; room = ltb-true _ _ b; message = numberOf (r .b); few = in-limits 0 durationLimit (r .b) g .1; transfer = refl; none = refl })))))
       (λ e. in-wait c _ _ _ _ _ _ _ p refl (λ h _ b. fine (on-queue (x .channel .destination) h (inr (record { call = e; destination = at-end (x .channel .destination) h; some = ltb-true _ _ b; transfer = refl; first = refl })))))
+      (λ e. in-body _ _ refl (λ _. fine (rw e, tt)))
+      (λ e. in-body _ _ refl (λ _. fine (rw e, tt)))
       (λ out. absurd (out lo hi))
     where
+      sets : n ≡ 1 → setsLevel n ≡ true
+      sets e = rw e
+
       at-end : (wanted : ℕ) → Passed (channelChecks x (not (queuingPort x)) wanted) → wanted ≡ x .own
       at-end wanted h = eqb-true _ _ (not-false _ (h .1 .1 .1 .0))
 

@@ -398,8 +398,8 @@ module _ (m : Module) (s : SoundModule m) (ends : ChannelEnds m) (i : ℕ) (ther
           let w : queue m i .len < c .size = let g = ap (λ (y : Channel). y .size) same in omega arith in
           let first-is : x .traffic .waiter ≡ firstWaiter receivers (own m to) = ap (λ (y : Traffic). y .waiter) sees in
           record { is = subst (λ d. Even (passed k d (sent (x .traffic .waiter) word) m) 0 0) (sym place-is) (subst (λ d. Even (passed k i (sent d word) m) 0 0) (sym first-is) (sent-even (waiters receivers (own m to)) refl w few is)) })
-          (λ _. by-codes EvenAfter bodyRefusal Refused _ _ refl refused-by (λ _.
-          record { is = subst (λ d. Even (withPart (k - 1) (stored (running p) (waitingFor (Source (d + 1) word) (later (At (m .t)) (timeOf (r .c))) (process (running p) p)) p) m) 7 0) (sym place-is) (blocked-even (running p) (normal-caller ctx p own-valid sound-ctx (in-normal ctx p own-valid sound-ctx (u .0))) (later (At (m .t)) (timeOf (r .c))) refl is) })))
+          (λ _. by-codes EvenAfter bodyRefusal Refused _ _ refl refused-by (λ _. by-codes EvenAfter bodyRefusal Refused _ _ refl refused-by (λ _.
+          record { is = subst (λ d. Even (withPart (k - 1) (stored (running p) (waitingFor (Source (d + 1) word) (later (At (m .t)) (timeOf (r .c))) (process (running p) p)) p) m) 7 0) (sym place-is) (blocked-even (running p) (normal-caller ctx p own-valid sound-ctx (in-normal ctx p own-valid sound-ctx (u .0))) (later (At (m .t)) (timeOf (r .c))) refl is) }))))
 
     -- ------------------------------------------------------------ RECEIVE
     module _ (caller : k ≡ to) (is-receive : n ≡ 31) (number : numberOf (r .a) ≡ i + 1) where
@@ -471,11 +471,11 @@ module _ (m : Module) (s : SoundModule m) (ends : ChannelEnds m) (i : ℕ) (ther
                 (subst (λ (a : ℕ). Even (passed k i (received (firstWaiter senders o) (carried (process (firstWaiter senders o) o))) m) 0 a) (sym (ap (λ (y : Traffic). y .first) seen))
                 (received-even (waiters senders o) refl held-some)));
           })
-          (λ _. by-codes EvenAfter bodyRefusal Refused _ _ refl refused-by (λ _.
+          (λ _. by-codes EvenAfter bodyRefusal Refused _ _ refl refused-by (λ _. by-codes EvenAfter bodyRefusal Refused _ _ refl refused-by (λ _.
           let y = waitingFor (Destination (numberOf (r .a) - 1 + 1)) (later (At (m .t)) (timeOf (r .b))) (process (running p) p) in
           let z = withPart (k - 1) (stored (running p) y p) m in
           let same : own z from ≡ own m from = put-other (k - 1) (from - 1) (stored (running p) y p) m refl (λ z. apart-ends (let w = q .some in omega (arith, from-some, to-some, caller))) in
-          record { is = leaves-quiet z (rw same same-leaves) refl 7 0 (never-restart 7) (and-false (isReceive flow e)) (Fl.no-sent flow m e es z 7 no-send) (Fl.refused-received flow m e es z 7 0 refl) })))
+          record { is = leaves-quiet z (rw same same-leaves) refl 7 0 (never-restart 7) (and-false (isReceive flow e)) (Fl.no-sent flow m e es z 7 no-send) (Fl.refused-received flow m e es z 7 0 refl) }))))
 
     -- ------------------------------------------------------------ restarts
     module _ (mode : ℕ) (small : mode ≤ modeLimit) (one : n ≡ 1) (modes : between 0 2 (r .a) ≡ true) (no-send : isSend flow e ≡ false) (no-receive : isReceive flow e ≡ false) where

@@ -26,7 +26,7 @@ use Rattle.machine.specs.declared.Wait.the-variants.{Normal}
 use Rattle.machine.specs.declared.Time.{Time}
 use Rattle.machine.specs.declared.Time.the-variants.{Never, At}
 use Rattle.machine.specs.Limits.{processLimit, semaphoreLimit, eventLimit, bufferLimit, messageLimit, blackboardLimit, nameLimit, priorityLimit, valueLimit, durationLimit, greatestTime}
-use Rattle.machine.specs.Fields.{field, between, isMinusOne, timeOf}
+use Rattle.machine.specs.Fields.{field, between, isMinusOne, isTimeout, timeOf}
 use Rattle.machine.specs.Ids.{removed, follow}
 use Rattle.machine.specs.Process.{blankProcess, createdProcess, periodic, ready, onObject, withCurrent, startRule, startedEarly, nextRelease, entered}
 use Rattle.machine.specs.Partition.{normalMode, process, semaphore, event, buffer, blackboard, byId, noSemaphore, noEvent, noBuffer, noBlackboard, emptyBuffer, running, withMode, withProcesses, stored, created, applied, enteredNormal}
@@ -42,19 +42,21 @@ use Rattle.machine.specs.Channels as Ch
 use Rattle.machine.specs.Places as Pl
 use Rattle.machine.specs.Step as St
 use Rattle.machine.specs.Valid.{Numbered, Between, NotAfter, SoundGiven, SoundPeriod, SoundCapacity, ListedIn, settingOf, plainLater, Valid, SoundModule}
+use Rattle.machine.specs.Plain.{plainBetween, plainMinusOne}
 use Rattle.machine.specs.Replay.{timeNumber}
-use Rattle.machine.specs.Starred.{own, callBy, Gives, Refuses, Puts, Calling, withProcess, without, atEnd, withNew, withNewSemaphore, withNewEvent, withNewBuffer, withNewBlackboard, withSemaphoreAt, Room, NewProcess, NewSemaphore, NewEvent, NewBuffer, NewBlackboard, createBy, given, awaitsRelease, awaitsNext, awaitsNormal, ReleasesAt, Corners}
+use Rattle.machine.specs.Starred.{own, callBy, TimeOut, NoTimeOut, Gives, Refuses, Puts, Calling, withProcess, without, atEnd, withNew, withNewSemaphore, withNewEvent, withNewBuffer, withNewBlackboard, withSemaphoreAt, Room, NewProcess, NewSemaphore, NewEvent, NewBuffer, NewBlackboard, createBy, given, awaitsRelease, awaitsNext, awaitsNormal, ReleasesAt, Corners}
+use Rattle.machine.proofs.Either.{either}
 use Rattle.machine.proofs.Bounds.{within-in, named-in, created-in, semaphore-in, event-in, buffer-in, blackboard-in, stored-in}
 use Rattle.machine.proofs.Keeping.{stored-listed, process-stored, each-rest, each-process}
 use Rattle.machine.proofs.Kept.{running-caller}
 use Rattle.machine.proofs.Quiet.{follow-same}
 use Rattle.machine.proofs.Starts.{release-earliest, release-one, release-here}
 use Rattle.machine.proofs.Sound.{capacity-bound, period-not-after, ready-off}
-use Rattle.machine.proofs.Plain.{arrived-plain, release-point-plain, release-deadline-plain, next-plain, next-deadline-plain}
+use Rattle.machine.proofs.Plain.{arrived-plain, lossless, release-point-plain, release-deadline-plain, next-plain, next-deadline-plain}
 use Rattle.machine.proofs.Calling.{field-number, from-zero, calling-sound, calling-low, calling-valid, calling-context, asked, gives, own-after}
 
 -- ---------------------------------------------------------------- what is given, brought to another form
-puts-is : (m : Module) (k : ℕ) {e : EventT} {code value : ℕ} (p q : Partition) → Puts m e code value k p → p ≡ q → Puts m e code value k q
+pub puts-is : (m : Module) (k : ℕ) {e : EventT} {code value : ℕ} (p q : Partition) → Puts m e code value k p → p ≡ q → Puts m e code value k q
 puts-is m k p q g e = record { codeIs = g .codeIs; valueIs = g .valueIs; extraIs = g .extraIs; state = g .state ∙ ap (λ (x : Partition). M.withPart (k - 1) x m) e }
 
 -- ---------------------------------------------------------------- names
@@ -463,23 +465,49 @@ module _ (m : Module) (k : ℕ) (u : SoundModule m) (h : Calling m k) where
       )
 
   -- ---------------------------------------------------------------- time-out 0
-  suspend-self-corner : p .mode ≡ 3 → process (running p) p .given .period ≡ Never → Gives m (callBy k 8 (pos 0) (pos 0) (pos 0) (pos 0)) 0 0 (At 0) m
+  suspend-self-corner : p .mode ≡ 3 → p .level ≡ 0 → process (running p) p .given .period ≡ Never → Gives m (callBy k 8 (pos 0) (pos 0) (pos 0) (pos 0)) 0 0 (At 0) m
   unfolding Sv.callDecision Sv.services Pl.strayField C.suspendSelf D.checked
-  suspend-self-corner n a = gives m k u h 8 (pos 0) (pos 0) (pos 0) (pos 0) (omega arith) (omega arith) refl (Unchanged 0 (At 0)) (rw (normal-is n, a))
+  suspend-self-corner n free a = gives m k u h 8 (pos 0) (pos 0) (pos 0) (pos 0) (omega arith) (omega arith) refl (Unchanged 0 (At 0)) (rw (normal-is n, le-ltb 0 (p .level) (omega (arith, free)), a))
+
+  -- while preemption is locked
+  suspend-self-locked : (a : ℤ) → p .mode ≡ 3 → 0 < p .level → process (running p) p .given .period ≡ Never
+      → (TimeOut a → Refuses m (callBy k 8 a (pos 0) (pos 0) (pos 0)) 5) × (NoTimeOut a → Refuses m (callBy k 8 a (pos 0) (pos 0) (pos 0)) 3)
+  unfolding Sv.callDecision Sv.services Pl.strayField C.suspendSelf D.checked
+  suspend-self-locked a n some never =
+      let l = lossless a in
+      let is : isTimeout (field a) ≡ (plainMinusOne a || plainBetween 0 durationLimit a) = rw (l .isMinusOne, l .between 0 durationLimit (omega arith)) in (
+        λ t. gives m k u h 8 a (pos 0) (pos 0) (pos 0) (omega arith) (omega arith) refl (Refused 5) (rw (normal-is n, never, is ∙ t, lt-ltb 0 (p .level) some)),
+        λ t. gives m k u h 8 a (pos 0) (pos 0) (pos 0) (omega arith) (omega arith) refl (Refused 3) (rw (normal-is n, never, is ∙ t)),
+      )
+
+  timed-wait-locked : (a : ℤ) → p .mode ≡ 3 → 0 < p .level
+      → (plainBetween 0 durationLimit a ≡ true → Refuses m (callBy k 9 a (pos 0) (pos 0) (pos 0)) 5) × (plainBetween 0 durationLimit a ≡ false → Refuses m (callBy k 9 a (pos 0) (pos 0) (pos 0)) 3)
+  unfolding Sv.callDecision Sv.services Pl.strayField C.timedWait D.checked
+  timed-wait-locked a n some =
+      let is = lossless a .between 0 durationLimit (omega arith) in (
+        λ t. gives m k u h 9 a (pos 0) (pos 0) (pos 0) (omega arith) (omega arith) refl (Refused 5) (rw (normal-is n, is ∙ t, lt-ltb 0 (p .level) some)),
+        λ t. gives m k u h 9 a (pos 0) (pos 0) (pos 0) (omega arith) (omega arith) refl (Refused 3) (rw (normal-is n, is ∙ t)),
+      )
+
+  periodic-wait-locked : p .mode ≡ 3 → 0 < p .level → Refuses m (callBy k 10 (pos 0) (pos 0) (pos 0) (pos 0)) 5
+  unfolding Sv.callDecision Sv.services Pl.strayField C.periodicWait D.blocked D.checked
+  periodic-wait-locked n some =
+      gives m k u h 10 (pos 0) (pos 0) (pos 0) (pos 0) (omega arith) (omega arith) refl (Refused 5)
+      (either (periodic (process (running p) p)) (λ e. rw (normal-is n, e, lt-ltb 0 (p .level) some)) (λ e. rw (normal-is n, e)))
 
   -- the running process is READY
   module _ (n : p .mode ≡ 3) where
     caller-known : Between 1 (p .processCount) (running p)
-    caller-known = running-caller p (v .lists) (h .runs n) .created
+    caller-known = running-caller p (v .lists) (v .lock) (h .runs n) .created
 
     caller-ready : ready (process (running p) p) ≡ true
-    caller-ready = running-caller p (v .lists) (h .runs n) .isReady
+    caller-ready = running-caller p (v .lists) (v .lock) (h .runs n) .isReady
 
-  timed-wait-corner : p .mode ≡ 3 → Puts m (callBy k 9 (pos 0) (pos 0) (pos 0) (pos 0)) 0 0 k (withProcesses (p .processes) (p .processCount) (atEnd (running p) (p .arrival)) (p .waiting) p)
+  timed-wait-corner : p .mode ≡ 3 → p .level ≡ 0 → Puts m (callBy k 9 (pos 0) (pos 0) (pos 0) (pos 0)) 0 0 k (withProcesses (p .processes) (p .processCount) (atEnd (running p) (p .arrival)) (p .waiting) p)
   unfolding Sv.callDecision Sv.services Pl.strayField C.timedWait D.checked
-  timed-wait-corner n =
+  timed-wait-corner n free =
       puts-is m k _ _
-      (gives m k u h 9 (pos 0) (pos 0) (pos 0) (pos 0) (omega arith) (omega arith) refl (D.changed (Last (running p))) (rw (normal-is n)))
+      (gives m k u h 9 (pos 0) (pos 0) (pos 0) (pos 0) (omega arith) (omega arith) refl (D.changed (Last (running p))) (rw (normal-is n, le-ltb 0 (p .level) (omega (arith, free)))))
       (arrived-plain p (v .lists) (running p) (caller-ready n))
 
   wait-semaphore-corner : (j : ℕ) → p .mode ≡ 3 → Between 1 (p .semaphoreCount) j
@@ -545,10 +573,10 @@ module _ (m : Module) (k : ℕ) (u : SoundModule m) (h : Calling m k) where
 
   periodic-wait-corner : (r n : ℕ) → let id = running p in
       let x = process id p in
-      p .mode ≡ 3 → x .times .release ≡ At r → x .given .period ≡ At n
+      p .mode ≡ 3 → p .level ≡ 0 → x .times .release ≡ At r → x .given .period ≡ At n
       → Puts m (callBy k 10 (pos 0) (pos 0) (pos 0) (pos 0)) 7 0 k (withProcess id (awaitsNext (r + n) x) (without id (p .arrival)) p)
   unfolding Sv.callDecision Sv.services Pl.strayField C.periodicWait D.blocked D.checked
-  periodic-wait-corner r n normal e f =
+  periodic-wait-corner r n normal free e f =
       let id = running p in
       let x = process id p in
       let b = caller-known normal in
@@ -559,7 +587,7 @@ module _ (m : Module) (k : ℕ) (u : SoundModule m) (h : Calling m k) where
       let d = next-deadline-plain s x (v .eachProcess id b) (normal-is normal) (caller-ready normal) (u .time) g ∙ ap (λ (t : Time). plainLater t (x .given .capacity)) (ap₂ plainLater e f) in
       rw (d, a) in
       puts-is m k _ _
-      (gives m k u h 10 (pos 0) (pos 0) (pos 0) (pos 0) (omega arith) (omega arith) refl (Blocked id (awaitsNext (r + n) x)) (rw (normal-is normal, is, f)))
+      (gives m k u h 10 (pos 0) (pos 0) (pos 0) (pos 0) (omega arith) (omega arith) refl (Blocked id (awaitsNext (r + n) x)) (rw (normal-is normal, is, f, le-ltb 0 (p .level) (omega (arith, free)))))
       (stored-leaves p (v .lists) id b (awaitsNext (r + n) x) (caller-ready normal) (rw (and-false (not (x .suspended))) (and-false (x .started))) (rw (ready-off x (caller-ready normal))))
 
 pub corners : (m : Module) (k : ℕ) → Calling m k → Corners m k
@@ -585,4 +613,7 @@ corners m k h = record {
   readBlackboard = read-blackboard-corner m k (calling-sound m k h) h;
   signal = signal-corner m k (calling-sound m k h) h;
   periodicWait = periodic-wait-corner m k (calling-sound m k h) h;
+  suspendSelfLocked = suspend-self-locked m k (calling-sound m k h) h;
+  timedWaitLocked = timed-wait-locked m k (calling-sound m k h) h;
+  periodicWaitLocked = periodic-wait-locked m k (calling-sound m k h) h;
 }

@@ -33,8 +33,8 @@ use Rattle.machine.specs.Places.{strayField}
 use Rattle.machine.specs.Module.{part, withPart}
 use Rattle.machine.specs.Step.{step}
 use Rattle.machine.specs.Valid.{Between, SoundBuffer, Valid, SoundModule}
-use Rattle.machine.specs.Starred.{own, callBy, Calling, Gives}
-use Rattle.machine.specs.Queues.{SameObjects, WaitsFor, TimeOut, Queued, FirstServed, NoneServed, AllServed, has, Queues}
+use Rattle.machine.specs.Starred.{own, callBy, WaitsFor, TimeOut, Calling, Gives}
+use Rattle.machine.specs.Queues.{SameObjects, WouldWait, FirstServed, NoneServed, AllServed, has, Queues}
 use Rattle.machine.proofs.Bounds.{within-in, named-same, blackboard-in}
 use Rattle.machine.proofs.Either.{either}
 use Rattle.machine.proofs.Messages.{queue-first}
@@ -74,13 +74,13 @@ module _ (m : Module) (k : ℕ) (u : SoundModule m) (h : Calling m k) where
     abbrev moving : Transfer → Partition
     moving a = storedBuffer j (movedIn a (buffer j p)) p
 
-    send-waits : (x : ℕ) (a : ℤ) → buffer j p .queue .len ≡ buffer j p .limit → x ≤ durationLimit → WaitsFor a → Queued m k (callBy k 24 (pos j) (pos x) a (pos 0)) (Sending j x)
+    send-waits : (x : ℕ) (a : ℤ) → buffer j p .queue .len ≡ buffer j p .limit → x ≤ durationLimit → WaitsFor a → WouldWait m k (callBy k 24 (pos j) (pos x) a (pos 0)) (Sending j x)
     unfolding callDecision services strayField sendBuffer
     send-waits x a full ok t =
         queued-last m k u h 24 j (pos x) a a (Sending j x) (omega arith) (omega arith) (λ e. omega arith) (p .bufferCount) (changed (Moved j (sent (firstWaiter (object (Receiving j)) p) x))) refl
         (rw (is-field, field-number x (omega arith), a-message x ok, le-ltb (buffer j p .queue .len) (buffer j p .limit) (omega (arith, full)))) b normal t
 
-    receive-waits : (a : ℤ) → messages ≡ [] → WaitsFor a → Queued m k (callBy k 25 (pos j) a (pos 0) (pos 0)) (Receiving j)
+    receive-waits : (a : ℤ) → messages ≡ [] → WaitsFor a → WouldWait m k (callBy k 25 (pos j) a (pos 0) (pos 0)) (Receiving j)
     unfolding callDecision services strayField receiveBuffer
     receive-waits a empty t =
         let none : buffer j p .queue .len ≡ 0 = sym size ∙ ap length empty in
@@ -207,7 +207,7 @@ module _ (m : Module) (k : ℕ) (u : SoundModule m) (h : Calling m k) where
         let g = gives m k u h 29 (pos j) (pos 0) (pos 0) (pos 0) (omega arith) (omega arith) refl (changed (StoredBlackboard j s)) (rw (the-field, known m k u h j (p .blackboardCount) b)) in
         (g .codeIs, rw (own-after m k u h q g) (stored-has s))
 
-    read-waits : p .mode ≡ 3 → (a : ℤ) → blackboard j p .shown ≡ false → WaitsFor a → Queued m k (callBy k 28 (pos j) a (pos 0) (pos 0)) (Blackboard j)
+    read-waits : p .mode ≡ 3 → (a : ℤ) → blackboard j p .shown ≡ false → WaitsFor a → WouldWait m k (callBy k 28 (pos j) a (pos 0) (pos 0)) (Blackboard j)
     unfolding callDecision services strayField readBlackboard
     read-waits normal a none t =
         queued-last m k u h 28 j a (pos 0) a (Blackboard j) (omega arith) (omega arith) (λ e. omega arith) (p .blackboardCount) (Unchanged (blackboard j p .message) (At 0)) refl

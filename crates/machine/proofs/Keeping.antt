@@ -15,7 +15,7 @@ use Rattle.machine.specs.Limits.{processLimit}
 use Rattle.machine.specs.Ids.{members, other, removed, follow}
 use Rattle.machine.specs.Process.{blankProcess, ready, onObject}
 use Rattle.machine.specs.Partition.{within, byId, process, withProcesses, stored, arrivedLast, changedAll, eachFrom, each}
-use Rattle.machine.specs.Valid.{Between, contains, Distinct, Tracks, Numbered, Family, KnownOrNext, ListedIn, ObjectsIn, SoundProcess, settingOf, Valid}
+use Rattle.machine.specs.Valid.{Between, contains, Distinct, Tracks, Numbered, Family, KnownOrNext, ListedIn, ObjectsIn, SoundProcess, settingOf, LockIn, HolderReady, Valid}
 use Rattle.machine.specs.Plain.{idsFrom}
 use Rattle.machine.proofs.Tests.{by-test, not-both}
 use Rattle.machine.proofs.Bounds.{not-so, same-or-not, and-true-parts, within-in, within-out, named-in, named-same, named-other, stored-in, stored-out}
@@ -219,13 +219,18 @@ module _ (p : Partition) (v : ListedIn p) (id : ℕ) (h : ready (process id p) �
   }
 
 -- ---------------------------------------------------------------- a valid partition, from its parts
-pub valid-of : (frame t : ℕ) (p q : Partition) → Rest p q → p .mode ≤ 3 → ObjectsIn p → ListedIn q → ((id : ℕ) → Between 1 (p .processCount) id → SoundProcess (settingOf frame t p) (process id q)) → Valid frame t q
-valid-of frame t p q e mode objects lists sound = rw e (record { mode = mode; lists = rw (rest-count p q e) at lists; objects = objects; eachProcess = sound })
+pub valid-of : (frame t : ℕ) (p q : Partition) → Rest p q → p .mode ≤ 3 → LockIn p → (0 < p .level → ready (process (p .holder) q) ≡ true) → ObjectsIn p → ListedIn q → ((id : ℕ) → Between 1 (p .processCount) id → SoundProcess (settingOf frame t p) (process id q)) → Valid frame t q
+valid-of frame t p q e mode lock held objects lists sound = rw e (record { mode = mode; lock = record { few = lock .few; free = lock .free; normal = lock .normal; held = held }; lists = rw (rest-count p q e) at lists; objects = objects; eachProcess = sound })
 
 -- one process stored
-pub stored-valid : (frame t : ℕ) (p : Partition) → Valid frame t p → (id : ℕ) → Between 1 (p .processCount) id → (x : Process) → SoundProcess (settingOf frame t p) x → Valid frame t (stored id x p)
-stored-valid frame t p v id b x s =
-    valid-of frame t p (stored id x p) (stored-rest p id x) (v .mode) (v .objects) (stored-listed p id x (v .lists) b) (λ y r. ⊎-elim
+pub stored-valid : (frame t : ℕ) (p : Partition) → Valid frame t p → (id : ℕ) → Between 1 (p .processCount) id → (x : Process) → SoundProcess (settingOf frame t p) x → HolderReady p id x → Valid frame t (stored id x p)
+stored-valid frame t p v id b x s keeps =
+    valid-of frame t p (stored id x p) (stored-rest p id x) (v .mode) (v .lock)
+    (λ some. ⊎-elim
+    (λ (e : p .holder ≡ id). ap (λ y. ready (process y (stored id x p))) e ∙ ap ready (process-stored p id x (v .lists) b) ∙ keeps some (sym e))
+    (λ (ne : p .holder ≡ id → ⊥). ap ready (process-other p id x (p .holder) ne) ∙ v .lock .held some)
+    (same-or-not (p .holder) id))
+    (v .objects) (stored-listed p id x (v .lists) b) (λ y r. ⊎-elim
     (λ (e : y ≡ id). rw (e, process-stored p id x (v .lists) b) s)
     (λ (ne : y ≡ id → ⊥). rw (process-other p id x y ne) (v .eachProcess y r))
     (same-or-not y id))
@@ -233,4 +238,4 @@ stored-valid frame t p v id b x s =
 -- a READY process that goes to the end of the arrival list
 pub arrived-valid : (frame t : ℕ) (p : Partition) → Valid frame t p → (id : ℕ) → ready (process id p) ≡ true → Valid frame t (arrivedLast id p)
 unfolding arrivedLast
-arrived-valid frame t p v id h = record { mode = v .mode; lists = arrived-listed p (v .lists) id h; objects = v .objects; eachProcess = v .eachProcess }
+arrived-valid frame t p v id h = record { mode = v .mode; lock = v .lock; lists = arrived-listed p (v .lists) id h; objects = v .objects; eachProcess = v .eachProcess }

@@ -7,14 +7,14 @@ use mathlib.Core.List.{List, [], _∷_, map}
 use native.Mathlib.Omega.{arith}
 use lib.ListN.{length, getD, set, take, replicate, length-replicate}
 use lib.Dec.{eqb, ltb, leb}
-use borrow.Author.Tests.{eq-eqb, ne-eqb, eqb-true, eqb-false, ltb-true, ltb-false, leb-false, not-true, not-false}
+use borrow.Author.Tests.{eq-eqb, ne-eqb, eqb-true, eqb-false, lt-ltb, ltb-true, ltb-false, leb-false, not-true, not-false}
 use Rattle.machine.specs.declared.Given.{Given}
 use Rattle.machine.specs.declared.Ids.{Ids}
 use Rattle.machine.specs.declared.Process.{Process}
 use Rattle.machine.specs.declared.Partition.{Partition}
 use Rattle.machine.specs.declared.Context.{Context}
 use Rattle.machine.specs.declared.Change.{Change}
-use Rattle.machine.specs.declared.Change.the-variants.{Nothing, Stored, Created, Last, StoredSemaphore, StoredEvent, CreatedBuffer, Moved, StoredBlackboard, Ended, Handed, Entered}
+use Rattle.machine.specs.declared.Change.the-variants.{Nothing, Stored, Created, Last, StoredSemaphore, StoredEvent, CreatedBuffer, Moved, StoredBlackboard, Ended, Handed, LevelSet, Entered}
 use Rattle.machine.specs.declared.Port.{Port}
 use Rattle.machine.specs.declared.Decision.{Decision}
 use Rattle.machine.specs.declared.Decision.the-variants.{Refused, Unchanged, Ticked, Blocked, Changed, Restarted, Written, Passed as PassedOn}
@@ -32,19 +32,19 @@ use Rattle.machine.specs.declared.Wait.{Wait}
 use Rattle.machine.specs.declared.Wait.the-variants.{Timed, Semaphore, Event, Sending, Receiving, Blackboard, Source, Destination}
 use Rattle.machine.specs.declared.Time.{Time}
 use Rattle.machine.specs.declared.Time.the-variants.{Never, At}
-use Rattle.machine.specs.Limits.{processLimit, semaphoreLimit, eventLimit, bufferLimit, messageLimit, blackboardLimit, nameLimit, priorityLimit, valueLimit, modeLimit, durationLimit, timeLimit, frameLimit, channelLimit, numberLimit, greatestValue}
+use Rattle.machine.specs.Limits.{processLimit, semaphoreLimit, eventLimit, bufferLimit, messageLimit, blackboardLimit, nameLimit, priorityLimit, valueLimit, modeLimit, levelLimit, durationLimit, timeLimit, frameLimit, channelLimit, numberLimit, greatestValue}
 use Rattle.machine.specs.Messages.{queueOf, sent, received}
 use Rattle.machine.specs.Ids.{members}
 use Rattle.machine.specs.Fields.{isNumber, between, isDuration, isMinusOne, isTimeout, isName, isMessage, numberOf, timeOf}
 use Rattle.machine.specs.Process.{Class, classOf, createdProcess, blankProcess, later, object, onObject, periodic, ready, carried, served, handed, withCurrent, entered, ticked}
-use Rattle.machine.specs.Partition.{normalMode, idleMode, byId, nothingCreated, noSemaphore, noEvent, noBuffer, noBlackboard, process, semaphore, buffer, blackboard, emptyBuffer, movedIn, endedBy, withMode, stored, waitsOn, waiters, firstWaiter, changedAll, each, running, tickPartition, enteredNormal, created, storedSemaphore, storedEvent, storedBuffer, storedBlackboard, applied, partitionAfter, freshPartition}
-use Rattle.machine.specs.Calls.{setMode, isMultiple, above, isPriority, admissible, createProcess, reaches, start, stop, stopSelf, suspend, suspendSelf, timedWait, periodicWait, resume, setPriority, status, getStatus}
+use Rattle.machine.specs.Partition.{normalMode, idleMode, locked, byId, nothingCreated, noSemaphore, noEvent, noBuffer, noBlackboard, process, semaphore, buffer, blackboard, emptyBuffer, movedIn, endedBy, withMode, stored, waitsOn, waiters, firstWaiter, changedAll, each, running, tickPartition, enteredNormal, created, storedSemaphore, storedEvent, storedBuffer, storedBlackboard, applied, partitionAfter, freshPartition}
+use Rattle.machine.specs.Calls.{setMode, isMultiple, above, isPriority, admissible, createProcess, reaches, start, stop, stopSelf, suspend, suspendSelf, timedWait, periodicWait, resume, setPriority, status, getStatus, lockPreemption, unlockPreemption}
 use Rattle.machine.specs.Objects.{createSemaphore, createEvent, withValue, withUp, waitSemaphore, waitEvent, oneMore, signalled, signal, setEvent, resetEvent}
 use Rattle.machine.specs.Channels.{queuing, queuingPort, channelChecks, write, read, send, receive}
 use Rattle.machine.specs.Buffers.{createBuffer, sendBuffer, receiveBuffer}
 use Rattle.machine.specs.Blackboards.{createBlackboard, show, readBlackboard, clear}
 use Rattle.machine.specs.Services.{callDecision}
-use Rattle.machine.specs.Valid.{counted, Between, contains, Distinct, Tracks, Timeout, Ahead, SoundPeriod, SoundCapacity, NotAbove, Below, SoundGiven, SoundProcess, SoundSemaphore, SoundEvent, SoundBuffer, SoundBlackboard, AllMessages, SoundQueue, Numbered, Family, KnownOrNext, ObjectsIn, ListedIn, settingOf, Valid, SoundContext, SoundMessage, SoundMove, SoundEnd, SoundChange, SoundDecision, NotAfter, latestDeadline}
+use Rattle.machine.specs.Valid.{counted, Between, contains, Distinct, Tracks, Timeout, Ahead, SoundPeriod, SoundCapacity, NotAbove, Below, SoundGiven, SoundProcess, SoundSemaphore, SoundEvent, SoundBuffer, SoundBlackboard, AllMessages, SoundQueue, Numbered, Family, KnownOrNext, ObjectsIn, ListedIn, settingOf, SoundLock, LockIn, HolderReady, Valid, SoundContext, SoundMessage, SoundMove, SoundEnd, SoundChange, SoundDecision, NotAfter, latestDeadline}
 use Rattle.machine.proofs.Tests.{by-test, by-tests, Passed, passed-parts, by-checks, not-both}
 use Rattle.machine.proofs.Bounds.{not-so, or-false-parts, and-true-parts, known-id, within-in, named-same, named-other, named-replicate, created-in, semaphore-in, event-in, buffer-in, blackboard-in}
 use Rattle.machine.proofs.Either.{either}
@@ -53,18 +53,31 @@ use Rattle.machine.proofs.Fields.{in-limits}
 use Rattle.machine.proofs.Tracking.{contains-kept, distinct-kept, tracks-same}
 use Rattle.machine.proofs.Messages.{queue-sound, moved-in-sound, first-sound}
 use Rattle.machine.proofs.Keeping.{numbered-set, all-set, family-set, process-created, process-stored, each-rest, each-listed, each-process, AllCreated, changed-rest, changed-listed, changed-process, valid-of, stored-valid, arrived-valid}
-use Rattle.machine.proofs.Sound.{times-bounded, outside-normal, more-objects, ahead-later, created-sound, start-sound, entered-sound, early-sound, stopped-sound, suspended-sound, priority-sound, resumed-sound, ended-sound, handed-sound, carried-sound, ready-released, waiting-sound, suspends-sound, next-sound, ticked-sound, early-waits}
-use Rattle.machine.proofs.Running.{running-runs}
+use Rattle.machine.proofs.Sound.{times-bounded, outside-normal, more-objects, ahead-later, created-sound, start-sound, entered-sound, early-sound, stopped-sound, suspended-sound, priority-sound, resumed-sound, ended-sound, handed-sound, carried-sound, ready-released, waiting-sound, suspends-sound, next-sound, ticked-sound, ticked-ready, ready-no-object, object-not-ready, early-waits}
+use Rattle.machine.proofs.Running.{holder-runs, running-ready}
 use Rattle.machine.specs.Decisions.{checked, blocked, startMode, dormant, queued, awaiting}
+
+-- ---------------------------------------------------------------- the preemption lock
+-- level 0 with no holder
+no-lock : (normal isReady : Bool) → SoundLock 0 0 normal isReady
+no-lock normal isReady = record { few = omega arith; free = λ _. refl; normal = λ some. absurd (omega arith); held = λ some. absurd (omega arith) }
+
+holder-created : (p : Partition) → ListedIn p → LockIn p → 0 < p .level → Between 1 (p .processCount) (p .holder)
+holder-created p v lock some = process-created ready refl p v (p .holder) (lock .held some)
+
+-- a process that is not READY does not hold it
+not-holder : (p : Partition) → LockIn p → (id : ℕ) (b : Bool) → ready (process id p) ≡ false → 0 < p .level → id ≡ p .holder → b ≡ true
+not-holder p lock id b off some e = not-both _ (lock .held some) (ap (λ y. ready (process y p)) (sym e) ∙ off)
 
 -- ---------------------------------------------------------------- the tick
 pub tick-valid : (frame t : ℕ) (p : Partition) → Valid frame t p → Valid frame (t + 1) (tickPartition (t + 1) p)
 unfolding tickPartition
 tick-valid frame t p v = by-test (Valid frame (t + 1)) (normalMode p)
-    (λ e. valid-of frame (t + 1) p (each (ticked (t + 1)) p) (each-rest (ticked (t + 1)) p (v .lists)) (v .mode) (v .objects) (each-listed (ticked (t + 1)) p (v .lists)) (λ id b.
+    (λ e. valid-of frame (t + 1) p (each (ticked (t + 1)) p) (each-rest (ticked (t + 1)) p (v .lists)) (v .mode) (v .lock) (λ some. rw (each-process (ticked (t + 1)) p (v .lists) (p .holder) (holder-created p (v .lists) (v .lock) some)) (ticked-ready (t + 1) (process (p .holder) p) (v .lock .held some))) (v .objects) (each-listed (ticked (t + 1)) p (v .lists)) (λ id b.
     rw (each-process (ticked (t + 1)) p (v .lists) id b) (ticked-sound frame t _ (normalMode p) e (process id p) (v .eachProcess id b))))
     (λ e. record {
       mode = v .mode;
+      lock = v .lock;
       lists = v .lists;
       objects = v .objects;
       eachProcess = λ id b. outside-normal (settingOf frame t p) (settingOf frame (t + 1) p) (process id p) e e refl (v .eachProcess id b);
@@ -75,6 +88,7 @@ pub nothing-valid : (frame t mode : ℕ) → mode ≤ modeLimit → Valid frame 
 unfolding contains Distinct
 nothing-valid frame t mode h = record {
   mode = h;
+  lock = no-lock _ _;
   lists = record {
     numbered = none processLimit blankProcess;
     arrivals = record { canonical = refl; distinct = tt; exact = λ id. rw (named-replicate processLimit processLimit id blankProcess) };
@@ -97,7 +111,7 @@ nothing-valid frame t mode h = record {
 
 pub fresh-valid : (frame t : ℕ) → Valid frame t freshPartition
 unfolding freshPartition
-fresh-valid frame t = let v = nothing-valid frame t 1 (omega arith) in record { mode = v .mode; lists = v .lists; objects = v .objects; eachProcess = v .eachProcess }
+fresh-valid frame t = let v = nothing-valid frame t 1 (omega arith) in record { mode = v .mode; lock = v .lock; lists = v .lists; objects = v .objects; eachProcess = v .eachProcess }
 
 -- outside NORMAL no process is READY
 pub none-ready : (frame t : ℕ) (p : Partition) → Valid frame t p → normalMode p ≡ false → (id : ℕ) → ready (process id p) ≡ false
@@ -129,11 +143,12 @@ counted-more a b c d a′ b′ c′ d′ f g h k kind =
 
 -- the objects of q are sound and as many at least, and all else is as in p
 objects-valid : (frame t : ℕ) (p q : Partition) → Valid frame t p
-    → q .mode ≡ p .mode → ListedIn q → q .processes ≡ p .processes → q .processCount ≡ p .processCount → ObjectsIn q
+    → q .mode ≡ p .mode → q .level ≡ p .level → q .holder ≡ p .holder → ListedIn q → q .processes ≡ p .processes → q .processCount ≡ p .processCount → ObjectsIn q
     → p .semaphoreCount ≤ q .semaphoreCount → p .eventCount ≤ q .eventCount → p .bufferCount ≤ q .bufferCount → p .blackboardCount ≤ q .blackboardCount
     → Valid frame t q
-objects-valid frame t p q v mode lists processes count objects a b c d = record {
+objects-valid frame t p q v mode level holder lists processes count objects a b c d = record {
   mode = rw mode (v .mode);
+  lock = rw (mode, level, holder, processes) (v .lock);
   lists = lists;
   objects = objects;
   eachProcess = λ id r.
@@ -149,28 +164,28 @@ module _ (frame t : ℕ) (p : Partition) (v : Valid frame t p) (k : ℕ) where
   pub semaphore-valid : KnownOrNext semaphoreLimit (p .semaphoreCount) k → (s : SemaphoreT) → SoundSemaphore s → Valid frame t (storedSemaphore k s p)
   semaphore-valid b s sound =
       rw (semaphore-in k s p (within-in semaphoreLimit k (b .0 .0) (b .1)))
-      (objects-valid frame t p _ v refl (v .lists) refl refl
+      (objects-valid frame t p _ v refl refl refl (v .lists) refl refl
       (record { semaphores = family-set (o .semaphores) k b s sound; events = o .events; buffers = o .buffers; blackboards = o .blackboards })
       (omega arith) (omega arith) (omega arith) (omega arith))
 
   pub event-valid : KnownOrNext eventLimit (p .eventCount) k → (s : EventState) → SoundEvent s → Valid frame t (storedEvent k s p)
   event-valid b s sound =
       rw (event-in k s p (within-in eventLimit k (b .0 .0) (b .1)))
-      (objects-valid frame t p _ v refl (v .lists) refl refl
+      (objects-valid frame t p _ v refl refl refl (v .lists) refl refl
       (record { semaphores = o .semaphores; events = family-set (o .events) k b s sound; buffers = o .buffers; blackboards = o .blackboards })
       (omega arith) (omega arith) (omega arith) (omega arith))
 
   pub buffer-valid : KnownOrNext bufferLimit (p .bufferCount) k → (s : Buffer) → SoundBuffer s → Valid frame t (storedBuffer k s p)
   buffer-valid b s sound =
       rw (buffer-in k s p (within-in bufferLimit k (b .0 .0) (b .1)))
-      (objects-valid frame t p _ v refl (v .lists) refl refl
+      (objects-valid frame t p _ v refl refl refl (v .lists) refl refl
       (record { semaphores = o .semaphores; events = o .events; buffers = family-set (o .buffers) k b s sound; blackboards = o .blackboards })
       (omega arith) (omega arith) (omega arith) (omega arith))
 
   pub blackboard-valid : KnownOrNext blackboardLimit (p .blackboardCount) k → (s : BlackboardT) → SoundBlackboard s → Valid frame t (storedBlackboard k s p)
   blackboard-valid b s sound =
       rw (blackboard-in k s p (within-in blackboardLimit k (b .0 .0) (b .1)))
-      (objects-valid frame t p _ v refl (v .lists) refl refl
+      (objects-valid frame t p _ v refl refl refl (v .lists) refl refl
       (record { semaphores = o .semaphores; events = o .events; buffers = o .buffers; blackboards = family-set (o .blackboards) k b s sound })
       (omega arith) (omega arith) (omega arith) (omega arith))
 
@@ -228,7 +243,9 @@ module _ (frame t : ℕ) (p : Partition) (v : Valid frame t p) (f : Process → 
     (sound : (x : Process) → SoundProcess (settingOf frame t p) x → onObject x ≡ true → SoundProcess (settingOf frame t p) (f x)) where
   pub changed-valid : (l : List ℕ) → AllCreated l (p .processCount) → Distinct l → ((id : ℕ) → contains id l ≡ true → onObject (process id p) ≡ true) → Valid frame t (changedAll f l p)
   changed-valid l all once on =
-      valid-of frame t p (changedAll f l p) (changed-rest f l p) (v .mode) (v .objects) (changed-listed f l p (v .lists) all) (λ id b.
+      valid-of frame t p (changedAll f l p) (changed-rest f l p) (v .mode) (v .lock)
+      (λ some. rw (changed-process f l p (v .lists) all once (p .holder), not-so (contains (p .holder) l) (λ e. not-both _ (on (p .holder) e) (ready-no-object (process (p .holder) p) (v .lock .held some)))) (v .lock .held some))
+      (v .objects) (changed-listed f l p (v .lists) all) (λ id b.
       rw (changed-process f l p (v .lists) all once id) (by-test (SoundProcess (settingOf frame t p)) (contains id l)
       (λ e. sound (process id p) (v .eachProcess id b) (on id e))
       (λ _. v .eachProcess id b)))
@@ -282,8 +299,8 @@ module _ (frame t : ℕ) (p : Partition) (v : Valid frame t p) (o n : ℕ) where
 
 -- ---------------------------------------------------------------- the changes
 module _ (c : Context) (p : Partition) (v : Valid (c .frame) (c .time) p) where
-  puts : (id : ℕ) → Between 1 (p .processCount) id → (x : Process) → SoundProcess (settingOf (c .frame) (c .time) p) x → Valid (c .frame) (c .time) (stored id x p)
-  puts id b x s = stored-valid (c .frame) (c .time) p v id b x s
+  puts : (id : ℕ) → Between 1 (p .processCount) id → (x : Process) → SoundProcess (settingOf (c .frame) (c .time) p) x → HolderReady p id x → Valid (c .frame) (c .time) (stored id x p)
+  puts id b x s keeps = stored-valid (c .frame) (c .time) p v id b x s keeps
 
   -- the next process, DORMANT
   new-process-valid : p .processCount < processLimit → (g : Given) → SoundGiven (c .frame) g → Valid (c .frame) (c .time) (created (p .processCount + 1) (createdProcess g) p)
@@ -298,6 +315,12 @@ module _ (c : Context) (p : Partition) (v : Valid (c .frame) (c .time) p) where
       let e : max (p .processCount) n ≡ n = omega arith in
       rw (created-in n x p (within-in processLimit n (omega arith) (omega arith)), e) (record {
         mode = v .mode;
+        lock = record {
+          few = v .lock .few;
+          free = v .lock .free;
+          normal = v .lock .normal;
+          held = λ some. let b = holder-created p o (v .lock) some in rw (named-other processLimit blankProcess n x (p .processes) (omega arith) (p .holder) (λ y. omega (arith, b .1, y))) (v .lock .held some);
+        };
         lists = record {
           numbered = numbered-set (o .numbered) n x n (omega arith) (omega arith, omega arith) (omega arith);
           arrivals = tracked ready refl (p .arrival) (o .arrivals);
@@ -313,15 +336,15 @@ module _ (c : Context) (p : Partition) (v : Valid (c .frame) (c .time) p) where
   entered-valid ends frame near e =
       let q = withMode 3 p in
       let f = entered c in
-      valid-of (c .frame) (c .time) q (each f q) (each-rest f q (v .lists)) (omega arith) (v .objects) (each-listed f q (v .lists)) (λ id b.
+      valid-of (c .frame) (c .time) q (each f q) (each-rest f q (v .lists)) (omega arith) (no-lock _ _) (λ some. absurd (omega arith)) (v .objects) (each-listed f q (v .lists)) (λ id b.
       rw (each-process f q (v .lists) id b) (entered-sound c ends frame near true refl _ (c .time) (normalMode p) e (process id p) (v .eachProcess id b)))
 
 -- the wait that a transfer ends
 pub ended-valid : (frame t : ℕ) (p : Partition) → Valid frame t p → (limit : ℕ) (q : Queue) (a : Transfer) → SoundMove limit q a → SoundEnd p a → Valid frame t (endedBy a p)
 ended-valid frame t p v limit q (Put m) h e = v
-ended-valid frame t p v limit q (HandedTo id m) h e = stored-valid frame t p v id (e .0) _ (handed-sound _ (process id p) (v .eachProcess id (e .0)) (e .1) m h)
+ended-valid frame t p v limit q (HandedTo id m) h e = stored-valid frame t p v id (e .0) _ (handed-sound _ (process id p) (v .eachProcess id (e .0)) (e .1) m h) (not-holder p (v .lock) id _ (object-not-ready (process id p) (e .1)))
 ended-valid frame t p v limit q Taken h e = v
-ended-valid frame t p v limit q (LetIn id m) h e = stored-valid frame t p v id (e .0) _ (ended-sound _ (process id p) (v .eachProcess id (e .0)) (e .1))
+ended-valid frame t p v limit q (LetIn id m) h e = stored-valid frame t p v id (e .0) _ (ended-sound _ (process id p) (v .eachProcess id (e .0)) (e .1)) (not-holder p (v .lock) id _ (object-not-ready (process id p) (e .1)))
 
 -- a partition with the same processes
 pub end-same : (p q : Partition) (a : Transfer) → q .processes ≡ p .processes → q .processCount ≡ p .processCount → SoundEnd p a → SoundEnd q a
@@ -333,7 +356,7 @@ end-same p q (LetIn id m) e f h = rw (e, f) h
 -- each change keeps a partition valid; k says that the call was made at a sound time
 pub change-valid : (c : Context) {o : Partition} → SoundContext c o → (p : Partition) → Valid (c .frame) (c .time) p → (a : Change) → SoundChange c p a → Valid (c .frame) (c .time) (applied a p)
 change-valid c k p v Nothing h = v
-change-valid c k p v (Stored id x) h = puts c p v id (h .0) x (h .1)
+change-valid c k p v (Stored id x) h = puts c p v id (h .0) x (h .1) (h .2)
 change-valid c k p v (Created id x) h = rw (h .next, h .dormant) (new-process-valid c p v (h .room) (x .given) (h .given))
 change-valid c k p v (Last id) h = arrived-valid (c .frame) (c .time) p v id h
 change-valid c k p v (StoredSemaphore j s) h = semaphore-valid (c .frame) (c .time) p v j (h .0) s (h .1)
@@ -348,6 +371,7 @@ change-valid c k p v (Moved j a) h =
 change-valid c k p v (StoredBlackboard j s) h = blackboard-valid (c .frame) (c .time) p v j (h .0) s (h .1)
 change-valid c k p v (Ended o) h = all-valid (c .frame) (c .time) p v served (λ x g on. ended-sound _ x g on) o
 change-valid c k p v (Handed o m) h = all-valid (c .frame) (c .time) p v (handed m) (λ x g on. handed-sound _ x g on m h) o
+change-valid c k p v (LevelSet level holder) h = record { mode = v .mode; lock = h; lists = v .lists; objects = v .objects; eachProcess = v .eachProcess }
 change-valid c k p v (Entered d) h = rw (h .0) (entered-valid c p v (k .time) (k .frame .1) (k .near) (h .1))
 
 -- and so does each decision
@@ -370,8 +394,8 @@ pub record Caller (id : ℕ) (p : Partition) : Type 0 where
   pub created : Between 1 (p .processCount) id
   pub isReady : ready (process id p) ≡ true
 
-pub running-caller : (p : Partition) → ListedIn p → (running p ≡ 0 → ⊥) → Caller (running p) p
-running-caller p v some = let k = running-runs p v some .isReady in record { created = process-created ready refl p v (running p) k; isReady = k }
+pub running-caller : (p : Partition) → ListedIn p → LockIn p → (running p ≡ 0 → ⊥) → Caller (running p) p
+running-caller p v lock some = let k = running-ready p v lock some in record { created = process-created ready refl p v (running p) k; isReady = k }
 
 -- periodic and delay ≥ period is refused
 reaches-below : (period : Time) (delay : ℕ) → reaches period delay ≡ false → Below period delay
@@ -426,11 +450,22 @@ module _ (c : Context) (p : Partition) (v : Valid (c .frame) (c .time) p) (k : S
   in-checks l d f = by-checks (Sound c p) Refused l d (λ n. record { is = tt }) (λ h. record { is = f h })
 
   pub normal-caller : normalMode p ≡ true → Caller (c .caller) p
-  normal-caller n = rw (k .caller) (running-caller p (v .lists) (λ z. not-both _ (rw (n, z)) (or-false-parts (idleMode p) _ (k .calls) .1)))
+  normal-caller n = rw (k .caller) (running-caller p (v .lists) (v .lock) (λ z. not-both _ (rw (n, z)) (or-false-parts (idleMode p) _ (k .calls) .1)))
 
   -- not a start mode
   pub in-normal : startMode p ≡ false → normalMode p ≡ true
   in-normal h = not-false (normalMode p) h
+
+  -- the holder of the preemption lock is the caller; who is not the caller does not hold it
+  holder-calls : 0 < p .level → p .holder ≡ c .caller
+  holder-calls some = sym (k .caller ∙ holder-runs p (v .lists) (v .lock .normal some) some)
+
+  not-caller : (id : ℕ) (b : Bool) → eqb id (c .caller) ≡ false → 0 < p .level → id ≡ p .holder → b ≡ true
+  not-caller id b h some e = absurd (eqb-false id (c .caller) h (e ∙ holder-calls some))
+
+  -- where preemption is not locked nobody does
+  unlocked : locked (p .level) ≡ false → (id : ℕ) (b : Bool) → 0 < p .level → id ≡ p .holder → b ≡ true
+  unlocked h id b some e = absurd (let l = ltb-false 0 (p .level) h in omega arith)
 
   -- DORMANT or periodic is refused
   fit : (id : ℕ) → (dormant (process id p) || periodic (process id p)) ≡ false → (process id p .started ≡ true) × (periodic (process id p) ≡ false)
@@ -454,7 +489,8 @@ module _ (c : Context) (p : Partition) (v : Valid (c .frame) (c .time) p) (k : S
       let b = known-id id (p .processCount) (h .0) in
       let x = process id p in
       let l = v .eachProcess id b .lasting in
-      let d = v .eachProcess id b .dormant (not-true _ (not-false _ (h .1 .1 .0))) in
+      let off : x .started ≡ false = not-true _ (not-false _ (h .1 .1 .0)) in
+      let d = v .eachProcess id b .dormant off in
       let f = or-false-parts _ (reaches (x .given .period) (numberOf delay)) (h .1 .0) in
       let short = in-limits 0 durationLimit delay (not-false _ (f .0)) .1 in
       let below = reaches-below (x .given .period) (numberOf delay) (f .1) in (
@@ -463,6 +499,7 @@ module _ (c : Context) (p : Partition) (v : Valid (c .frame) (c .time) p) (k : S
           by-test (SoundProcess (settingOf (c .frame) (c .time) p)) (normalMode p)
               (λ e. start-sound c (k .time) (k .frame .1) (k .near) (normalMode p) e _ (numberOf delay) x l (d .times .release) short below)
               (λ e. early-sound _ x l (d .times) e (numberOf delay) short below),
+          not-holder p (v .lock) id _ (rw off),
         ),
         tt,
         omega arith,
@@ -472,20 +509,20 @@ module _ (c : Context) (p : Partition) (v : Valid (c .frame) (c .time) p) (k : S
   unfolding stop Passed
   stop-sound id = in-checks _ _ (λ h.
       let b = known-id id (p .processCount) (h .0) in
-      ((b, stopped-sound _ (process id p) (v .eachProcess id b)), tt, omega arith))
+      ((b, stopped-sound _ (process id p) (v .eachProcess id b), not-caller id _ (h .1 .0)), tt, omega arith))
 
   pub stop-self-sound : Sound c p (stopSelf c p)
   unfolding stopSelf Passed
   stop-self-sound = in-checks _ _ (λ h.
       let b = normal-caller (in-normal (h .0)) .created in
-      ((b, stopped-sound _ (process (c .caller) p) (v .eachProcess (c .caller) b)), tt, omega arith))
+      (no-lock _ _, (b, stopped-sound _ (process (c .caller) p) (v .eachProcess (c .caller) b), λ some. absurd (omega arith)), omega arith))
 
   pub suspend-sound : (id : ℕ) → Sound c p (suspend c id p)
   unfolding suspend Passed
   suspend-sound id = in-checks _ _ (λ h.
       let b = known-id id (p .processCount) (h .0) in
       let f = fit id (h .1 .1 .0) in
-      ((b, suspended-sound _ (process id p) (v .eachProcess id b) (f .0) (f .1)), tt, omega arith))
+      ((b, suspended-sound _ (process id p) (v .eachProcess id b) (f .0) (f .1), not-caller id _ (h .1 .0)), tt, omega arith))
 
   pub suspend-self-sound : (a : Field) → Sound c p (suspendSelf c a p)
   unfolding suspendSelf blocked Passed
@@ -496,7 +533,7 @@ module _ (c : Context) (p : Partition) (v : Valid (c .frame) (c .time) p) (k : S
       let x = process (c .caller) p in
       by-test (Sound c p) (isNumber 0 a)
       (λ _. record { is = (omega arith, omega arith) })
-      (λ e. record { is = (q .created, suspends-sound _ x (v .eachProcess (c .caller) (q .created)) n (q .isReady) (f .1) _ (timeout-ahead (c .time) a (k .time) (not-false _ (h .1 .0)) e)) }))
+      (λ e. in-checks _ _ (λ free. (q .created, suspends-sound _ x (v .eachProcess (c .caller) (q .created)) n (q .isReady) (f .1) _ (timeout-ahead (c .time) a (k .time) (not-false _ (h .1 .0)) e), unlocked (free .0) (c .caller) _))))
 
   pub timed-sound : (a : Field) → Sound c p (timedWait c a p)
   unfolding timedWait blocked Passed
@@ -507,21 +544,21 @@ module _ (c : Context) (p : Partition) (v : Valid (c .frame) (c .time) p) (k : S
       let g = v .eachProcess (c .caller) (q .created) in
       by-test (Sound c p) (isNumber 0 a)
       (λ _. record { is = ((q .isReady), tt, omega arith) })
-      (λ e. record { is = (q .created, waiting-sound _ x g n (q .isReady) Timed tt _ (duration-ahead (c .time) a (k .time) (not-false _ (h .1 .0)) e) (ready-released _ x g n (q .isReady))) }))
+      (λ e. in-checks _ _ (λ free. (q .created, waiting-sound _ x g n (q .isReady) Timed tt _ (duration-ahead (c .time) a (k .time) (not-false _ (h .1 .0)) e) (ready-released _ x g n (q .isReady)), unlocked (free .0) (c .caller) _))))
 
   pub periodic-sound : Sound c p (periodicWait c p)
   unfolding periodicWait blocked Passed
-  periodic-sound = in-checks _ _ (λ h.
+  periodic-sound = by-checks (Sound c p) Refused _ _ (λ n. record { is = tt }) (λ h. in-checks _ _ (λ free.
       let f = or-false-parts (startMode p) _ (h .0) in
       let n = in-normal (f .0) in
       let q = normal-caller n in
-      (q .created, next-sound _ (process (c .caller) p) (v .eachProcess (c .caller) (q .created)) n (q .isReady) (k .time) (not-false _ (f .1))))
+      (q .created, next-sound _ (process (c .caller) p) (v .eachProcess (c .caller) (q .created)) n (q .isReady) (k .time) (not-false _ (f .1)), unlocked (free .0) (c .caller) _)))
 
   pub resume-sound : (id : ℕ) → Sound c p (resume c id p)
   unfolding resume Passed
   resume-sound id = in-checks _ _ (λ h.
       let b = known-id id (p .processCount) (h .0) in
-      ((b, resumed-sound _ (process id p) (v .eachProcess id b) (fit id (h .1 .1 .0) .0)), tt, omega arith))
+      ((b, resumed-sound _ (process id p) (v .eachProcess id b) (fit id (h .1 .1 .0) .0), not-caller id _ (h .1 .0)), tt, omega arith))
 
   pub priority-sound-in : (id : ℕ) (a : Field) → Sound c p (setPriority id a p)
   unfolding setPriority Passed
@@ -529,7 +566,7 @@ module _ (c : Context) (p : Partition) (v : Valid (c .frame) (c .time) p) (k : S
       let b = known-id id (p .processCount) (h .0) in
       let x = process id p in
       let y = withCurrent (numberOf a) x in (
-        (b, priority-sound _ x (v .eachProcess id b) (not-false (x .started) (h .1 .1 .0)) (numberOf a) (in-limits 1 priorityLimit a (not-false _ (h .1 .0)))),
+        (b, priority-sound _ x (v .eachProcess id b) (not-false (x .started) (h .1 .1 .0)) (numberOf a) (in-limits 1 priorityLimit a (not-false _ (h .1 .0))), λ some e. ap (λ y. ready (process y p)) e ∙ v .lock .held some),
         by-test (SoundChange c (stored id y p)) (ready x) (λ e. rw (process-stored p id y (v .lists) b) e) (λ _. tt),
         omega arith,
       ))
@@ -540,6 +577,36 @@ module _ (c : Context) (p : Partition) (v : Valid (c .frame) (c .time) p) (k : S
     omega (arith, status-small c id (process id p)),
     more-room latestDeadline numberLimit (process id p .times .deadline) (omega arith) (times-bounded _ (process id p) (v .eachProcess id (known-id id (p .processCount) (h .0))) (k .time) .deadline),
   ))
+
+  -- ------------------------------------------------------------ the preemption lock
+  pub lock-sound : Sound c p (lockPreemption c p)
+  unfolding lockPreemption Passed
+  lock-sound = in-checks _ _ (λ h.
+      let n = in-normal (h .0) in
+      let room = leb-false levelLimit (p .level) (h .1 .0) in (
+        record {
+          few = omega arith;
+          free = λ z. absurd (omega arith);
+          normal = λ _. n;
+          held = λ _. by-test (λ (id : ℕ). ready (process id p) ≡ true) (locked (p .level)) (λ e. v .lock .held (ltb-true 0 (p .level) e)) (λ _. normal-caller n .isReady);
+        },
+        tt,
+        omega arith,
+      ))
+
+  pub unlock-sound : Sound c p (unlockPreemption p)
+  unfolding unlockPreemption Passed
+  unlock-sound = in-checks _ _ (λ h.
+      let some = ltb-true 0 (p .level) (not-false _ (h .1 .0)) in (
+        record {
+          few = omega (arith, v .lock .few);
+          free = λ z. rw z;
+          normal = λ _. in-normal (h .0);
+          held = λ more. rw (lt-ltb 0 (p .level - 1) more) (v .lock .held some);
+        },
+        tt,
+        omega arith,
+      ))
 
   -- ------------------------------------------------------------ objects
   pub create-semaphore-sound : (r : Request) → Sound c p (createSemaphore r p)
@@ -582,8 +649,8 @@ module _ (c : Context) (p : Partition) (v : Valid (c .frame) (c .time) p) (k : S
       let t = and-true-parts beside _ (not-false _ (f .1 .1 .0)) in
       by-test (Sound c p) b
       (λ e. done (f .0) (t .0) e)
-      (λ _. in-checks _ _ (λ e.
-      (q .created, waiting-sound _ x g n (q .isReady) w (rw class (known (f .0) (t .0))) _ (rw class (timeout-ahead (c .time) a (k .time) (t .1) (e .0))) (rw class (ready-released _ x g n (q .isReady)))))))
+      (λ _. by-checks (Sound c p) Refused _ _ (λ n. record { is = tt }) (λ e. in-checks _ _ (λ free.
+      (q .created, waiting-sound _ x g n (q .isReady) w (rw class (known (f .0) (t .0))) _ (rw class (timeout-ahead (c .time) a (k .time) (t .1) (e .0))) (rw class (ready-released _ x g n (q .isReady))), unlocked (free .0) (c .caller) _)))))
 
   pub wait-semaphore-sound : (j : ℕ) (a : Field) → Sound c p (waitSemaphore c j a p)
   unfolding waitSemaphore Passed
@@ -602,7 +669,7 @@ module _ (c : Context) (p : Partition) (v : Valid (c .frame) (c .time) p) (k : S
   signalled-sound [] j b below on all =
       let s = v .objects .semaphores .each j b in
       value-sound j b (oneMore (semaphore j p .value)) (by-test (λ (n : ℕ). n ≤ semaphore j p .max) (ltb (semaphore j p .value) greatestValue) (λ _. omega (arith, s .value)) (λ _. s .value))
-  signalled-sound (id ∷ l) j b below on all = let i : (eqb id id || contains id l) ≡ true = rw (eq-eqb id id refl) in (all id i, ended-sound _ (process id p) (v .eachProcess id (all id i)) (on id i))
+  signalled-sound (id ∷ l) j b below on all = let i : (eqb id id || contains id l) ≡ true = rw (eq-eqb id id refl) in (all id i, ended-sound _ (process id p) (v .eachProcess id (all id i)) (on id i), not-holder p (v .lock) id _ (object-not-ready (process id p) (on id i)))
 
   pub signal-sound : (j : ℕ) → Sound c p (signal j p)
   unfolding signal Passed
@@ -722,7 +789,7 @@ call-sound c x n r p v k s =
     (create-process-sound c p v k)
     (start-sound-in c p v k)
     (λ _. stop-sound c p v k)
-    (stop-self-sound c p v k)
+    (λ _. stop-self-sound c p v k)
     (suspend-sound c p v k)
     (suspend-self-sound c p v k)
     (timed-sound c p v k)
@@ -748,4 +815,6 @@ call-sound c x n r p v k s =
     (clear-sound c p v k)
     (λ _. send-channel-sound c p v k x _ _)
     (λ _. receive-channel-sound c p v k x (s .first) _)
+    (λ _. lock-sound c p v k)
+    (λ _. unlock-sound c p v k)
     (λ _. record { is = tt })

@@ -47,3 +47,4 @@ pub mod Account
 pub mod Transfers
 pub mod Families
 pub mod Channels
+pub mod Locks

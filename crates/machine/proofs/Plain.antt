@@ -9,13 +9,13 @@ use lib.ListN.{length, getD, List·getD-eq-default}
 use lib.Seq.{ext-getD}
 use lib.Dec.{eqb, leb, ltb}
 use lib.IntN.{ℤ, pos, negsuc}
-use borrow.Author.Tests.{lt-ltb, le-ltb, le-leb, lt-leb, ltb-true, ltb-false, leb-true, leb-false, eq-eqb, ne-eqb, not-true, not-false}
+use borrow.Author.Tests.{lt-ltb, le-ltb, le-leb, lt-leb, ltb-true, ltb-false, leb-true, leb-false, eq-eqb, ne-eqb, eqb-true, eqb-false, not-true, not-false}
 use Rattle.machine.specs.declared.Ids.{Ids}
 use Rattle.machine.specs.declared.Process.{Process}
 use Rattle.machine.specs.declared.Partition.{Partition}
 use Rattle.machine.specs.declared.Context.{Context}
 use Rattle.machine.specs.declared.Change.{Change}
-use Rattle.machine.specs.declared.Change.the-variants.{Nothing, Stored, Created, Last, StoredSemaphore, StoredEvent, CreatedBuffer, Moved, StoredBlackboard, Ended, Handed, Entered}
+use Rattle.machine.specs.declared.Change.the-variants.{Nothing, Stored, Created, Last, StoredSemaphore, StoredEvent, CreatedBuffer, Moved, StoredBlackboard, Ended, Handed, LevelSet, Entered}
 use Rattle.machine.specs.declared.Transfer.{Transfer}
 use Rattle.machine.specs.declared.Transfer.the-variants.{Put, HandedTo, Taken, LetIn}
 use Rattle.machine.specs.declared.Wait.the-variants.{Source}
@@ -29,7 +29,7 @@ use Rattle.machine.specs.declared.Stepped.{Stepped}
 use Rattle.machine.specs.declared.Field.{Field}
 use Rattle.machine.specs.declared.Time.{Time}
 use Rattle.machine.specs.declared.Time.the-variants.{Never, At}
-use Rattle.machine.specs.Limits.{processLimit, semaphoreLimit, eventLimit, bufferLimit, blackboardLimit, durationLimit, timeLimit, partitionLimit, channelLimit, messageLimit, greatestTime, greatestValue}
+use Rattle.machine.specs.Limits.{processLimit, semaphoreLimit, eventLimit, bufferLimit, blackboardLimit, levelLimit, durationLimit, timeLimit, partitionLimit, channelLimit, messageLimit, greatestTime, greatestValue}
 use Rattle.machine.specs.Messages.{queueOf, endsWait}
 use Rattle.machine.specs.Fields.{field, requestOf, isNumber, between, isMinusOne, numberOf}
 use Rattle.machine.specs.Ids.{members, idsOf, kept, other, removed, follow}
@@ -169,6 +169,7 @@ module _ (c : Context) {o : Partition} (k : SoundContext c o) where
   change-plain p v (StoredBlackboard j b) h = blackboard-in j b p (within-in blackboardLimit j (h .0 .0 .0) (h .0 .1)) ∙ rw (count-with (p .blackboardCount) j (h .0 .0 .1))
   change-plain p v (Ended o) h = all-plain served (waiters o p) p (v .lists) (waiters-created p (v .lists) o)
   change-plain p v (Handed o m) h = all-plain (handed m) (waiters o p) p (v .lists) (waiters-created p (v .lists) o)
+  change-plain p v (LevelSet level holder) h = refl
   change-plain p v (Entered d) h = each-plain (entered d) (withMode 3 p) (v .lists)
 
   -- and what it stores has its place
@@ -184,6 +185,7 @@ module _ (c : Context) {o : Partition} (k : SoundContext c o) where
   change-in-place p v (StoredBlackboard j b) h = (h .0 .0 .0, omega (arith, h .0 .1, v .objects .blackboards .numbered .size))
   change-in-place p v (Ended o) h = tt
   change-in-place p v (Handed o m) h = tt
+  change-in-place p v (LevelSet level holder) h = tt
   change-in-place p v (Entered d) h = omega (arith, v .lists .numbered .few, v .lists .numbered .size)
 
 -- ---------------------------------------------------------------- the tick
@@ -369,6 +371,9 @@ numbers-plain frame t p v ends = record {
       let s = process id p .times in
       record { release = uncapped latestWake (s .release) (u .release) (omega arith); deadline = uncapped latestDeadline (s .deadline) (u .deadline) (omega arith); wake = uncapped latestWake (s .wake) (u .wake) (omega arith) };
   values = λ k b. let u = v .objects .semaphores .each k b in omega (arith, u .value, u .max .1);
+  level = either (eqb (p .level) levelLimit)
+      (λ e. le-leb levelLimit (p .level) (omega (arith, eqb-true (p .level) levelLimit e)) ∙ sym e)
+      (λ e. lt-leb levelLimit (p .level) (let ne = eqb-false (p .level) levelLimit e in omega (arith, v .lock .few)) ∙ sym e);
 }
 
 -- the sums of a call, each said by itself

@@ -9,13 +9,13 @@ use native.Mathlib.Omega.{arith}
 use lib.ListN.{length, getD, set, take}
 use lib.Dec.{eqb, leb}
 use lib.IntN.{ℤ, pos, negsuc}
-use borrow.Author.Tests.{lt-ltb, eq-eqb, ne-eqb, eqb-true, le-leb, leb-true, not-false}
+use borrow.Author.Tests.{lt-ltb, le-ltb, eq-eqb, ne-eqb, eqb-true, le-leb, leb-true, not-false}
 use Rattle.machine.specs.declared.Ids.{Ids}
 use Rattle.machine.specs.declared.Process.{Process}
 use Rattle.machine.specs.declared.Partition.{Partition}
 use Rattle.machine.specs.declared.Context.{Context}
 use Rattle.machine.specs.declared.Change.{Change}
-use Rattle.machine.specs.declared.Change.the-variants.{Nothing, Stored, Created, Last, StoredSemaphore, StoredEvent, CreatedBuffer, Moved, StoredBlackboard, Ended, Handed, Entered}
+use Rattle.machine.specs.declared.Change.the-variants.{Nothing, Stored, Created, Last, StoredSemaphore, StoredEvent, CreatedBuffer, Moved, StoredBlackboard, Ended, Handed, LevelSet, Entered}
 use Rattle.machine.specs.declared.Transfer.{Transfer}
 use Rattle.machine.specs.declared.Transfer.the-variants.{Put, HandedTo, Taken, LetIn}
 use Rattle.machine.specs.declared.Decision.{Decision}
@@ -37,10 +37,10 @@ use Rattle.machine.specs.Limits.{callLimit, processLimit, semaphoreLimit
 use Rattle.machine.specs.Messages.{moved, endsWait}
 use Rattle.machine.specs.Ids.{members, keptIf, kept, other}
 use Rattle.machine.specs.Process.{Class, classOf, objectIn, forNormal, blankProcess, later, object, onObject, periodic, ready, due, waitsForNothing, waitsForNormal, onlyMarked, served, handed, waitingFor, woken, expired, ticked, entered, startRule, startedEarly}
-use Rattle.machine.specs.Partition.{within, nothingCreated, idleMode, normalMode, noSemaphore, noEvent, process, semaphore, event, stored, created, storedSemaphore, storedEvent, storedBuffer, storedBlackboard, emptyBuffer, movedIn, endedBy, buffer, arrivedLast, changedAll, waitsOn, waiters, running, applied, tickPartition, enteredNormal, withMode, withEvents, each, noted}
+use Rattle.machine.specs.Partition.{within, nothingCreated, idleMode, normalMode, noSemaphore, noEvent, process, semaphore, event, stored, created, storedSemaphore, storedEvent, storedBuffer, storedBlackboard, emptyBuffer, movedIn, endedBy, buffer, arrivedLast, withLock, changedAll, waitsOn, waiters, running, applied, tickPartition, enteredNormal, withMode, withEvents, each, noted}
 use Rattle.machine.specs.Fields.{field, requestOf, isNumber, isTimeout, isMessage, numberOf, timeOf}
 use Rattle.machine.specs.Decisions.{checked, replyOf, changed, unchanged, unknown, blocked, startMode, queued, awaiting}
-use Rattle.machine.specs.Calls.{setMode, createProcess, start, stop, stopSelf, suspend, suspendSelf, timedWait, periodicWait, resume, setPriority, getStatus}
+use Rattle.machine.specs.Calls.{setMode, createProcess, start, stop, stopSelf, suspend, suspendSelf, timedWait, periodicWait, resume, setPriority, getStatus, lockPreemption, unlockPreemption}
 use Rattle.machine.specs.Objects.{oneMore, withValue, withUp, createSemaphore, waitSemaphore, signalled, signal, createEvent, setEvent, resetEvent, waitEvent}
 use Rattle.machine.specs.Channels.{otherEnd, portOf, channelChecks, write, read, send, receive, erasedTo}
 use Rattle.machine.specs.Buffers.{createBuffer, sendBuffer, receiveBuffer}
@@ -52,8 +52,8 @@ use Rattle.machine.specs.Ticks.{tickModule}
 use Rattle.machine.specs.Step.{contextOf, decision, moduleAfter, step}
 use Rattle.machine.specs.Valid.{Between, contains, Distinct, ListedIn, Valid, SoundEnd, SoundChange, SoundDecision, SoundModule, Reached, plainTick}
 use Rattle.machine.specs.Plain.{plainById, followed, plainStored}
-use Rattle.machine.specs.Starred.{own, callBy, Calling, Gives, WaitEnded}
-use Rattle.machine.specs.Queues.{SameObjects, has, Queue, KeepsOrEnds, NotExchanged, QueueChanges, joining, QueueAfter, WaitsFor, TimeOut, Queued, FirstServed, NoneServed, AllServed, Queues}
+use Rattle.machine.specs.Starred.{own, callBy, WaitsFor, TimeOut, Calling, Gives, WaitEnded}
+use Rattle.machine.specs.Queues.{SameObjects, has, Queue, KeepsOrEnds, NotExchanged, QueueChanges, joining, QueueAfter, Queued, WouldWait, FirstServed, NoneServed, AllServed, Queues}
 use Rattle.machine.proofs.Tests.{by-test, not-both, or-left, or-right, and-left, and-right, Passed, passed-parts, by-checks}
 use Rattle.machine.proofs.Bounds.{same-or-not, not-so, within-in, within-out, named-same, named-other, semaphore-in, event-in, buffer-in, created-in, created-out}
 use Rattle.machine.proofs.Either.{either}
@@ -335,6 +335,7 @@ changes-queue p v o some = record {
   stored = λ id x b k. stored-queue p v id b x o some k;
   created = created-queue p v o some;
   arrived = arrived-queue p v o some;
+  locked = λ level holder. same-queue o p (withLock level holder p) refl (λ _. refl);
   semaphore = semaphore-queue p v o some;
   event = event-queue p v o some;
   buffer = buffer-queue p v o some;
@@ -361,6 +362,7 @@ OrderlyChange p (Moved k a) = Unit {0}
 OrderlyChange p (StoredBlackboard k b) = Unit {0}
 OrderlyChange p (Ended o) = Unit {0}
 OrderlyChange p (Handed o m) = Unit {0}
+OrderlyChange p (LevelSet level holder) = Unit {0}
 OrderlyChange p (Entered c) = Unit {0}
 
 -- only the caller begins to wait, in NORMAL, and the answer is 7 then
@@ -400,7 +402,7 @@ module _ (c : Context) (p : Partition) where
 
   await-order : (before : List (Bool × ℕ)) (beside : Bool) (after : List (Bool × ℕ)) (a : Field) (b : Bool) (success : Decision) (w : Wait) → InOrder c p success → InOrder c p (awaiting c before beside after a b success w p)
   unfolding awaiting queued blocked Passed
-  await-order before beside after a b success w f = in-order _ _ (λ h. by-test (InOrder c p) b (λ _. f) (λ _. in-order _ _ (λ _. fine (refl, normal (passed-parts before _ h .1 .0)))))
+  await-order before beside after a b success w f = in-order _ _ (λ h. by-test (InOrder c p) b (λ _. f) (λ _. in-order _ _ (λ _. in-order _ _ (λ _. fine (refl, normal (passed-parts before _ h .1 .0))))))
 
   signalled-order : (l : List ℕ) (k : ℕ) → OrderlyChange p (signalled l k p)
   unfolding signalled
@@ -408,18 +410,18 @@ module _ (c : Context) (p : Partition) where
   signalled-order (id ∷ l) k = inl refl
 
   pub call-order : (x : Port) (n : ℕ) (r : Request) → InOrder c p (callDecision c x n r p)
-  unfolding setMode createProcess start stop stopSelf suspend suspendSelf timedWait periodicWait resume setPriority getStatus createSemaphore createEvent blocked waitSemaphore waitEvent signal setEvent resetEvent write read channelChecks createBuffer sendBuffer receiveBuffer createBlackboard show readBlackboard clear send receive Passed
+  unfolding setMode createProcess start stop stopSelf suspend suspendSelf timedWait periodicWait resume setPriority getStatus createSemaphore createEvent blocked waitSemaphore waitEvent signal setEvent resetEvent write read channelChecks createBuffer sendBuffer receiveBuffer createBlackboard show readBlackboard clear send receive lockPreemption unlockPreemption Passed
   call-order x n r =
       by-call c x n r p (InOrder c p)
       (λ _. in-order _ _ (λ _. by-test (InOrder c p) (isNumber 3 (r .a)) (λ _. fine (tt, tt)) (λ _. fine tt)))
       (λ _. in-order _ _ (λ _. fine (tt, tt)))
       (λ id delay. in-order _ _ (λ _. fine (starts id (numberOf delay), tt)))
       (λ _ _. in-order _ _ (λ _. fine (inl refl, tt)))
-      (in-order _ _ (λ _. fine (inl refl, tt)))
+      (λ _. in-order _ _ (λ _. fine (tt, inl refl)))
       (λ _. in-order _ _ (λ _. fine (inr refl, tt)))
-      (λ a. in-order _ _ (λ h. by-test (InOrder c p) (isNumber 0 a) (λ _. fine tt) (λ _. fine (refl, normal (or-left (startMode p) _ (h .0))))))
-      (λ a. in-order _ _ (λ h. by-test (InOrder c p) (isNumber 0 a) (λ _. fine (tt, tt)) (λ _. fine (refl, normal (h .0)))))
-      (in-order _ _ (λ h. fine (refl, normal (or-left (startMode p) _ (h .0)))))
+      (λ a. in-order _ _ (λ h. by-test (InOrder c p) (isNumber 0 a) (λ _. fine tt) (λ _. in-order _ _ (λ _. fine (refl, normal (or-left (startMode p) _ (h .0)))))))
+      (λ a. in-order _ _ (λ h. by-test (InOrder c p) (isNumber 0 a) (λ _. fine (tt, tt)) (λ _. in-order _ _ (λ _. fine (refl, normal (h .0))))))
+      (in-order _ _ (λ h. in-order _ _ (λ _. fine (refl, normal (or-left (startMode p) _ (h .0))))))
       (λ id. in-order _ _ (λ _. fine (by-test (KeepsOrEnds (process id p)) (waitsForNothing (process id p .wait)) (λ _. inl refl) (λ _. inr refl), tt)))
       (λ id _. in-order _ _ (λ _. fine (inr refl, by-test (OrderlyChange _) (ready (process id p)) (λ _. tt) (λ _. tt))))
       (λ _. in-order _ _ (λ _. fine tt))
@@ -441,6 +443,8 @@ module _ (c : Context) (p : Partition) where
       (λ _. in-order _ _ (λ _. fine (tt, tt)))
       (λ _. await-order _ _ _ _ _ _ _ (fine tt))
       (λ _. await-order _ _ _ _ _ _ _ (fine tt))
+      (λ _. in-order _ _ (λ _. fine (tt, tt)))
+      (λ _. in-order _ _ (λ _. fine (tt, tt)))
       (λ _. fine tt)
     where
       starts : (id delay : ℕ) → KeepsOrEnds (process id p) (cond (normalMode p) (startRule c delay (process id p)) (startedEarly delay (process id p)))
@@ -480,6 +484,7 @@ module _ (o : ℕ) (some : o ≡ 0 → ⊥) where
   change-part c p v (StoredBlackboard j b) h k = part-of _ _ (blackboard-queue p (v .lists) o some j b)
   change-part c p v (Ended u) h k = record { by = _; is = ended-waits p (v .lists) o some served (λ _. refl) u }
   change-part c p v (Handed u m) h k = record { by = _; is = ended-waits p (v .lists) o some (handed m) (λ _. refl) u }
+  change-part c p v (LevelSet level holder) h k = part-of _ _ (same-queue o p (withLock level holder p) refl (λ _. refl))
   change-part c p v (Entered d) h k = part-of _ _ (entered-queue p (v .lists) o some d)
 
 -- a READY process that begins to wait: it joins last, where it waits on the object
@@ -578,7 +583,7 @@ module _ (m : Module) (s : SoundModule m) (o : ℕ) (some : o ≡ 0 → ⊥) whe
 
     -- the caller in NORMAL
     caller-is : (id : ℕ) → id ≡ running now → normalMode now ≡ true → Caller id now
-    caller-is id e n = rw e (running-caller now (now-valid .lists) (λ z. not-both _ (rw (n, z)) (or-right (idleMode now) _ (c .caller))))
+    caller-is id e n = rw e (running-caller now (now-valid .lists) (now-valid .lock) (λ z. not-both _ (rw (n, z)) (or-right (idleMode now) _ (c .caller))))
 
     restart-part : (mode : ℕ) → Part (waiters o now) (waiters o (nothingCreated mode))
     unfolding waiters kept
@@ -764,10 +769,10 @@ module _ (m : Module) (k : ℕ) (u : SoundModule m) (h : Calling m k) where
     abbrev then : Process
     then = waitingFor w (later (At (m .t)) (timeOf (field a))) (process (running p) p)
 
-    pub queued-by : strayField (serviceOf n .fields) (asked m k u h n (field (pos j)) (field x) (field y) (Number 0)) ≡ false
+    joins : strayField (serviceOf n .fields) (asked m k u h n (field (pos j)) (field x) (field y) (Number 0)) ≡ false
         → decides m k u h n (pos j) x y (pos 0) lo hi ≡ Blocked (running p) then → p .mode ≡ 3 → Queued m k asks w
-    queued-by stray is normal =
-        let c = running-caller p (valid .lists) (h .runs normal) in
+    joins stray is normal =
+        let c = running-caller p (valid .lists) (valid .lock) (h .runs normal) in
         let q = stored (running p) then p in
         let g = gives m k u h n (pos j) x y (pos 0) lo hi stray (Blocked (running p) then) is in
         record {
@@ -776,19 +781,27 @@ module _ (m : Module) (k : ℕ) (u : SoundModule m) (h : Calling m k) where
           queue = rw (own-after m k u h q g) (same-queue (object w) q (noted q) refl (λ _. refl) ∙ joins-last (object w) some p (valid .lists) (running p) (c .created) then (c .isReady) ∙ rw (eq-eqb (object w) (object w) refl));
         }
 
+    pub queued-by : strayField (serviceOf n .fields) (asked m k u h n (field (pos j)) (field x) (field y) (Number 0)) ≡ false
+        → decides m k u h n (pos j) x y (pos 0) lo hi ≡ blocked (p .level) (running p) then → p .mode ≡ 3 → WouldWait m k asks w
+    unfolding blocked checked
+    queued-by stray is normal = record {
+      free = λ free. joins stray (is ∙ rw (le-ltb 0 (p .level) (omega (arith, free)))) normal;
+      locked = λ some. gives m k u h n (pos j) x y (pos 0) lo hi stray (Refused 5) (is ∙ rw (lt-ltb 0 (p .level) some));
+    }
+
     pub queued-last : (count : ℕ) (success : Decision) → strayField (serviceOf n .fields) (asked m k u h n (field (pos j)) (field x) (field y) (Number 0)) ≡ false
         → decides m k u h n (pos j) x y (pos 0) lo hi ≡ awaiting (contextOf m k) ((unknown j count, 3) ∷ []) true [] (field a) false success w p
-        → Between 1 count j → p .mode ≡ 3 → WaitsFor a → Queued m k asks w
-    unfolding awaiting queued blocked checked
+        → Between 1 count j → p .mode ≡ 3 → WaitsFor a → WouldWait m k asks w
+    unfolding awaiting queued checked
     queued-last count success stray is b normal t =
         let f = waits-for a t in
         queued-by stray (is ∙ rw (known m k u h j count b, eq-eqb (p .mode) 3 normal, f .0, f .1)) normal
 
-  pub wait-semaphore : (j : ℕ) (a : ℤ) → p .mode ≡ 3 → Between 1 (p .semaphoreCount) j → semaphore j p .value ≡ 0 → WaitsFor a → Queued m k (callBy k 15 (pos j) a (pos 0) (pos 0)) (Semaphore j)
+  pub wait-semaphore : (j : ℕ) (a : ℤ) → p .mode ≡ 3 → Between 1 (p .semaphoreCount) j → semaphore j p .value ≡ 0 → WaitsFor a → WouldWait m k (callBy k 15 (pos j) a (pos 0) (pos 0)) (Semaphore j)
   unfolding callDecision services strayField waitSemaphore
   wait-semaphore j a n b z t = queued-last 15 j a (pos 0) a (Semaphore j) (omega arith) (omega arith) (λ e. omega arith) (p .semaphoreCount) (changed (withValue j (semaphore j p .value - 1) p)) refl (rw (field-number j (omega (arith, b .1, valid .objects .semaphores .numbered .few)), z)) b n t
 
-  pub wait-event : (j : ℕ) (a : ℤ) → p .mode ≡ 3 → Between 1 (p .eventCount) j → event j p .up ≡ false → WaitsFor a → Queued m k (callBy k 20 (pos j) a (pos 0) (pos 0)) (Event j)
+  pub wait-event : (j : ℕ) (a : ℤ) → p .mode ≡ 3 → Between 1 (p .eventCount) j → event j p .up ≡ false → WaitsFor a → WouldWait m k (callBy k 20 (pos j) a (pos 0) (pos 0)) (Event j)
   unfolding callDecision services strayField waitEvent
   wait-event j a n b z t = queued-last 20 j a (pos 0) a (Event j) (omega arith) (omega arith) (λ e. omega arith) (p .eventCount) unchanged refl (rw (field-number j (omega (arith, b .1, valid .objects .events .numbered .few)), z)) b n t
 

@@ -65,7 +65,7 @@ current-known T s t = rw (frame-some T s) (owner-known 0 (T .frame) (T .size) (w
 
 -- ---------------------------------------------------------------- a partition stored, a message stored
 noted-valid : (frame t : ℕ) (p : Partition) → Valid frame t p → Valid frame t (noted p)
-noted-valid frame t p v = record { mode = v .mode; lists = v .lists; objects = v .objects; eachProcess = v .eachProcess }
+noted-valid frame t p v = record { mode = v .mode; lock = v .lock; lists = v .lists; objects = v .objects; eachProcess = v .eachProcess }
 
 soonest-noted : (k n id : ℕ) (p : Partition) → soonestFrom n id p ≡ soonestFrom n id (withSoonest k p)
 unfolding soonestFrom

@@ -1,5 +1,5 @@
--- The running process: where one runs, it is READY, of greatest current priority, and first among its equals in the arrival list. Assumes
--- nothing.
+-- The running process: where one runs, it is READY; while preemption is locked it is the holder, else it is of greatest current priority, and
+-- first among its equals in the arrival list. Assumes nothing.
 use Prim.Native.Nat.{ℕ, _≤_, _<_}
 use mathlib.Core.Path.{_≡_, refl, ap, sym, _∙_}
 use mathlib.Core.Bool.{true, _||_, or-true}
@@ -7,13 +7,13 @@ use mathlib.Core.List.{List, [], _∷_, _++_}
 use mathlib.Core.Logic.{_↔_}
 use native.Mathlib.Omega.{arith}
 use lib.Dec.{eqb, ltb}
-use borrow.Author.Tests.{eq-eqb, ne-eqb, eqb-true, ltb-true, ltb-false}
+use borrow.Author.Tests.{eq-eqb, ne-eqb, eqb-true, lt-ltb, le-ltb, ltb-true, ltb-false}
 use Rattle.machine.specs.declared.Partition.{Partition}
 use Rattle.machine.specs.declared.Choice.{Choice}
 use Rattle.machine.specs.Ids.{members}
 use Rattle.machine.specs.Process.{ready}
-use Rattle.machine.specs.Partition.{normalMode, process, chosen, running}
-use Rattle.machine.specs.Valid.{contains, ListedIn, Runs}
+use Rattle.machine.specs.Partition.{normalMode, locked, process, chosen, running}
+use Rattle.machine.specs.Valid.{contains, ListedIn, LockIn, Runs}
 use Rattle.machine.proofs.Tests.{by-test, not-both}
 use Rattle.machine.proofs.Bounds.{so}
 use Rattle.machine.proofs.Either.{either}
@@ -135,26 +135,39 @@ module _ (p : Partition) (v : ListedIn p) where
       let q : Proper (x ∷ l) = rw e at proper in
       q _ (first-member p (x ∷ l) _ (first-chosen p x l q)) z
 
-  pub running-runs : (running p ≡ 0 → ⊥) → Runs p (running p)
+  -- while preemption is locked the holder runs
+  pub holder-runs : normalMode p ≡ true → 0 < p .level → running p ≡ p .holder
   unfolding running
-  running-runs = by-test (λ (r : ℕ). (r ≡ 0 → ⊥) → Runs p r) (normalMode p) (λ _. ran (members (p .arrival)) refl) (λ _ some. absurd (some refl))
+  holder-runs n some = rw (n, lt-ltb 0 (p .level) some)
 
-  -- a process runs exactly where the mode is NORMAL and one is READY
+  pub running-runs : p .level ≡ 0 → (running p ≡ 0 → ⊥) → Runs p (running p)
+  unfolding running
+  running-runs free = by-test (λ (r : ℕ). (r ≡ 0 → ⊥) → Runs p r) (normalMode p) (λ _. rw (le-ltb 0 (p .level) (omega (arith, free))) (ran (members (p .arrival)) refl)) (λ _ some. absurd (some refl))
+
   pub running-normal : (running p ≡ 0 → ⊥) → normalMode p ≡ true
   unfolding running
   running-normal some = so (normalMode p) (λ e. some (rw e))
 
-  pub ready-runs : normalMode p ≡ true → (id : ℕ) → ready (process id p) ≡ true → running p ≡ 0 → ⊥
-  unfolding running
-  ready-runs n id k z = runs-some (members (p .arrival)) refl id k (rw n at z)
-
-  pub running-exact : (running p ≡ 0 → ⊥) ↔ ((normalMode p ≡ true) × ((id : ℕ) × (ready (process id p) ≡ true)))
-  running-exact = ((λ some. (running-normal some, (running p, running-runs some .isReady))), λ r. ready-runs (r .0) (r .1 .0) (r .1 .1))
-
   -- no READY process has a greater current priority
-  pub running-greatest : (some : running p ≡ 0 → ⊥) (id : ℕ) → ready (process id p) ≡ true → process id p .current ≤ process (running p) p .current
-  running-greatest some id k =
-      let r = running-runs some in
+  pub running-greatest : p .level ≡ 0 → (some : running p ≡ 0 → ⊥) (id : ℕ) → ready (process id p) ≡ true → process id p .current ≤ process (running p) p .current
+  running-greatest free some id k =
+      let r = running-runs free some in
       let top = process (running p) p .current in
       throughout (λ y. priorityOf p y ≤ top) (r .before) (running p) (r .after) (λ y e. omega (arith, r .smaller y e)) (omega arith) (r .notGreater) id
       (rw (← (r .split)) (v .arrivals .exact id ∙ k))
+
+  -- a process runs exactly where the mode is NORMAL and one is READY, and it is READY
+  module _ (lock : LockIn p) where
+    pub running-ready : (running p ≡ 0 → ⊥) → ready (process (running p) p) ≡ true
+    running-ready some = either (locked (p .level))
+        (λ e. let l = ltb-true 0 (p .level) e in rw (holder-runs (lock .normal l) l) (lock .held l))
+        (λ e. running-runs (let l = ltb-false 0 (p .level) e in omega arith) some .isReady)
+
+    pub ready-runs : normalMode p ≡ true → (id : ℕ) → ready (process id p) ≡ true → running p ≡ 0 → ⊥
+    unfolding running
+    ready-runs n id k z = either (locked (p .level))
+        (λ e. let b = process-created ready refl p v (p .holder) (lock .held (ltb-true 0 (p .level) e)) in let none : p .holder ≡ 0 = rw (n, e) at z in omega (arith, b .0))
+        (λ e. runs-some (members (p .arrival)) refl id k (rw (n, e) at z))
+
+    pub running-exact : (running p ≡ 0 → ⊥) ↔ ((normalMode p ≡ true) × ((id : ℕ) × (ready (process id p) ≡ true)))
+    running-exact = ((λ some. (running-normal some, (running p, running-ready some))), λ r. ready-runs (r .0) (r .1 .0) (r .1 .1))

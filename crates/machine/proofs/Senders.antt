@@ -16,7 +16,7 @@ use Rattle.machine.specs.declared.Port.{Port}
 use Rattle.machine.specs.declared.Buffer.{Buffer}
 use Rattle.machine.specs.declared.Queue.{Queue}
 use Rattle.machine.specs.declared.Change.{Change}
-use Rattle.machine.specs.declared.Change.the-variants.{Nothing, Stored, Created, Last, StoredSemaphore, StoredEvent, CreatedBuffer, Moved, StoredBlackboard, Ended, Handed, Entered}
+use Rattle.machine.specs.declared.Change.the-variants.{Nothing, Stored, Created, Last, StoredSemaphore, StoredEvent, CreatedBuffer, Moved, StoredBlackboard, Ended, Handed, LevelSet, Entered}
 use Rattle.machine.specs.declared.Transfer.{Transfer}
 use Rattle.machine.specs.declared.Transfer.the-variants.{Put, HandedTo, Taken, LetIn}
 use Rattle.machine.specs.declared.Decision.{Decision}
@@ -38,7 +38,7 @@ use Rattle.machine.specs.Messages.{sent, received, endsWait}
 use Rattle.machine.specs.Process.{classOf, objectIn, blankProcess, object, onObject, due, ready, waitsForNothing, waitsForNormal, carried, served, handed, woken, ticked, entered, startRule}
 use Rattle.machine.specs.Partition.{within, noBuffer, process, buffer, normalMode, emptyBuffer, movedIn, endedBy, firstWaiter, withMode, stored, storedSemaphore, storedEvent, storedBuffer, storedBlackboard, arrivedLast, waitsOn, waiters, changedAll, each, enteredNormal, tickPartition, applied, nothingCreated, noted}
 use Rattle.machine.specs.Decisions.{checked, changed, blocked, unknown, startMode, dormant, queued, awaiting}
-use Rattle.machine.specs.Calls.{setMode, createProcess, start, stop, stopSelf, suspend, suspendSelf, timedWait, periodicWait, resume, setPriority, getStatus}
+use Rattle.machine.specs.Calls.{setMode, createProcess, start, stop, stopSelf, suspend, suspendSelf, timedWait, periodicWait, resume, setPriority, getStatus, lockPreemption, unlockPreemption}
 use Rattle.machine.specs.Objects.{createSemaphore, waitSemaphore, signalled, signal, createEvent, setEvent, resetEvent, waitEvent}
 use Rattle.machine.specs.Buffers.{createBuffer, sendBuffer, receiveBuffer}
 use Rattle.machine.specs.Blackboards.{createBlackboard, show, readBlackboard, clear}
@@ -138,6 +138,7 @@ module _ (kind j : ℕ) (of : OfSenders kind) (low : j ≤ 16) where
   CalmChange n p (StoredBlackboard k b) = Unit {0}
   CalmChange n p (Ended o) = o ≡ senders → ⊥
   CalmChange n p (Handed o m) = o ≡ senders → ⊥
+  CalmChange n p (LevelSet level holder) = Unit {0}
   CalmChange n p (Entered c) = Unit {0}
 
   -- processes that change, and nothing else
@@ -240,6 +241,7 @@ module _ (kind j : ℕ) (of : OfSenders kind) (low : j ≤ 16) where
   change-stays n c p v (StoredBlackboard k b) h g = by-test (Stays n p) (within blackboardLimit k) (λ _. record { same = λ _. refl; count = omega arith; waits = λ id. keeps-same n (process id p .wait) }) (λ _. stays-same n p)
   change-stays n c p v (Ended o) h g = ended-stays n served (λ _. refl) o p (v .lists) g
   change-stays n c p v (Handed o m) h g = ended-stays n (handed m) (λ _. refl) o p (v .lists) g
+  change-stays n c p v (LevelSet level holder) h g = record { same = λ _. refl; count = omega arith; waits = λ id. keeps-same n (process id p .wait) }
   change-stays n c p v (Entered d) h g = stays-along n p (withMode 3 p) _ (record { same = λ _. refl; count = omega arith; waits = λ id. keeps-same n (process id p .wait) }) (each-stays n (entered d) (withMode 3 p) (v .lists) (entered-keeps n d))
 
   -- ---------------------------------------------------------------- decisions
@@ -301,7 +303,7 @@ module _ (kind j : ℕ) (of : OfSenders kind) (low : j ≤ 16) where
     unfolding awaiting queued blocked Passed
     await-calm before beside a b success w ne g = calm-checks _ _ (λ h.
         let r = passed-parts before _ h .0 in
-        by-test (IsCalm n f p) b (λ _. g r) (λ _. calm-checks _ _ (λ _. calm (ne r))))
+        by-test (IsCalm n f p) b (λ _. g r) (λ _. calm-checks _ _ (λ _. calm-checks _ _ (λ _. calm (ne r)))))
 
     await-known : (count k : ℕ) (beside : Bool) (a : Field) (b : Bool) (success : Decision) (w : Wait)
         → (Between 1 count k → object w ≡ senders → ⊥) → (Between 1 count k → IsCalm n f p success) → IsCalm n f p (awaiting c ((unknown k count, 3) ∷ []) beside [] a b success w p)
@@ -321,7 +323,7 @@ module _ (kind j : ℕ) (of : OfSenders kind) (low : j ≤ 16) where
     self-calm : (a : Field) → IsCalm n f p (suspendSelf c a p)
     unfolding suspendSelf blocked Passed
     self-calm a = calm-checks _ _ (λ h. by-test (IsCalm n f p) (isNumber 0 a) (λ _. calm tt) (λ _.
-        calm (λ e. senders-some (sym e ∙ caller-off (in-normal c p v s (or-false-parts (startMode p) _ (h .0) .0))))))
+        calm-checks _ _ (λ _. calm (λ e. senders-some (sym e ∙ caller-off (in-normal c p v s (or-false-parts (startMode p) _ (h .0) .0)))))))
 
     start-calm : (id : ℕ) (delay : Field) → IsCalm n f p (start c id delay p)
     unfolding start Passed
@@ -350,18 +352,18 @@ module _ (kind j : ℕ) (of : OfSenders kind) (low : j ≤ 16) where
 
     pub call-calm : (x : Port) (r : Request) → r .a ≡ f → (kind ≡ 3 → n ≡ 24 → numberOf (r .a) ≡ j → ⊥) → (kind ≡ 3 → n ≡ 25 → numberOf (r .a) ≡ j → ⊥)
         → (kind ≡ 6 → n ≡ 30 → x .exists ≡ true → x .place + 1 ≡ j → ⊥) → IsCalm n f p (callDecision c x n r p)
-    unfolding createProcess stop stopSelf suspend timedWait periodicWait setPriority getStatus createSemaphore createEvent blocked waitSemaphore waitEvent signal setEvent resetEvent write read channelChecks createBuffer sendBuffer receiveBuffer createBlackboard show readBlackboard clear send receive Passed
+    unfolding createProcess stop stopSelf suspend timedWait periodicWait setPriority getStatus createSemaphore createEvent blocked waitSemaphore waitEvent signal setEvent resetEvent write read channelChecks createBuffer sendBuffer receiveBuffer createBlackboard show readBlackboard clear send receive lockPreemption unlockPreemption Passed
     call-calm x r is no-send no-receive no-send-channel =
         by-call c x n r p (IsCalm n f p)
         (λ one. rw is (mode-calm one))
         (λ _. calm-checks _ _ (λ _. calm (tt, tt)))
         start-calm
         (λ five id. calm-checks _ _ (λ _. calm ((λ e. absurd (senders-some (sym e)), λ _. inr five), tt)))
-        (calm-checks _ _ (λ h. calm (idle (c .caller) None (caller-off (in-normal c p v s (h .0))) refl, tt)))
+        (λ _. calm-checks _ _ (λ h. calm (tt, idle (c .caller) None (caller-off (in-normal c p v s (h .0))) refl)))
         (λ id. calm-checks _ _ (λ _. calm (keeps-same n (process id p .wait), tt)))
         self-calm
-        (λ a. calm-checks _ _ (λ h. by-test (IsCalm n f p) (isNumber 0 a) (λ _. calm (tt, tt)) (λ _. calm (λ e. senders-some (sym e)))))
-        (calm-checks _ _ (λ _. calm (λ e. senders-some (sym e))))
+        (λ a. calm-checks _ _ (λ h. by-test (IsCalm n f p) (isNumber 0 a) (λ _. calm (tt, tt)) (λ _. calm-checks _ _ (λ _. calm (λ e. senders-some (sym e))))))
+        (calm-checks _ _ (λ _. calm-checks _ _ (λ _. calm (λ e. senders-some (sym e)))))
         resume-calm
         (λ id _. calm-checks _ _ (λ _. calm (keeps-same n (process id p .wait), by-test (CalmChange n _) (ready (process id p)) (λ _. tt) (λ _. tt))))
         (λ _. calm-checks _ _ (λ _. calm tt))
@@ -383,6 +385,8 @@ module _ (kind j : ℕ) (of : OfSenders kind) (low : j ≤ 16) where
         (λ _. calm-checks _ _ (λ _. calm (tt, tt)))
         (λ e. await-calm _ _ _ _ _ _ (λ h o. let l = ltb-true (x .place) channelLimit (and-right (queuing (x .channel)) _ (not-false _ (h .1 .0))) in no-send-channel (omega arith) e (not-false _ (h .0)) (omega arith)) (λ _. calm tt))
         (λ e. await-calm _ _ _ _ _ _ (λ h o. let l = ltb-true (x .place) channelLimit (and-right (queuing (x .channel)) _ (not-false _ (h .1 .0))) in of .ends (omega arith)) (λ _. calm tt))
+        (λ _. calm-checks _ _ (λ _. calm (tt, tt)))
+        (λ _. calm-checks _ _ (λ _. calm (tt, tt)))
         (λ _. calm tt)
       where
         few : p .bufferCount ≤ 8

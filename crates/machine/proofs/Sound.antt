@@ -342,6 +342,23 @@ ready-parts x h =
 pub ready-off : (x : Process) → ready x ≡ true → object (x .wait) ≡ 0
 ready-off x h = ap objectIn (ready-parts x h .2)
 
+pub ready-no-object : (x : Process) → ready x ≡ true → onObject x ≡ false
+ready-no-object x h = rw (ready-off x h)
+
+pub object-not-ready : (x : Process) → onObject x ≡ true → ready x ≡ false
+object-not-ready x h = not-so (ready x) (λ k. not-both _ h (ready-no-object x k))
+
+-- a tick leaves a READY process READY
+pub ticked-ready : (t : ℕ) (x : Process) → ready x ≡ true → ready (ticked t x) ≡ true
+unfolding woken expired
+ticked-ready t x h =
+    let r = ready-parts x h in
+    let stays : ready (woken t x) ≡ true =
+    by-test (λ (y : Process). ready y ≡ true) (due t (x .times .wake))
+    (λ _. by-test (λ (y : Process). ready y ≡ true) (onlyMarked x) (λ _. rw (r .0)) (λ _. rw (r .0, r .1)))
+    (λ _. h) in
+    by-test (λ (y : Process). ready y ≡ true) (due t (woken t x .times .deadline)) (λ _. stays) (λ _. stays)
+
 -- a READY process that begins to wait, in NORMAL
 module _ (s : Setting) (x : Process) (h : SoundProcess s x) (n : s .normal ≡ true) (k : ready x ≡ true) where
   started : x .started ≡ true

@@ -33,8 +33,8 @@ use Rattle.machine.specs.Places.{strayField}
 use Rattle.machine.specs.Module.{noPartition, channel, queue, withPart, withQueue}
 use Rattle.machine.specs.Step.{step}
 use Rattle.machine.specs.Valid.{Between, SoundModule, SoundMove}
-use Rattle.machine.specs.Starred.{own, callBy, Calling, Gives, Refuses}
-use Rattle.machine.specs.Queues.{WaitsFor, TimeOut, Queued, FirstServed, has, EndOf, ChannelCalls}
+use Rattle.machine.specs.Starred.{own, callBy, WaitsFor, TimeOut, Calling, Gives, Refuses}
+use Rattle.machine.specs.Queues.{WouldWait, FirstServed, has, EndOf, ChannelCalls}
 use Rattle.machine.specs.Plain.{plainMoved}
 use Rattle.machine.proofs.Either.{either}
 use Rattle.machine.proofs.Lists.{cons-not}
@@ -112,8 +112,8 @@ module _ (m : Module) (k : ℕ) (u : SoundModule m) (h : Calling m k) (normal : 
     apart : k ≡ to → ⊥
     apart e = u .table .eachChannel i there .apart (from ∙ e)
 
-    send-waits : (x : ℕ) (a : ℤ) → queue m i .len ≡ c .size → x ≤ durationLimit → WaitsFor a → Queued m k (callBy k 30 (pos (i + 1)) (pos x) a (pos 0)) (Source (i + 1) x)
-    unfolding callDecision services strayField send awaiting queued blocked checked channelChecks
+    send-waits : (x : ℕ) (a : ℤ) → queue m i .len ≡ c .size → x ≤ durationLimit → WaitsFor a → WouldWait m k (callBy k 30 (pos (i + 1)) (pos x) a (pos 0)) (Source (i + 1) x)
+    unfolding callDecision services strayField send awaiting queued checked channelChecks
     send-waits x a full ok t =
         let f = waits-for a t in
         queued-by m k u h 30 (i + 1) (pos x) a a (Source (i + 1) x) (omega arith) (omega arith) (λ e. omega arith) refl
@@ -172,8 +172,8 @@ module _ (m : Module) (k : ℕ) (u : SoundModule m) (h : Calling m k) (normal : 
     other : eqb from k ≡ false
     other = ne-eqb from k (λ e. source-apart (sym e))
 
-    receive-waits : (a : ℤ) → messages ≡ [] → WaitsFor a → Queued m k (callBy k 31 (pos (i + 1)) a (pos 0) (pos 0)) (Destination (i + 1))
-    unfolding callDecision services strayField receive awaiting queued blocked checked channelChecks
+    receive-waits : (a : ℤ) → messages ≡ [] → WaitsFor a → WouldWait m k (callBy k 31 (pos (i + 1)) a (pos 0) (pos 0)) (Destination (i + 1))
+    unfolding callDecision services strayField receive awaiting queued checked channelChecks
     receive-waits a empty t =
         let f = waits-for a t in
         let none : queue m i .len ≡ 0 = sym size ∙ ap length empty in

@@ -1,6 +1,6 @@
--- Calls 1 to 13: functions of what the call sees (Context), of the request's fields and of the partition's own record. The checks
--- stand in the order of document 01, then what an accepted call does. Defined for every record.
-use Prim.Native.Nat.{ℕ, _+_, _%_}
+-- Calls 1 to 13, 32 and 33: functions of what the call sees (Context), of the request's fields and of the partition's own record. The checks
+-- stand in the order of documents 01 and 02, then what an accepted call does. Defined for every record.
+use Prim.Native.Nat.{ℕ, _+_, _-_, _%_}
 use mathlib.Core.Bool.{Bool, true, false, cond, not, _&&_, _||_}
 use mathlib.Core.List.{List, [], _∷_}
 use lib.ListN.{take}
@@ -8,7 +8,7 @@ use lib.Dec.{leb, ltb, eqb}
 use Rattle.machine.specs.declared.Process.{Process}
 use Rattle.machine.specs.declared.Partition.{Partition}
 use Rattle.machine.specs.declared.Context.{Context}
-use Rattle.machine.specs.declared.Change.the-variants.{Nothing, Stored, Created, Last, Entered}
+use Rattle.machine.specs.declared.Change.the-variants.{Nothing, Stored, Created, Last, LevelSet, Entered}
 use Rattle.machine.specs.declared.Decision.{Decision}
 use Rattle.machine.specs.declared.Decision.the-variants.{Refused, Unchanged, Changed, Restarted}
 use Rattle.machine.specs.declared.Request.{Request}
@@ -16,10 +16,10 @@ use Rattle.machine.specs.declared.Wait.the-variants.{Timed}
 use Rattle.machine.specs.declared.Time.{Time}
 use Rattle.machine.specs.declared.Time.the-variants.{Never, At}
 use Rattle.machine.specs.declared.Field.{Field}
-use Rattle.machine.specs.Limits.{processLimit, priorityLimit, modeLimit, durationLimit}
+use Rattle.machine.specs.Limits.{processLimit, priorityLimit, modeLimit, levelLimit, durationLimit}
 use Rattle.machine.specs.Fields.{isNumber, between, isDuration, isMinusOne, isTimeout, isName, numberOf, timeOf}
 use Rattle.machine.specs.Process.{createdProcess, later, periodic, ready, withSuspended, withCurrent, waitingFor, suspendedUntil, startRule, startedEarly, stopped, resumed, nextRelease}
-use Rattle.machine.specs.Partition.{normalMode, process}
+use Rattle.machine.specs.Partition.{normalMode, locked, process}
 use Rattle.machine.specs.Decisions.{checked, changed, unchanged, blocked, unknown, startMode, dormant, nameTaken, creationChecks}
 
 -- 1 SET_PARTITION_MODE a. 3: not 0..3. 1: 3 in NORMAL. 5: 2 in COLD_START. 5: 3 with no process. Modes 0, 1, 2: mode set; processes,
@@ -92,12 +92,12 @@ stop c id p =
     ∷ [])
     (changed (Stored id (stopped (process id p))))
 
--- 6 STOP_SELF: same for the caller. 5: start mode.
+-- 6 STOP_SELF: same for the caller. 5: start mode. It brings the level of the preemption lock to 0.
 unfoldable pub stopSelf : Context → Partition → Decision
 stopSelf c p =
     checked Refused
     ((startMode p, 5) ∷ [])
-    (changed (Stored (c .caller) (stopped (process (c .caller) p))))
+    (Changed (LevelSet 0 0) (Stored (c .caller) (stopped (process (c .caller) p))) 0)
 
 -- 7 SUSPEND id. 3: the caller. 5: DORMANT or periodic. 1: suspended. Sets the mark.
 unfoldable pub suspend : Context → ℕ → Partition → Decision
@@ -110,34 +110,39 @@ suspend c id p =
     ∷ [])
     (changed (Stored id (withSuspended true (process id p))))
 
--- 8 SUSPEND_SELF a. 5: start mode or periodic. 3: not in T. a = 0 changes nothing; else mark set, w = t + a or −1, code 7.
+-- 8 SUSPEND_SELF a. 5: start mode or periodic. 3: not in T. 5: preemption is locked, time 0 included. a = 0 changes nothing; else mark set,
+-- w = t + a or −1, code 7.
 unfoldable pub suspendSelf : Context → Field → Partition → Decision
 suspendSelf c a p =
     checked Refused
     ((startMode p || periodic (process (c .caller) p), 5)
     ∷ (not (isTimeout a), 3)
+    ∷ (locked (p .level), 5)
     ∷ [])
     (cond (isNumber 0 a)
     unchanged
-    (blocked (c .caller) (suspendedUntil (later (At (c .time)) (timeOf a)) (process (c .caller) p))))
+    (blocked (p .level) (c .caller) (suspendedUntil (later (At (c .time)) (timeOf a)) (process (c .caller) p))))
 
--- 9 TIMED_WAIT a. 5: start mode. 3: not in D. a = 0: caller goes to the end of the arrival list; else waits timed, w = t + a, code 7.
+-- 9 TIMED_WAIT a. 5: start mode. 3: not in D. 5: preemption is locked, time 0 included. a = 0: caller goes to the end of the arrival list; else
+-- waits timed, w = t + a, code 7.
 unfoldable pub timedWait : Context → Field → Partition → Decision
 timedWait c a p =
     checked Refused
     ((startMode p, 5)
     ∷ (not (isDuration a), 3)
+    ∷ (locked (p .level), 5)
     ∷ [])
     (cond (isNumber 0 a)
     (changed (Last (c .caller)))
-    (blocked (c .caller) (waitingFor Timed (later (At (c .time)) (timeOf a)) (process (c .caller) p))))
+    (blocked (p .level) (c .caller) (waitingFor Timed (later (At (c .time)) (timeOf a)) (process (c .caller) p))))
 
--- 10 PERIODIC_WAIT. 5: start mode or aperiodic. r rises by period; w = r, d = r + capacity or −1; waits, code 7, even if r ≤ t.
+-- 10 PERIODIC_WAIT. 5: start mode or aperiodic. r rises by period; w = r, d = r + capacity or −1; waits, code 7, even if r ≤ t; 5 while
+-- preemption is locked.
 unfoldable pub periodicWait : Context → Partition → Decision
 periodicWait c p =
     checked Refused
     ((startMode p || not (periodic (process (c .caller) p)), 5) ∷ [])
-    (blocked (c .caller) (nextRelease (process (c .caller) p)))
+    (blocked (p .level) (c .caller) (nextRelease (process (c .caller) p)))
 
 -- 11 RESUME id. 3: the caller. 5: DORMANT or periodic. 1: not suspended. Clears the mark; if no wait, w = −1, wake code 0.
 unfoldable pub resume : Context → ℕ → Partition → Decision
@@ -170,3 +175,21 @@ getStatus c id p =
     checked Refused
     ((unknown id (p .processCount), 3) ∷ [])
     (Unchanged (status c id (process id p)) (process id p .times .deadline))
+
+-- 32 LOCK_PREEMPTION. 1: outside NORMAL. 4: at 16 (bound: or above). The level rises by one; the process that raised it from 0 is the holder.
+unfoldable pub lockPreemption : Context → Partition → Decision
+lockPreemption c p =
+    checked Refused
+    ((startMode p, 1)
+    ∷ (leb levelLimit (p .level), 4)
+    ∷ [])
+    (changed (LevelSet (p .level + 1) (cond (locked (p .level)) (p .holder) (c .caller))))
+
+-- 33 UNLOCK_PREEMPTION. 1: outside NORMAL. 1: at level 0. The level falls by one; at 0 there is no holder.
+unfoldable pub unlockPreemption : Partition → Decision
+unlockPreemption p =
+    checked Refused
+    ((startMode p, 1)
+    ∷ (not (locked (p .level)), 1)
+    ∷ [])
+    (changed (LevelSet (p .level - 1) (cond (locked (p .level - 1)) (p .holder) 0)))

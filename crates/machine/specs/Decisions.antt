@@ -21,7 +21,7 @@ use Rattle.machine.specs.declared.Field.{Field}
 use Rattle.machine.specs.Limits.{channelLimit}
 use Rattle.machine.specs.Fields.{isNumber, isTimeout, timeOf}
 use Rattle.machine.specs.Process.{later, waitingFor}
-use Rattle.machine.specs.Partition.{idleMode, normalMode, process}
+use Rattle.machine.specs.Partition.{idleMode, normalMode, locked, process}
 
 -- Code, value and extra are 0 unless named.
 abbrev pub coded : ℕ → Reply
@@ -128,9 +128,9 @@ changed a = Changed a Nothing 0
 abbrev pub unchanged : Decision
 unchanged = Unchanged 0 (At 0)
 
--- the only place that gives code 7: the process has the record x, in which it waits
-unfoldable pub blocked : ℕ → Process → Decision
-blocked id x = Blocked id x
+-- the only place that gives code 7: the process has the record x, in which it waits. While preemption is locked, a call that would give 7 gives 5.
+unfoldable pub blocked : ℕ → ℕ → Process → Decision
+blocked level id x = checked Refused ((locked level, 5) ∷ []) (Blocked id x)
 
 -- ---------------------------------------------------------------- checks that several calls share
 -- an id unknown: none of that kind has been created with it
@@ -161,12 +161,12 @@ creationChecks full taken admitted normal = (full, 4) ∷ (taken, 1) ∷ (not ad
 abbrev pub waitChecks : List (Bool × ℕ) → Bool → Bool → List (Bool × ℕ) → List (Bool × ℕ)
 waitChecks before start admitted after = before ++ ((start, 5) ∷ (not admitted, 3) ∷ after)
 
--- 2: a = 0. Else queued last at the object that the wait names, w = t + a or −1, code 7
+-- 2: a = 0. Else queued last at the object that the wait names, w = t + a or −1, code 7, or 5 while preemption is locked
 unfoldable pub queued : Context → Field → Wait → Partition → Decision
 queued c a w p =
     checked Refused
     ((isNumber 0 a, 2) ∷ [])
-    (blocked (c .caller) (waitingFor w (later (At (c .time)) (timeOf a)) (process (c .caller) p)))
+    (blocked (p .level) (c .caller) (waitingFor w (later (At (c .time)) (timeOf a)) (process (c .caller) p)))
 
 -- a call that waits for the object that w names, with time-out a: its checks; where it need not wait, success; else it is queued
 unfoldable pub awaiting : Context → List (Bool × ℕ) → Bool → List (Bool × ℕ) → Field → Bool → Decision → Wait → Partition → Decision

@@ -23,8 +23,9 @@ pub mod Examples
 pub mod TwoRuns
 pub mod LeftRight
 pub mod Valid
+pub mod Plain
 pub mod Starred
 pub mod Releases
-pub mod Plain
 pub mod Queues
+pub mod Locks
 pub mod Account

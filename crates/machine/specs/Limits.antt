@@ -43,7 +43,11 @@ modeLimit = 3
 
 -- Module::CALL
 abbrev pub callLimit : ℕ
-callLimit = 31
+callLimit = 33
+
+-- Module::LEVEL
+abbrev pub levelLimit : ℕ
+levelLimit = 16
 
 -- Module::DURATION
 abbrev pub durationLimit : ℕ

@@ -16,7 +16,7 @@ use Rattle.machine.specs.declared.Partition.{Partition}
 use Rattle.machine.specs.declared.Choice.{Choice}
 use Rattle.machine.specs.declared.Context.{Context}
 use Rattle.machine.specs.declared.Change.{Change}
-use Rattle.machine.specs.declared.Change.the-variants.{Nothing, Stored, Created, Last, StoredSemaphore, StoredEvent, CreatedBuffer, Moved, StoredBlackboard, Ended, Handed, Entered}
+use Rattle.machine.specs.declared.Change.the-variants.{Nothing, Stored, Created, Last, StoredSemaphore, StoredEvent, CreatedBuffer, Moved, StoredBlackboard, Ended, Handed, LevelSet, Entered}
 use Rattle.machine.specs.declared.Decision.{Decision}
 use Rattle.machine.specs.declared.Decision.the-variants.{Refused, Unchanged, Ticked, Blocked, Changed, Restarted, Written, Passed}
 use Rattle.machine.specs.declared.Time.{Time}
@@ -32,6 +32,10 @@ idleMode p = eqb (p .mode) 0
 
 abbrev pub normalMode : Partition → Bool
 normalMode p = eqb (p .mode) 3
+
+-- the preemption lock is held: its level is above 0
+abbrev pub locked : ℕ → Bool
+locked level = ltb 0 level
 
 abbrev pub noSemaphore : SemaphoreT
 noSemaphore = record { name = 0; value = 0; max = 0 }
@@ -52,10 +56,12 @@ noBuffer = emptyBuffer 0 0
 abbrev pub noBlackboard : BlackboardT
 noBlackboard = emptyBlackboard 0
 
--- a partition in this mode with nothing created
+-- a partition in this mode with nothing created, and nothing locked
 abbrev pub nothingCreated : ℕ → Partition
 nothingCreated mode = record {
   mode = mode;
+  level = 0;
+  holder = 0;
   processes = replicate processLimit blankProcess;
   processCount = 0;
   semaphores = replicate semaphoreLimit noSemaphore;
@@ -97,9 +103,33 @@ buffer k p = byId bufferLimit noBuffer k (p .buffers)
 abbrev pub blackboard : ℕ → Partition → BlackboardT
 blackboard k p = byId blackboardLimit noBlackboard k (p .blackboards)
 
+-- mode set; a mode change brings the level to 0
 abbrev pub withMode : ℕ → Partition → Partition
 withMode mode p = record {
   mode = mode;
+  level = 0;
+  holder = 0;
+  processes = p .processes;
+  processCount = p .processCount;
+  semaphores = p .semaphores;
+  semaphoreCount = p .semaphoreCount;
+  events = p .events;
+  eventCount = p .eventCount;
+  buffers = p .buffers;
+  bufferCount = p .bufferCount;
+  blackboards = p .blackboards;
+  blackboardCount = p .blackboardCount;
+  arrival = p .arrival;
+  waiting = p .waiting;
+  soonest = p .soonest;
+}
+
+-- the preemption lock has this level and this holder
+abbrev pub withLock : ℕ → ℕ → Partition → Partition
+withLock level holder p = record {
+  mode = p .mode;
+  level = level;
+  holder = holder;
   processes = p .processes;
   processCount = p .processCount;
   semaphores = p .semaphores;
@@ -118,6 +148,8 @@ withMode mode p = record {
 abbrev pub withProcesses : List Process → ℕ → Ids → Ids → Partition → Partition
 withProcesses l n a w p = record {
   mode = p .mode;
+  level = p .level;
+  holder = p .holder;
   processes = l;
   processCount = n;
   semaphores = p .semaphores;
@@ -136,6 +168,8 @@ withProcesses l n a w p = record {
 abbrev pub withSemaphores : List SemaphoreT → ℕ → Partition → Partition
 withSemaphores l n p = record {
   mode = p .mode;
+  level = p .level;
+  holder = p .holder;
   processes = p .processes;
   processCount = p .processCount;
   semaphores = l;
@@ -154,6 +188,8 @@ withSemaphores l n p = record {
 abbrev pub withEvents : List EventState → ℕ → Partition → Partition
 withEvents l n p = record {
   mode = p .mode;
+  level = p .level;
+  holder = p .holder;
   processes = p .processes;
   processCount = p .processCount;
   semaphores = p .semaphores;
@@ -172,6 +208,8 @@ withEvents l n p = record {
 abbrev pub withBuffers : List Buffer → ℕ → Partition → Partition
 withBuffers l n p = record {
   mode = p .mode;
+  level = p .level;
+  holder = p .holder;
   processes = p .processes;
   processCount = p .processCount;
   semaphores = p .semaphores;
@@ -190,6 +228,8 @@ withBuffers l n p = record {
 abbrev pub withBlackboards : List BlackboardT → ℕ → Partition → Partition
 withBlackboards l n p = record {
   mode = p .mode;
+  level = p .level;
+  holder = p .holder;
   processes = p .processes;
   processCount = p .processCount;
   semaphores = p .semaphores;
@@ -208,6 +248,8 @@ withBlackboards l n p = record {
 abbrev pub withSoonest : ℕ → Partition → Partition
 withSoonest n p = record {
   mode = p .mode;
+  level = p .level;
+  holder = p .holder;
   processes = p .processes;
   processCount = p .processCount;
   semaphores = p .semaphores;
@@ -278,9 +320,12 @@ chosen p c [] = c
 chosen p c (id ∷ l) = chosen p (preferred c id (process id p .current)) l
 
 -- The running process is, in a current NORMAL partition, the READY one of greatest current priority, first in the arrival list among
--- equals; otherwise 0.
+-- equals; otherwise 0. The process that raised the level of the preemption lock from 0 runs while the level is above 0.
 unfoldable pub running : Partition → ℕ
-running p = cond (normalMode p) (chosen p (record { id = 0; priority = 0 }) (members (p .arrival)) .id) 0
+running p =
+    cond (normalMode p)
+    (cond (locked (p .level)) (p .holder) (chosen p (record { id = 0; priority = 0 }) (members (p .arrival)) .id))
+    0
 
 -- the queue of an object: the waiting processes whose wait names it, in the order in which they began to wait
 abbrev pub waitsOn : ℕ → Partition → ℕ → Bool
@@ -327,6 +372,7 @@ applied (Moved k a) p = endedBy a (storedBuffer k (movedIn a (buffer k p)) p)
 applied (StoredBlackboard k b) p = storedBlackboard k b p
 applied (Ended o) p = changedAll served (waiters o p) p
 applied (Handed o m) p = changedAll (handed m) (waiters o p) p
+applied (LevelSet level holder) p = withLock level holder p
 applied (Entered c) p = enteredNormal c p
 
 -- what a decision leaves of the partition; a refused call leaves the record as it is

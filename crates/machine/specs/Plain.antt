@@ -1,5 +1,5 @@
 -- The machine with no bound. So as to be total, the definitions carry bounds: an id outside its limit names the default and stores nothing,
--- a full list or queue stays as it is, a channel is queuing between partitions 1 to 8 only, sums of times and a semaphore's value stop at the greatest, at most 8 partitions are ticked, M = 0 gives 0, and
+-- a full list or queue stays as it is, a level above 16 counts as 16, a channel is queuing between partitions 1 to 8 only, sums of times and a semaphore's value stop at the greatest, at most 8 partitions are ticked, M = 0 gives 0, and
 -- a number past the greatest time is no number. Here the same is said without them, and what it means that none of them acts at an event:
 -- `no-bound-acts` proves it of every event at every record that a run reaches. Nothing of the machine rests on it.
 use Prim.Native.Nat.{ℕ, zero, suc, _+_, _-_, _%_, _≤_, _<_}
@@ -23,7 +23,7 @@ use Rattle.machine.specs.declared.Buffer.{Buffer}
 use Rattle.machine.specs.declared.Blackboard.{Blackboard as BlackboardT}
 use Rattle.machine.specs.declared.Partition.{Partition}
 use Rattle.machine.specs.declared.Change.{Change}
-use Rattle.machine.specs.declared.Change.the-variants.{Nothing, Stored, Created, Last, StoredSemaphore, StoredEvent, CreatedBuffer, Moved, StoredBlackboard, Ended, Handed, Entered}
+use Rattle.machine.specs.declared.Change.the-variants.{Nothing, Stored, Created, Last, StoredSemaphore, StoredEvent, CreatedBuffer, Moved, StoredBlackboard, Ended, Handed, LevelSet, Entered}
 use Rattle.machine.specs.declared.Decision.{Decision}
 use Rattle.machine.specs.declared.Decision.the-variants.{Refused, Unchanged, Ticked, Blocked, Changed, Restarted, Written, Passed}
 use Rattle.machine.specs.declared.Event.{Event as EventT}
@@ -31,12 +31,12 @@ use Rattle.machine.specs.declared.Request.{Request}
 use Rattle.machine.specs.declared.Module.{Module}
 use Rattle.machine.specs.declared.Table.{Table}
 use Rattle.machine.specs.declared.Stepped.{Stepped}
-use Rattle.machine.specs.Limits.{channelLimit, greatestTime, greatestValue}
+use Rattle.machine.specs.Limits.{levelLimit, channelLimit, greatestTime, greatestValue}
 use Rattle.machine.specs.Fields.{field, requestOf, isNumber, between, isMinusOne, numberOf}
 use Rattle.machine.specs.Ids.{members, idsOf, kept, other}
 use Rattle.machine.specs.Messages.{held, queueOf, endsWait}
 use Rattle.machine.specs.Process.{blankProcess, later, carried, ready, onObject, served, handed, ticked, entered}
-use Rattle.machine.specs.Partition.{normalMode, nothingCreated, noSemaphore, noEvent, noBuffer, noBlackboard, process, semaphore, event, buffer, blackboard, emptyBuffer, withMode, withProcesses, withSemaphores, withEvents, withBuffers, withBlackboards, waiters, noted}
+use Rattle.machine.specs.Partition.{normalMode, nothingCreated, noSemaphore, noEvent, noBuffer, noBlackboard, process, semaphore, event, buffer, blackboard, emptyBuffer, withMode, withLock, withProcesses, withSemaphores, withEvents, withBuffers, withBlackboards, waiters, noted}
 use Rattle.machine.specs.Decisions.{replyOf, unknown}
 use Rattle.machine.specs.Objects.{oneMore}
 use Rattle.machine.specs.Windows.{windows, owner, lookup, releasePoint, startsFrom, firstStart, aheadOf, nextStart}
@@ -142,6 +142,7 @@ plainApplied (Moved k a) p = plainEnded a (plainBuffer k (plainMovedIn a (plainB
 plainApplied (StoredBlackboard k b) p = plainBlackboard k b p
 plainApplied (Ended o) p = plainAll served (waiters o p) p
 plainApplied (Handed o m) p = plainAll (handed m) (waiters o p) p
+plainApplied (LevelSet level holder) p = withLock level holder p
 plainApplied (Entered c) p = plainEach (entered c) (withMode 3 p)
 
 -- a process whose wait ends has its place
@@ -164,6 +165,7 @@ InPlace (Moved k a) p = Between 1 (length (p .buffers)) k × EndInPlace a p
 InPlace (StoredBlackboard k b) p = Between 1 (length (p .blackboards)) k
 InPlace (Ended o) p = Unit {0}
 InPlace (Handed o m) p = Unit {0}
+InPlace (LevelSet level holder) p = Unit {0}
 InPlace (Entered c) p = p .processCount ≤ length (p .processes)
 
 -- ---------------------------------------------------------------- an event
@@ -280,10 +282,11 @@ pub record PlainReads (p : Partition) : Type 0 where
   pub buffers : (k : ℕ) → buffer k p ≡ plainById noBuffer k (p .buffers)
   pub blackboards : (k : ℕ) → blackboard k p ≡ plainById noBlackboard k (p .blackboards)
 
--- no number that the partition holds is one that a cap made
+-- no number that the partition holds is one that a cap made, and a level is not above 16, so that LOCK_PREEMPTION answers 4 at 16 alone
 pub record PlainNumbers (p : Partition) : Type 0 where
   pub times : (id : ℕ) → Between 1 (p .processCount) id → UncappedTimes (process id p .times)
   pub values : (k : ℕ) → Between 1 (p .semaphoreCount) k → semaphore k p .value < greatestValue
+  pub level : leb levelLimit (p .level) ≡ eqb (p .level) levelLimit
 
 -- M is not 0: the current partition and the next start of a window are the plain ones at every time; P is at most 8, there are at most 16 channels, and a
 -- channel is queuing by its size alone; every partition has a window with flag 1, and its release point is the next start of one, from t on

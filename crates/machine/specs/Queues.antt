@@ -3,7 +3,7 @@
 -- machine rests on it.
 use Prim.Native.Nat.{ℕ, _+_, _-_, _≤_, _<_}
 use mathlib.Core.Path.{_≡_}
-use mathlib.Core.Bool.{Bool, true, false, cond, not, _&&_, _||_}
+use mathlib.Core.Bool.{Bool, true, false, cond, not, _&&_}
 use mathlib.Core.List.{List, [], _∷_, _++_}
 use mathlib.Core.Logic.{_⊎_}
 use lib.Dec.{eqb, ltb}
@@ -29,12 +29,12 @@ use Rattle.machine.specs.Process.{Class, objectIn, object, carried, due,
 use Rattle.machine.specs.Messages.{held, queueOf}
 use Rattle.machine.specs.declared.Time.the-variants.{At}
 use Rattle.machine.specs.Buffers.{hasRoom, holds}
-use Rattle.machine.specs.Partition.{normalMode, process, semaphore, event, buffer, blackboard, stored, storedSemaphore, storedEvent, created, storedBuffer, storedBlackboard, arrivedLast, applied, tickPartition, enteredNormal, running, waitsOn, waiters}
+use Rattle.machine.specs.Partition.{normalMode, process, semaphore, event, buffer, blackboard, stored, storedSemaphore, storedEvent, created, storedBuffer, storedBlackboard, arrivedLast, withLock, applied, tickPartition, enteredNormal, running, waitsOn, waiters}
 use Rattle.machine.specs.Module.{channel, part, queue, withQueue}
 use Rattle.machine.specs.Step.{step}
 use Rattle.machine.specs.Valid.{Between, contains, Distinct, Reached}
-use Rattle.machine.specs.Starred.{own, callBy, Calling, Gives, Refuses, WaitEnded}
-use Rattle.machine.specs.Plain.{followed, plainMinusOne, plainBetween}
+use Rattle.machine.specs.Starred.{own, callBy, WaitsFor, TimeOut, Calling, Gives, Refuses, WaitEnded}
+use Rattle.machine.specs.Plain.{followed}
 
 -- ---------------------------------------------------------------- a queue
 -- it holds just the processes that wait on the object, each once
@@ -58,6 +58,7 @@ pub record QueueChanges (o : ℕ) (p : Partition) : Type 0 where
   -- one created, one put last in the arrival list, an object stored: the queue stays
   pub created : (x : Process) → object (x .wait) ≡ 0 → waiters o (created (p .processCount + 1) x p) ≡ waiters o p
   pub arrived : (id : ℕ) → waiters o (arrivedLast id p) ≡ waiters o p
+  pub locked : (level holder : ℕ) → waiters o (withLock level holder p) ≡ waiters o p
   pub semaphore : (k : ℕ) (s : SemaphoreT) → waiters o (storedSemaphore k s p) ≡ waiters o p
   pub event : (k : ℕ) (e : EventState) → waiters o (storedEvent k e p) ≡ waiters o p
   pub buffer : (k : ℕ) (b : Buffer) → waiters o (storedBuffer k b p) ≡ waiters o p
@@ -130,15 +131,16 @@ pub record QueueAfter (m : Module) (e : EventT) (i o : ℕ) : Type 0 where
       waiters o q ≡ kept (waitsOn o q) (waiters o p) ++ joining (step m e .answer .code) (numberOf (requestOf e .partition)) i o p q
 
 -- ---------------------------------------------------------------- the calls that make a process wait and that end waits
--- a time-out other than 0: −1, or 1..9,999,999
-abbrev pub WaitsFor : ℤ → Type 0
-WaitsFor a = (plainMinusOne a || plainBetween 1 durationLimit a) ≡ true
-
 -- the caller, which is the running process, waits on w: 7, and it stands behind the queue of that object
 pub record Queued (m : Module) (k : ℕ) (e : EventT) (w : Wait) : Type 0 where
   pub code : step m e .answer .code ≡ 7
   pub wait : process (running (own m k)) (own (step m e .state) k) .wait ≡ w
   pub queue : waiters (object w) (own (step m e .state) k) ≡ waiters (object w) (own m k) ++ (running (own m k) ∷ [])
+
+-- the call would wait on w: it waits where preemption is not locked; while it is locked the answer is 5, and the whole record stays
+pub record WouldWait (m : Module) (k : ℕ) (e : EventT) (w : Wait) : Type 0 where
+  pub free : own m k .level ≡ 0 → Queued m k e w
+  pub locked : 0 < own m k .level → Refuses m e 5
 
 -- the wait of process id, the first of queue o, ends: it leaves the queue, this message is in its record then, and no other process changes
 pub record FirstServed (m : Module) (k : ℕ) (e : EventT) (o id : ℕ) (rest : List ℕ) (message : ℕ) : Type 0 where
@@ -169,13 +171,13 @@ has m k id = process id (own m k) .message
 
 -- semaphores and events
 pub record QueueCalls (m : Module) (k j : ℕ) : Type 0 where
-  -- 15 WAIT_SEMAPHORE of a value 0 and 20 WAIT_EVENT of an event DOWN: queued last
+  -- 15 WAIT_SEMAPHORE of a value 0 and 20 WAIT_EVENT of an event DOWN: queued last, or 5 while preemption is locked
   pub waitSemaphore : (a : ℤ) → let p = own m k in
       p .mode ≡ 3 → Between 1 (p .semaphoreCount) j → semaphore j p .value ≡ 0 → WaitsFor a
-      → Queued m k (callBy k 15 (pos j) a (pos 0) (pos 0)) (Semaphore j)
+      → WouldWait m k (callBy k 15 (pos j) a (pos 0) (pos 0)) (Semaphore j)
   pub waitEvent : (a : ℤ) → let p = own m k in
       p .mode ≡ 3 → Between 1 (p .eventCount) j → event j p .up ≡ false → WaitsFor a
-      → Queued m k (callBy k 20 (pos j) a (pos 0) (pos 0)) (Event j)
+      → WouldWait m k (callBy k 20 (pos j) a (pos 0) (pos 0)) (Event j)
   -- 16 SIGNAL below max: the first waiter's wait ends; none: value + 1
   pub signalFirst : (id : ℕ) (rest : List ℕ) → let p = own m k in
       let e = callBy k 16 (pos j) (pos 0) (pos 0) (pos 0) in
@@ -189,22 +191,18 @@ pub record QueueCalls (m : Module) (k j : ℕ) : Type 0 where
   pub setEvent : let e = callBy k 18 (pos j) (pos 0) (pos 0) (pos 0) in
       Between 1 (own m k .eventCount) j → AllServed m k e (object (Event j)) (has m k) × (event j (own (step m e .state) k) .up ≡ true)
 
--- a time-out: −1, or 0..9,999,999
-abbrev pub TimeOut : ℤ → Type 0
-TimeOut a = (plainMinusOne a || plainBetween 0 durationLimit a) ≡ true
-
 -- buffers and blackboards; b is a message
 pub record MessageCalls (m : Module) (k j : ℕ) : Type 0 where
-  -- 24 SEND_BUFFER to a full buffer, 25 RECEIVE_BUFFER from an empty one, 28 READ_BLACKBOARD of one that shows nothing: queued last
+  -- 24 SEND_BUFFER to a full buffer, 25 RECEIVE_BUFFER from an empty one, 28 READ_BLACKBOARD of one that shows nothing: queued last, or 5 while preemption is locked
   pub sendWaits : (b : ℕ) (a : ℤ) → let p = own m k in
       p .mode ≡ 3 → Between 1 (p .bufferCount) j → buffer j p .queue .len ≡ buffer j p .limit → b ≤ durationLimit → WaitsFor a
-      → Queued m k (callBy k 24 (pos j) (pos b) a (pos 0)) (Sending j b)
+      → WouldWait m k (callBy k 24 (pos j) (pos b) a (pos 0)) (Sending j b)
   pub receiveWaits : (a : ℤ) → let p = own m k in
       p .mode ≡ 3 → Between 1 (p .bufferCount) j → held (buffer j p .queue) ≡ [] → WaitsFor a
-      → Queued m k (callBy k 25 (pos j) a (pos 0) (pos 0)) (Receiving j)
+      → WouldWait m k (callBy k 25 (pos j) a (pos 0) (pos 0)) (Receiving j)
   pub readWaits : (a : ℤ) → let p = own m k in
       p .mode ≡ 3 → Between 1 (p .blackboardCount) j → blackboard j p .shown ≡ false → WaitsFor a
-      → Queued m k (callBy k 28 (pos j) a (pos 0) (pos 0)) (Blackboard j)
+      → WouldWait m k (callBy k 28 (pos j) a (pos 0) (pos 0)) (Blackboard j)
   -- 24 SEND_BUFFER where receivers wait: the message goes straight into the first one's record, and no object changes
   pub sendFirst : (b id : ℕ) (rest : List ℕ) (a : ℤ) → let p = own m k in
       let e = callBy k 24 (pos j) (pos b) a (pos 0) in
@@ -239,11 +237,11 @@ pub record MessageCalls (m : Module) (k j : ℕ) : Type 0 where
 
 -- queuing channels: channel number i + 1; b is a message
 pub record ChannelCalls (m : Module) (k i : ℕ) : Type 0 where
-  -- 30 SEND to a full queue, 31 RECEIVE from an empty one: queued last
+  -- 30 SEND to a full queue, 31 RECEIVE from an empty one: queued last, or 5 while preemption is locked
   pub sendWaits : (b : ℕ) (a : ℤ) → own m k .mode ≡ 3 → EndOf (m .table) (λ c. c .source) (i + 1) (k - 1) → queue m i .len ≡ channel (m .table) i .size → b ≤ durationLimit → WaitsFor a
-      → Queued m k (callBy k 30 (pos (i + 1)) (pos b) a (pos 0)) (Source (i + 1) b)
+      → WouldWait m k (callBy k 30 (pos (i + 1)) (pos b) a (pos 0)) (Source (i + 1) b)
   pub receiveWaits : (a : ℤ) → own m k .mode ≡ 3 → EndOf (m .table) (λ c. c .destination) (i + 1) (k - 1) → held (queue m i) ≡ [] → WaitsFor a
-      → Queued m k (callBy k 31 (pos (i + 1)) a (pos 0) (pos 0)) (Destination (i + 1))
+      → WouldWait m k (callBy k 31 (pos (i + 1)) a (pos 0) (pos 0)) (Destination (i + 1))
   -- and with time-out 0: 2
   pub sendFull : (b : ℕ) → own m k .mode ≡ 3 → EndOf (m .table) (λ c. c .source) (i + 1) (k - 1) → queue m i .len ≡ channel (m .table) i .size → b ≤ durationLimit
       → Refuses m (callBy k 30 (pos (i + 1)) (pos b) (pos 0) (pos 0)) 2

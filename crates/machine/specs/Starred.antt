@@ -4,7 +4,7 @@
 -- numbers, the table, the record, the current partition and the running process.
 use Prim.Native.Nat.{ℕ, suc, _+_, _-_, _*_, _/_, _%_, _≤_, _<_}
 use mathlib.Core.Path.{_≡_}
-use mathlib.Core.Bool.{Bool, true, false, cond}
+use mathlib.Core.Bool.{Bool, true, false, cond, _||_}
 use mathlib.Core.List.{List, [], _∷_, _++_, map}
 use lib.ListN.{set, take}
 use lib.IntN.{ℤ, pos}
@@ -26,6 +26,7 @@ use Rattle.machine.specs.Windows.{Release, NextFlagged}
 use Rattle.machine.specs.Module.{part, message, queue, channel, current, withPart}
 use Rattle.machine.specs.Step.{step}
 use Rattle.machine.specs.Valid.{Between, SoundPeriod, SoundCapacity, Reached, contains, plainLater}
+use Rattle.machine.specs.Plain.{plainBetween, plainMinusOne}
 use Rattle.machine.specs.Replay.{replayed, replayedRecord, timeNumber}
 use Rattle.machine.specs.Examples.{text, table, events, printed, toFour, tickLine, printedAfter, twoWindows, startedInFirst, releasedInSecond}
 
@@ -61,6 +62,18 @@ pub record Gives (m : Module) (e : EventT) (code value : ℕ) (extra : Time) (q 
 -- refused with this code; the whole record stays
 abbrev pub Refuses : Module → EventT → ℕ → Type 0
 Refuses m e code = Gives m e code 0 (At 0) m
+
+-- a time-out other than 0: −1, or 1..9,999,999
+abbrev pub WaitsFor : ℤ → Type 0
+WaitsFor a = (plainMinusOne a || plainBetween 1 durationLimit a) ≡ true
+
+-- a time-out: −1, or 0..9,999,999
+abbrev pub TimeOut : ℤ → Type 0
+TimeOut a = (plainMinusOne a || plainBetween 0 durationLimit a) ≡ true
+
+-- neither
+abbrev pub NoTimeOut : ℤ → Type 0
+NoTimeOut a = (plainMinusOne a || plainBetween 0 durationLimit a) ≡ false
 
 -- partition k has the record p from now on, and nothing else changes
 abbrev pub Puts : Module → EventT → ℕ → ℕ → ℕ → Partition → Type 0
@@ -262,10 +275,10 @@ pub record Corners (m : Module) (k : ℕ) : Type 0 where
   -- succeed where they need not; the calls of document 02 that wait answer 2 too (where they need not wait, and
   -- 30 and 31: `MessageCalls` and `ChannelCalls` of Queues)
   pub suspendSelf : let p = own m k in
-      p .mode ≡ 3 → process (running p) p .given .period ≡ Never
+      p .mode ≡ 3 → p .level ≡ 0 → process (running p) p .given .period ≡ Never
       → Gives m (callBy k 8 (pos 0) (pos 0) (pos 0) (pos 0)) 0 0 (At 0) m
   pub timedWait : let p = own m k in
-      p .mode ≡ 3
+      p .mode ≡ 3 → p .level ≡ 0
       → Puts m (callBy k 9 (pos 0) (pos 0) (pos 0) (pos 0)) 0 0 k (withProcesses (p .processes) (p .processCount) (atEnd (running p) (p .arrival)) (p .waiting) p)
   pub waitSemaphore : (j : ℕ) → let p = own m k in
       p .mode ≡ 3 → Between 1 (p .semaphoreCount) j
@@ -291,8 +304,20 @@ pub record Corners (m : Module) (k : ℕ) : Type 0 where
   pub periodicWait : (r n : ℕ) → let p = own m k in
       let id = running p in
       let x = process id p in
-      p .mode ≡ 3 → x .times .release ≡ At r → x .given .period ≡ At n
+      p .mode ≡ 3 → p .level ≡ 0 → x .times .release ≡ At r → x .given .period ≡ At n
       → Puts m (callBy k 10 (pos 0) (pos 0) (pos 0) (pos 0)) 7 0 k (withProcess id (awaitsNext (r + n) x) (without id (p .arrival)) p)
+  -- while preemption is locked the three answer 5 after their other checks, time 0 included (document 02, e); the time-out 0 of the waits above
+  -- stays 2, and where they need not wait they succeed, whatever the level
+  pub suspendSelfLocked : (a : ℤ) → let p = own m k in
+      p .mode ≡ 3 → 0 < p .level → process (running p) p .given .period ≡ Never
+      → (TimeOut a → Refuses m (callBy k 8 a (pos 0) (pos 0) (pos 0)) 5)
+      × (NoTimeOut a → Refuses m (callBy k 8 a (pos 0) (pos 0) (pos 0)) 3)
+  pub timedWaitLocked : (a : ℤ) → let p = own m k in
+      p .mode ≡ 3 → 0 < p .level
+      → (plainBetween 0 durationLimit a ≡ true → Refuses m (callBy k 9 a (pos 0) (pos 0) (pos 0)) 5)
+      × (plainBetween 0 durationLimit a ≡ false → Refuses m (callBy k 9 a (pos 0) (pos 0) (pos 0)) 3)
+  pub periodicWaitLocked : let p = own m k in
+      p .mode ≡ 3 → 0 < p .level → Refuses m (callBy k 10 (pos 0) (pos 0) (pos 0) (pos 0)) 5
 
 -- ---------------------------------------------------------------- mistakes to shut out
 -- what a wake time that has come makes of x: a wait ends with w −1 and this wake code, and the mark stays

@@ -25,7 +25,7 @@ use Rattle.machine.specs.declared.Blackboard.{Blackboard as BlackboardT}
 use Rattle.machine.specs.declared.Partition.{Partition}
 use Rattle.machine.specs.declared.Context.{Context}
 use Rattle.machine.specs.declared.Change.{Change}
-use Rattle.machine.specs.declared.Change.the-variants.{Nothing, Stored, Created, Last, StoredSemaphore, StoredEvent, CreatedBuffer, Moved, StoredBlackboard, Ended, Handed, Entered}
+use Rattle.machine.specs.declared.Change.the-variants.{Nothing, Stored, Created, Last, StoredSemaphore, StoredEvent, CreatedBuffer, Moved, StoredBlackboard, Ended, Handed, LevelSet, Entered}
 use Rattle.machine.specs.declared.Decision.{Decision}
 use Rattle.machine.specs.declared.Decision.the-variants.{Refused, Unchanged, Ticked, Blocked, Changed, Restarted, Written, Passed}
 use Rattle.machine.specs.declared.Reply.{Reply}
@@ -36,7 +36,7 @@ use Rattle.machine.specs.declared.Message.{Message}
 use Rattle.machine.specs.declared.Module.{Module}
 use Rattle.machine.specs.declared.Event.{Event as EventT}
 use Rattle.machine.specs.declared.Answer.{Answer}
-use Rattle.machine.specs.Limits.{processLimit, semaphoreLimit, eventLimit, bufferLimit, messageLimit, blackboardLimit, nameLimit, priorityLimit, valueLimit, modeLimit, durationLimit, timeLimit, frameLimit, partitionLimit, windowLimit, channelLimit, sizeLimit, numberLimit}
+use Rattle.machine.specs.Limits.{processLimit, semaphoreLimit, eventLimit, bufferLimit, messageLimit, blackboardLimit, nameLimit, priorityLimit, valueLimit, modeLimit, levelLimit, durationLimit, timeLimit, frameLimit, partitionLimit, windowLimit, channelLimit, sizeLimit, numberLimit}
 use Rattle.machine.specs.Ids.{members, idsOf}
 use Rattle.machine.specs.Messages.{held, queueOf}
 use Rattle.machine.specs.Process.{Class, classOf, blankProcess, createdProcess, isNever, periodic, ready, onObject}
@@ -291,8 +291,19 @@ counted s e b w kind = cond (eqb kind 1) s (cond (eqb kind 2) e (cond (eqb kind 
 abbrev pub settingOf : ℕ → ℕ → Partition → Setting
 settingOf frame t p = setting frame t (normalMode p) (counted (p .semaphoreCount) (p .eventCount) (p .bufferCount) (p .blackboardCount))
 
+-- the preemption lock: a level of 0..16; above 0 the mode is NORMAL and the holder is READY, at 0 there is no holder
+pub record SoundLock (level holder : ℕ) (inNormal isReady : Bool) : Type 0 where
+  pub few : level ≤ levelLimit
+  pub free : level ≡ 0 → holder ≡ 0
+  pub normal : 0 < level → inNormal ≡ true
+  pub held : 0 < level → isReady ≡ true
+
+abbrev pub LockIn : Partition → Type 0
+LockIn p = SoundLock (p .level) (p .holder) (normalMode p) (ready (process (p .holder) p))
+
 pub record Valid (frame t : ℕ) (p : Partition) : Type 0 where
   pub mode : p .mode ≤ modeLimit
+  pub lock : LockIn p
   pub lists : ListedIn p
   pub objects : ObjectsIn p
   pub eachProcess : (id : ℕ) → Between 1 (p .processCount) id → SoundProcess (settingOf frame t p) (process id p)
@@ -336,10 +347,14 @@ SoundEnd p (HandedTo id m) = Between 1 (p .processCount) id × (onObject (proces
 SoundEnd p Taken = Unit {0}
 SoundEnd p (LetIn id m) = Between 1 (p .processCount) id × (onObject (process id p) ≡ true)
 
+-- where process id holds the preemption lock it is READY with the record x
+abbrev pub HolderReady : Partition → ℕ → Process → Type 0
+HolderReady p id x = 0 < p .level → id ≡ p .holder → ready x ≡ true
+
 -- a change that keeps a valid partition valid
 abbrev pub SoundChange : Context → Partition → Change → Type 0
 SoundChange c p Nothing = Unit {0}
-SoundChange c p (Stored id x) = Between 1 (p .processCount) id × SoundProcess (settingOf (c .frame) (c .time) p) x
+SoundChange c p (Stored id x) = Between 1 (p .processCount) id × SoundProcess (settingOf (c .frame) (c .time) p) x × HolderReady p id x
 SoundChange c p (Created id x) = SoundCreated (c .frame) p id x
 SoundChange c p (Last id) = ready (process id p) ≡ true
 SoundChange c p (StoredSemaphore k s) = KnownOrNext semaphoreLimit (p .semaphoreCount) k × SoundSemaphore s
@@ -349,6 +364,7 @@ SoundChange c p (Moved k a) = Between 1 (p .bufferCount) k × SoundMove (buffer 
 SoundChange c p (StoredBlackboard k b) = KnownOrNext blackboardLimit (p .blackboardCount) k × SoundBlackboard b
 SoundChange c p (Ended o) = Unit {0}
 SoundChange c p (Handed o m) = m ≤ durationLimit
+SoundChange c p (LevelSet level holder) = SoundLock level holder (normalMode p) (ready (process holder p))
 SoundChange c p (Entered d) = (d ≡ c) × (normalMode p ≡ false)
 
 -- value and extra are in the line writer's range
@@ -366,7 +382,7 @@ SoundDecision c p (Restarted mode) = mode ≤ modeLimit
 SoundDecision c p (Written i x) = SoundMessage (c .time) x
 SoundDecision c p (Passed i a value) = value ≤ numberLimit
 
--- the running process id: READY, every member of the arrival list before it of smaller current priority, every one after it of none greater
+-- the running process id where preemption is not locked: READY, every member of the arrival list before it of smaller current priority, every one after it of none greater
 pub record Runs (p : Partition) (id : ℕ) : Type 0 where
   pub isReady : ready (process id p) ≡ true
   pub before : List ℕ

@@ -93,10 +93,12 @@ pub struct Blackboard {
     pub message: u32,
 }
 
-// arrival: the READY processes. waiting: those that wait on an object, in the order in which they began; the queue of an
+// level: of the preemption lock, and holder: the process that raised it from 0, or 0. arrival: the READY processes. waiting: those that wait on an object, in the order in which they began; the queue of an
 // object is the part of it that waits for this object. soonest: no wake time or deadline comes before it (Module).
 pub struct Partition {
     pub mode: u8,
+    pub level: u8,
+    pub holder: u8,
     pub processes: [Process; Module::PROCESSES],
     pub processCount: u8,
     pub semaphores: [Semaphore; Module::SEMAPHORES],
@@ -283,6 +285,7 @@ pub enum Change {
     StoredBlackboard(u32, Blackboard),
     Ended(u16),
     Handed(u16, u32),
+    LevelSet(u8, u8),
     Entered(Context),
 }
 
@@ -354,7 +357,9 @@ impl Module {
     // Modes are 0 to this.
     pub const MODE: u32 = 3;
     // Calls are 1 to this.
-    pub const CALL: u32 = 31;
+    pub const CALL: u32 = 33;
+    // Levels of a preemption lock are 0 to this.
+    pub const LEVEL: u8 = 16;
     // D: 0 to this.
     pub const DURATION: u32 = 9999999;
     // Time ends here.
@@ -502,6 +507,8 @@ impl Partition {
         let b = Buffer::blank();
         Partition {
             mode: 0,
+            level: 0,
+            holder: 0,
             processes: [x; Module::PROCESSES],
             processCount: 0,
             semaphores: [Semaphore {

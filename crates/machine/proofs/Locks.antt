@@ -1,0 +1,353 @@
+-- The preemption lock, proved. Assumes nothing.
+use Prim.Native.Nat.{ℕ, _+_, _-_, _≤_, _<_}
+use mathlib.Core.Path.{_≡_, refl, sym, ap, _∙_}
+use mathlib.Core.Bool.{true, false, or-true}
+use mathlib.Core.List.{List, [], _∷_}
+use mathlib.Core.Logic.{_⊎_, inl, inr, ⊎-elim}
+use native.Mathlib.Omega.{arith}
+use lib.ListN.{length, take}
+use lib.IntN.{ℤ, pos}
+use lib.Dec.{eqb, leb, ltb}
+use borrow.Author.Tests.{eq-eqb, ne-eqb, eqb-true, lt-ltb, le-ltb, ltb-true, ltb-false, le-leb, lt-leb, not-false}
+use Rattle.machine.specs.declared.Event.{Event as EventT}
+use Rattle.machine.specs.declared.Partition.{Partition}
+use Rattle.machine.specs.declared.Module.{Module}
+use Rattle.machine.specs.declared.Request.{Request}
+use Rattle.machine.specs.declared.Wait.the-variants.{Source}
+use Rattle.machine.specs.declared.Transfer.{Transfer}
+use Rattle.machine.specs.declared.Transfer.the-variants.{Put, HandedTo, Taken, LetIn}
+use Rattle.machine.specs.declared.Change.{Change}
+use Rattle.machine.specs.declared.Change.the-variants.{Nothing, Stored, Created, Last, StoredSemaphore, StoredEvent, CreatedBuffer, Moved, StoredBlackboard, Ended, Handed, LevelSet, Entered}
+use Rattle.machine.specs.declared.Decision.{Decision}
+use Rattle.machine.specs.declared.Decision.the-variants.{Refused, Unchanged, Ticked, Blocked, Changed, Restarted, Written, Passed as PassedOn}
+use Rattle.machine.specs.Limits.{processLimit, semaphoreLimit, eventLimit, bufferLimit, blackboardLimit, modeLimit, levelLimit, channelLimit}
+use Rattle.machine.specs.Fields.{field, requestOf, numberOf, isNumber}
+use Rattle.machine.specs.Messages.{endsWait, moved}
+use Rattle.machine.specs.Process.{object, served, handed, ticked, entered, stopped}
+use Rattle.machine.specs.Partition.{within, normalMode, process, buffer, emptyBuffer, movedIn, endedBy, stored, created, arrivedLast, storedSemaphore, storedEvent, storedBuffer, storedBlackboard, waiters, changedAll, each, running, tickPartition, enteredNormal, nothingCreated, withLock, withMode, applied, noted}
+use Rattle.machine.specs.Module.{part, queue, channel, current, runningIn, withPart, withTime, withQueue, noPartition}
+use Rattle.machine.specs.Ticks.{tickModule}
+use Rattle.machine.specs.Channels.{portOf, otherEnd, erasedTo}
+use Rattle.machine.specs.Decisions.{checked, replyOf, changed}
+use Rattle.machine.specs.Calls.{setMode, stopSelf, lockPreemption, unlockPreemption}
+use Rattle.machine.specs.Services.{callDecision, services}
+use Rattle.machine.specs.Places.{strayField}
+use Rattle.machine.specs.Step.{contextOf, decision, moduleAfter, sees, step}
+use Rattle.machine.specs.LeftRight.{after}
+use Rattle.machine.specs.Valid.{Between, ListedIn, LockIn, Valid, SoundModule, SoundDecision, Reached, plainTick}
+use Rattle.machine.specs.Starred.{own, callBy, Refuses, Puts, Gives, Calling, withProcess, without}
+use Rattle.machine.specs.Locks.{LockHolds, SameLock, NoLockCall, NoLockCalls, lock, unlock, LockCalls, Locks}
+use Rattle.machine.proofs.Tests.{by-test, by-codes, Passed, not-both}
+use Rattle.machine.proofs.Bounds.{not-so}
+use Rattle.machine.proofs.Either.{either}
+use Rattle.machine.proofs.Fields.{in-limits}
+use Rattle.machine.proofs.Dispatch.{Calls, by-event}
+use Rattle.machine.proofs.Bodies.{Bodily, LevelBy, setsLevel, bodyRefusal}
+use Rattle.machine.proofs.Keeping.{Rest, stored-rest, changed-rest, each-rest}
+use Rattle.machine.proofs.Kept.{running-caller, nothing-valid}
+use Rattle.machine.proofs.Running.{holder-runs}
+use Rattle.machine.proofs.Sound.{ready-off}
+use Rattle.machine.proofs.Reached.{at-set, plain-part, tick-module-plain, place, made, made-sound, made-body, part-sound, erased-sound, refilled-keeps, on-queue, valid-sound, reached-valid, decided-sound}
+use Rattle.machine.proofs.Answers.{decided-table}
+use Rattle.machine.proofs.Calling.{field-number, number-of, calling-sound, calling-place, calling-valid, gives, own-after}
+use Rattle.machine.proofs.Corners.{stored-leaves, puts-is, normal-is, normal-not}
+use Rattle.machine.proofs.Isolation.{left-right}
+
+-- ---------------------------------------------------------------- a partition
+same-lock : (p : Partition) → SameLock p p
+same-lock p = record { level = refl; holder = refl }
+
+lock-along : (p q r : Partition) → SameLock p q → SameLock q r → SameLock p r
+lock-along p q r f g = record { level = g .level ∙ f .level; holder = g .holder ∙ f .holder }
+
+rest-lock : (p q : Partition) → Rest p q → SameLock p q
+rest-lock p q e = record { level = ap (λ (x : Partition). x .level) e; holder = ap (λ (x : Partition). x .holder) e }
+
+noted-lock : (p q : Partition) → SameLock p q → SameLock p (noted q)
+noted-lock p q e = record { level = e .level; holder = e .holder }
+
+ended-lock : (a : Transfer) (p : Partition) → SameLock p (endedBy a p)
+ended-lock (Put m) p = same-lock p
+ended-lock (HandedTo id m) p = rest-lock p _ (stored-rest p id _)
+ended-lock Taken p = same-lock p
+ended-lock (LetIn id m) p = rest-lock p _ (stored-rest p id _)
+
+tick-lock : (t : ℕ) (p : Partition) → ListedIn p → SameLock p (tickPartition t p)
+unfolding tickPartition
+tick-lock t p v = by-test (SameLock p) (normalMode p) (λ _. rest-lock p _ (each-rest (ticked t) p v)) (λ _. same-lock p)
+
+-- a change of a call other than 1, 6, 32 and 33
+change-lock : (n : ℕ) → setsLevel n ≡ false → (a : Change) → LevelBy n a → (p : Partition) → SameLock p (applied a p)
+unfolding created arrivedLast storedSemaphore storedEvent storedBuffer storedBlackboard
+change-lock n off Nothing h p = same-lock p
+change-lock n off (Stored id x) h p = rest-lock p _ (stored-rest p id x)
+change-lock n off (Created id x) h p = by-test (SameLock p) (within processLimit id) (λ _. record { level = refl; holder = refl }) (λ _. same-lock p)
+change-lock n off (Last id) h p = record { level = refl; holder = refl }
+change-lock n off (StoredSemaphore k s) h p = by-test (SameLock p) (within semaphoreLimit k) (λ _. record { level = refl; holder = refl }) (λ _. same-lock p)
+change-lock n off (StoredEvent k e) h p = by-test (SameLock p) (within eventLimit k) (λ _. record { level = refl; holder = refl }) (λ _. same-lock p)
+change-lock n off (CreatedBuffer k name limit) h p = by-test (SameLock p) (within bufferLimit k) (λ _. record { level = refl; holder = refl }) (λ _. same-lock p)
+change-lock n off (Moved k a) h p =
+    lock-along p (storedBuffer k (movedIn a (buffer k p)) p) _
+    (by-test (SameLock p) (within bufferLimit k) (λ _. record { level = refl; holder = refl }) (λ _. same-lock p))
+    (ended-lock a (storedBuffer k (movedIn a (buffer k p)) p))
+change-lock n off (StoredBlackboard k b) h p = by-test (SameLock p) (within blackboardLimit k) (λ _. record { level = refl; holder = refl }) (λ _. same-lock p)
+change-lock n off (Ended o) h p = rest-lock p _ (changed-rest served (waiters o p) p)
+change-lock n off (Handed o m) h p = rest-lock p _ (changed-rest (handed m) (waiters o p) p)
+change-lock n off (LevelSet level holder) h p = not-both _ h off
+change-lock n off (Entered c) h p = not-both _ h off
+
+-- ---------------------------------------------------------------- an event
+module _ (m : Module) (s : SoundModule m) (r : Request) where
+  abbrev k : ℕ
+  k = numberOf (r .partition)
+
+  abbrev n : ℕ
+  n = numberOf (r .call)
+
+  -- where partition number i + 1 makes the call, it is none of the four
+  abbrev Elsewhere : ℕ → Type 0
+  Elsewhere i = (k ≡ 0 → ⊥) → i ≡ k - 1 → setsLevel n ≡ false
+
+  -- the lock of partition number i + 1 is what it was
+  abbrev Left : ℕ → Partition → Type 0
+  Left i q = Elsewhere i → SameLock (part m i) q
+
+  same-left : (i : ℕ) → i < m .table .size → Left i (part m i)
+  same-left i l _ = same-lock (part m i)
+
+  puts : (x : Module) → x .partitions ≡ m .partitions → (j : ℕ) → j < m .table .size → (p : Partition) → Left j p → (i : ℕ) → i < m .table .size → Left i (part (withPart j p x) i)
+  puts x e j inside p h i l = rw e (at-set Left (m .partitions) j (noted p) noPartition (omega (arith, inside, s .partitionsSize, s .table .size .1)) i (λ u. noted-lock (part m j) p (h u)) (λ _. same-left i l))
+
+  module _ (q : Calls m r) where
+    abbrev now : Partition
+    now = part m (k - 1)
+
+    here : k - 1 < m .table .size
+    here = place m s r q
+
+    decided-lock : (d : Decision) → SoundDecision (contextOf m k) now d → Bodily (portOf m k r) n d → (i : ℕ) → i < m .table .size → Left i (part (moduleAfter m k d) i)
+    decided-lock (Refused c) h b = same-left
+    decided-lock (Unchanged v e) h b = same-left
+    decided-lock Ticked h b = absurd b
+    decided-lock (Blocked id x) h b = puts m refl (k - 1) here (stored id x now) (λ _. rest-lock now _ (stored-rest now id x))
+    decided-lock (Changed x y v) h b = puts m refl (k - 1) here (applied y (applied x now)) (λ u. lock-along now (applied x now) _ (change-lock n (u (q .some) refl) x (b .0) now) (change-lock n (u (q .some) refl) y (b .1) (applied x now)))
+    decided-lock (Restarted mode) h b =
+        let u = erasedTo k channelLimit m in
+        let p = nothingCreated mode in
+        refilled-keeps Left k (withPart (k - 1) p u) (part-sound u (erased-sound k channelLimit m (omega arith) s) (k - 1) here p (nothing-valid (m .table .frame) (m .t) mode h)) channelLimit
+        (λ i _ _ size frame t p v h e. noted-lock (part m _) _ (lock-along (part m _) p _ (h e) (rest-lock p _ (changed-rest served (take size (waiters _ p)) p))))
+        (puts u refl (k - 1) here p (λ u. not-both _ b (u (q .some) refl)))
+    decided-lock (Written j x) h b = same-left
+    decided-lock (PassedOn j a v) h b =
+        let e = otherEnd k (channel (m .table) j) - 1 in
+        by-test (λ (x : Module). (i : ℕ) → i < m .table .size → Left i (part x i)) (endsWait a)
+        (λ _. puts (withQueue j (moved a (queue m j)) m) refl e (on-queue m s r q j a v b .inside) (endedBy a (part m e)) (λ _. ended-lock a (part m e)))
+        (λ _. same-left)
+
+  pub event-lock : (i : ℕ) → i < m .table .size → Left i (part (moduleAfter m k (decision m r)) i)
+  unfolding plainTick
+  event-lock = by-event m r (λ (d : Decision). (i : ℕ) → i < m .table .size → Left i (part (moduleAfter m k d) i))
+      (λ _ _. same-left)
+      (λ _ _ _ i l _.
+      let long : m .table .size ≤ length (m .partitions) = omega (arith, s .partitionsSize, s .table .size .1) in
+      rw (tick-module-plain m (inr s), plain-part (m .table .size) (withTime (m .t + 1) m) long i l) (noted-lock (part m i) _ (tick-lock (m .t + 1) (part m i) (s .eachPartition i l .lists))))
+      (λ q. decided-lock q (made m s r q) (made-sound m s r q) (made-body m s r q))
+
+-- ---------------------------------------------------------------- an event's numbers
+one-of : (n : ℕ) → setsLevel n ≡ true → (n ≡ 1) ⊎ ((n ≡ 6) ⊎ ((n ≡ 32) ⊎ (n ≡ 33)))
+one-of n h = either (eqb n 1)
+    (λ e. inl (eqb-true n 1 e))
+    (λ a. inr (either (eqb n 6)
+    (λ e. inl (eqb-true n 6 e))
+    (λ b. inr (either (eqb n 32)
+    (λ e. inl (eqb-true n 32 e))
+    (λ c. inr (eqb-true n 33 (rw (a, b, c) at h)))))))
+
+no-lock-call : (k : ℕ) (e : EventT) → NoLockCall k e → 1 ≤ k → let r = requestOf e in
+    (numberOf (r .partition) ≡ 0 → ⊥) → k - 1 ≡ numberOf (r .partition) - 1 → setsLevel (numberOf (r .call)) ≡ false
+no-lock-call k e free some from is =
+    let r = requestOf e in
+    let n = numberOf (r .call) in
+    let own : numberOf (r .partition) ≡ k = omega arith in
+    let f = free (number-of (e .partition) from ∙ ap pos own) in
+    not-so (setsLevel n) (λ h. ⊎-elim
+    (λ (z : n ≡ 1). f .0 (number-of (e .call) (λ y. omega arith) ∙ ap pos z))
+    (⊎-elim
+    (λ (z : n ≡ 6). f .1 (number-of (e .call) (λ y. omega arith) ∙ ap pos z))
+    (⊎-elim
+    (λ (z : n ≡ 32). f .2 (number-of (e .call) (λ y. omega arith) ∙ ap pos z))
+    (λ (z : n ≡ 33). f .3 (number-of (e .call) (λ y. omega arith) ∙ ap pos z))))
+    (one-of n h))
+
+-- ---------------------------------------------------------------- reached records
+holds : (m : Module) → SoundModule m → (k : ℕ) → Between 1 (m .table .size) k → LockHolds m k
+holds m s k b =
+    let p = own m k in
+    let v = s .eachPartition (k - 1) (omega (arith, b .0, b .1)) in
+    let l = v .lock in
+    record {
+      few = l .few;
+      outside = λ early. either (ltb 0 (p .level)) (λ e. absurd (early (eqb-true (p .mode) 3 (l .normal (ltb-true 0 (p .level) e))))) (λ e. let z = ltb-false 0 (p .level) e in omega arith);
+      free = l .free;
+      held = l .held;
+      runs = λ some now. rw (now, ne-eqb k 0 (λ z. omega (arith, b .0))) (holder-runs p (v .lists) (l .normal some) some);
+    }
+
+-- the record after an event
+module _ (m : Module) (h : Reached m) (k : ℕ) (b : Between 1 (m .table .size) k) where
+  sound : SoundModule m
+  sound = valid-sound m (reached-valid m h) (k - 1) (omega (arith, b .0, b .1))
+
+  inside : (e : EventT) → Between 1 (step m e .state .table .size) k
+  unfolding step
+  inside e = rw (decided-table m (numberOf (requestOf e .partition)) (decision m (requestOf e))) b
+
+  step-lock : (e : EventT) → NoLockCall k e → SameLock (own m k) (own (step m e .state) k)
+  unfolding step
+  step-lock e free = event-lock m sound (requestOf e) (k - 1) (omega (arith, b .0, b .1)) (no-lock-call k e free (b .0))
+
+  shown-holder : (e : EventT) → let q = step m e .state in
+      (e .partition ≡ pos 0) ⊎ (e .partition ≡ pos k) → current q ≡ k → 0 < own q k .level → step m e .answer .running ≡ own q k .holder
+  unfolding step
+  shown-holder e from now some =
+      let r = requestOf e in
+      let q = moduleAfter m (numberOf (r .partition)) (decision m r) in
+      let seen : sees r (current q) ≡ true = rw now (⊎-elim
+      (λ (z : e .partition ≡ pos 0). rw z)
+      (λ (z : e .partition ≡ pos k). rw (z, field-number k (omega (arith, b .1, sound .table .size .1)), eq-eqb k k refl, or-true (eqb k 0)))
+      from) in
+      rw seen (holds q (decided-sound m sound r) k (inside e) .runs some now)
+
+list-lock : (k : ℕ) (es : List EventT) (m : Module) → Reached m → Between 1 (m .table .size) k → NoLockCalls k es → SameLock (own m k) (own (after m es) k)
+unfolding NoLockCalls
+list-lock k [] m h b free = same-lock (own m k)
+list-lock k (e ∷ es) m h b free = lock-along (own m k) (own (step m e .state) k) _ (step-lock m h k b e (free .0)) (list-lock k es (step m e .state) (Reached.stepped m e h) (inside m h k b e) (free .1))
+
+-- ---------------------------------------------------------------- the calls
+module _ (m : Module) (k : ℕ) (u : SoundModule m) (h : Calling m k) where
+  abbrev p : Partition
+  p = own m k
+
+  lists : ListedIn p
+  lists = calling-valid m k u h .lists
+
+  -- both calls: outside NORMAL 1
+  lock-early : (p .mode ≡ 3 → ⊥) → Refuses m (lock k) 1
+  unfolding callDecision services strayField lockPreemption checked
+  lock-early early = gives m k u h 32 (pos 0) (pos 0) (pos 0) (pos 0) (omega arith) (omega arith) refl (Refused 1) (rw (normal-not m k u h early))
+
+  unlock-early : (p .mode ≡ 3 → ⊥) → Refuses m (unlock k) 1
+  unfolding callDecision services strayField unlockPreemption checked
+  unlock-early early = gives m k u h 33 (pos 0) (pos 0) (pos 0) (pos 0) (omega arith) (omega arith) refl (Refused 1) (rw (normal-not m k u h early))
+
+  module _ (n : p .mode ≡ 3) where
+    lock-full : p .level ≡ levelLimit → Refuses m (lock k) 4
+    unfolding callDecision services strayField lockPreemption checked
+    lock-full z = gives m k u h 32 (pos 0) (pos 0) (pos 0) (pos 0) (omega arith) (omega arith) refl (Refused 4) (rw (normal-is m k u h n, le-leb levelLimit (p .level) (omega (arith, z))))
+
+    lock-first : p .level ≡ 0 → Puts m (lock k) 0 0 k (withLock 1 (running p) p)
+    unfolding callDecision services strayField lockPreemption checked
+    lock-first z = gives m k u h 32 (pos 0) (pos 0) (pos 0) (pos 0) (omega arith) (omega arith) refl (changed (LevelSet 1 (running p)))
+        (rw (normal-is m k u h n, lt-leb levelLimit (p .level) (omega (arith, z)), le-ltb 0 (p .level) (omega (arith, z))) (ap (λ level. changed (LevelSet (level + 1) (running p))) z))
+
+    lock-more : 0 < p .level → p .level < levelLimit → Puts m (lock k) 0 0 k (withLock (p .level + 1) (p .holder) p)
+    unfolding callDecision services strayField lockPreemption checked
+    lock-more some room = gives m k u h 32 (pos 0) (pos 0) (pos 0) (pos 0) (omega arith) (omega arith) refl (changed (LevelSet (p .level + 1) (p .holder))) (rw (normal-is m k u h n, lt-leb levelLimit (p .level) room, lt-ltb 0 (p .level) some))
+
+    unlock-free : p .level ≡ 0 → Refuses m (unlock k) 1
+    unfolding callDecision services strayField unlockPreemption checked
+    unlock-free z = gives m k u h 33 (pos 0) (pos 0) (pos 0) (pos 0) (omega arith) (omega arith) refl (Refused 1) (rw (normal-is m k u h n, le-ltb 0 (p .level) (omega (arith, z))))
+
+    unlock-last : p .level ≡ 1 → Puts m (unlock k) 0 0 k (withLock 0 0 p)
+    unfolding callDecision services strayField unlockPreemption checked
+    unlock-last z = gives m k u h 33 (pos 0) (pos 0) (pos 0) (pos 0) (omega arith) (omega arith) refl (changed (LevelSet 0 0))
+        (rw (normal-is m k u h n, lt-ltb 0 (p .level) (omega (arith, z)), le-ltb 0 (p .level - 1) (omega (arith, z))) (ap (λ level. changed (LevelSet (level - 1) 0)) z))
+
+    unlock-one : 1 < p .level → Puts m (unlock k) 0 0 k (withLock (p .level - 1) (p .holder) p)
+    unfolding callDecision services strayField unlockPreemption checked
+    unlock-one more = gives m k u h 33 (pos 0) (pos 0) (pos 0) (pos 0) (omega arith) (omega arith) refl (changed (LevelSet (p .level - 1) (p .holder))) (rw (normal-is m k u h n, lt-ltb 0 (p .level) (omega arith), lt-ltb 0 (p .level - 1) (omega arith)))
+
+    stop-self : let id = running p in Puts m (callBy k 6 (pos 0) (pos 0) (pos 0) (pos 0)) 0 0 k (withProcess id (stopped (process id p)) (without id (p .arrival)) (withLock 0 0 p))
+    unfolding callDecision services strayField stopSelf checked
+    stop-self =
+        let id = running p in
+        let x = process id p in
+        let c = running-caller p lists (calling-valid m k u h .lock) (h .runs n) in
+        puts-is m k _ _
+        (gives m k u h 6 (pos 0) (pos 0) (pos 0) (pos 0) (omega arith) (omega arith) refl (Changed (LevelSet 0 0) (Stored id (stopped x)) 0) (rw (normal-is m k u h n)))
+        (stored-leaves (withLock 0 0 p) lists id (c .created) (stopped x) (c .isReady) refl (rw (ready-off x (c .isReady))))
+
+  -- a mode change: what is decided of it, and what the answer tells of that
+  module _ (a : ℤ) where
+    abbrev asks : EventT
+    asks = callBy k 1 a (pos 0) (pos 0) (pos 0)
+
+    abbrev later : Partition
+    later = own (step m asks .state) k
+
+    record ModeSet (d : Decision) : Type 0 where
+      is : Gives m asks (replyOf d .code) (replyOf d .value) (replyOf d .extra) (moduleAfter m k d)
+          → (replyOf d .code ≡ 0 → (later .level ≡ 0) × (later .holder ≡ 0)) × ((replyOf d .code ≡ 0 → ⊥) → step m asks .state ≡ m)
+
+    restarts-free : (mode : ℕ) → mode ≤ modeLimit → let q = part (moduleAfter m k (Restarted mode)) (k - 1) in (q .level ≡ 0) × (q .holder ≡ 0)
+    restarts-free mode few =
+        let x = erasedTo k channelLimit m in
+        let q = nothingCreated mode in
+        let here = calling-place m k u h in
+        let s = part-sound x (erased-sound k channelLimit m (omega arith) u) (k - 1) here q (nothing-valid (m .table .frame) (m .t) mode few) in
+        refilled-keeps (λ i (y : Partition). i ≡ k - 1 → (y .level ≡ 0) × (y .holder ≡ 0)) k (withPart (k - 1) q x) s channelLimit
+        (λ i _ _ size frame t y v f e. let l = rest-lock y _ (changed-rest served (take size (waiters (object (Source (i + 1) 0)) y)) y) in (l .level ∙ f e .0, l .holder ∙ f e .1))
+        (λ i l. at-set (λ i (y : Partition). i ≡ k - 1 → (y .level ≡ 0) × (y .holder ≡ 0)) (m .partitions) (k - 1) (noted q) noPartition (omega (arith, here, u .partitionsSize, u .table .size .1)) i (λ _. (refl, refl)) (λ ne e. absurd (ne e)))
+        (k - 1) here refl
+
+    mode-set : ModeSet (setMode (contextOf m k) (field a) p)
+    unfolding setMode Passed enteredNormal
+    mode-set = by-codes ModeSet bodyRefusal Refused _ _ refl
+        (λ c e. record { is = λ g. (λ z. not-both _ e (rw z), λ _. g .state) })
+        (λ f. by-test ModeSet (isNumber 3 (field a))
+        (λ _. record {
+          is = λ g.
+              let q = enteredNormal (contextOf m k) p in
+              let l = rest-lock (withMode 3 p) q (each-rest (entered (contextOf m k)) (withMode 3 p) lists) in
+              let e = own-after m k u h q g in
+              (λ _. (ap (λ (y : Partition). y .level) e ∙ l .level, ap (λ (y : Partition). y .holder) e ∙ l .holder), λ some. absurd (some refl));
+        })
+        (λ _. record {
+          is = λ g.
+              let few = in-limits 0 modeLimit (field a) (not-false _ (f .0)) .1 in
+              let e = ap (λ (x : Module). own x k) (g .state) in
+              let l = restarts-free (numberOf (field a)) few in
+              (λ _. (ap (λ (y : Partition). y .level) e ∙ l .0, ap (λ (y : Partition). y .holder) e ∙ l .1), λ some. absurd (some refl));
+        }))
+
+    mode-gives : let d = setMode (contextOf m k) (field a) p in Gives m asks (replyOf d .code) (replyOf d .value) (replyOf d .extra) (moduleAfter m k d)
+    unfolding callDecision services strayField
+    mode-gives = gives m k u h 1 a (pos 0) (pos 0) (pos 0) (omega arith) (omega arith) refl (setMode (contextOf m k) (field a) p) refl
+
+    mode-changed : step m asks .answer .code ≡ 0 → (later .level ≡ 0) × (later .holder ≡ 0)
+    mode-changed z = mode-set .is mode-gives .0 (sym (mode-gives .codeIs) ∙ z)
+
+    mode-refused : (step m asks .answer .code ≡ 0 → ⊥) → step m asks .state ≡ m
+    mode-refused some = mode-set .is mode-gives .1 (λ z. some (mode-gives .codeIs ∙ z))
+
+-- Law. The preemption lock.
+pub locks : Locks
+locks = record {
+  reached = λ m h k b. holds m (sound m h k b) k b;
+  shown = λ m h e k b. shown-holder m h k b e;
+  calls = λ m k h. let u = calling-sound m k h in record {
+    lockEarly = lock-early m k u h;
+    lockFull = lock-full m k u h;
+    lockFirst = lock-first m k u h;
+    lockMore = lock-more m k u h;
+    unlockEarly = unlock-early m k u h;
+    unlockFree = unlock-free m k u h;
+    unlockLast = unlock-last m k u h;
+    unlockOne = unlock-one m k u h;
+    stopSelf = stop-self m k u h;
+    modeChanged = mode-changed m k u h;
+    modeRefused = mode-refused m k u h;
+  };
+  kept = λ m h k b es free. list-lock k es m h b free;
+  apart = λ m S within closed left right q k s. let e = left-right m S within closed left right q .1 .records k s in record { level = ap (λ (x : Partition). x .level) (sym e); holder = ap (λ (x : Partition). x .holder) (sym e) };
+}

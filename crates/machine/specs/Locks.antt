@@ -1,0 +1,94 @@
+-- The preemption lock (document 02, e): what holds of it in every record that a run reaches, what its two calls, STOP_SELF and a mode change make of
+-- it, and that nothing else reaches it, as claims about `step` and about lists of events. The premises speak of an event's numbers, the table, the
+-- record, the current partition and the running process.
+use Prim.Native.Nat.{ℕ, _+_, _-_, _≤_, _<_}
+use mathlib.Core.Path.{_≡_}
+use mathlib.Core.Bool.{Bool, true}
+use mathlib.Core.List.{List, [], _∷_}
+use mathlib.Core.Logic.{_⊎_}
+use lib.IntN.{ℤ, pos}
+use Rattle.machine.specs.declared.Event.{Event as EventT}
+use Rattle.machine.specs.declared.Partition.{Partition}
+use Rattle.machine.specs.declared.Module.{Module}
+use Rattle.machine.specs.Limits.{levelLimit}
+use Rattle.machine.specs.Process.{ready, stopped}
+use Rattle.machine.specs.Partition.{process, running, withLock}
+use Rattle.machine.specs.Module.{current, runningIn}
+use Rattle.machine.specs.Step.{step}
+use Rattle.machine.specs.TwoRuns.{keep}
+use Rattle.machine.specs.LeftRight.{common, after, Within, Closed}
+use Rattle.machine.specs.Valid.{Between, Reached}
+use Rattle.machine.specs.Starred.{own, callBy, Refuses, Puts, Calling, withProcess, without}
+
+-- ---------------------------------------------------------------- every reached record
+pub record LockHolds (m : Module) (k : ℕ) : Type 0 where
+  -- a level 0..16
+  pub few : own m k .level ≤ levelLimit
+  -- outside NORMAL the level is 0; at level 0 there is no holder
+  pub outside : (own m k .mode ≡ 3 → ⊥) → own m k .level ≡ 0
+  pub free : own m k .level ≡ 0 → own m k .holder ≡ 0
+  -- a level above 0 has a READY holder, and it is the running process where its partition is current
+  pub held : 0 < own m k .level → ready (process (own m k .holder) (own m k)) ≡ true
+  pub runs : 0 < own m k .level → current m ≡ k → runningIn (current m) m ≡ own m k .holder
+
+-- ---------------------------------------------------------------- what reaches a lock
+pub record SameLock (p q : Partition) : Type 0 where
+  pub level : q .level ≡ p .level
+  pub holder : q .holder ≡ p .holder
+
+-- no call 1, 6, 32 or 33 of partition k: a tick, an event of another partition, or another call
+abbrev pub NoLockCall : ℕ → EventT → Type 0
+NoLockCall k e = e .partition ≡ pos k → (e .call ≡ pos 1 → ⊥) × (e .call ≡ pos 6 → ⊥) × (e .call ≡ pos 32 → ⊥) × (e .call ≡ pos 33 → ⊥)
+
+-- the events of a list are such ones
+unfoldable pub NoLockCalls : ℕ → List EventT → Type 0
+NoLockCalls k [] = Unit {0}
+NoLockCalls k (e ∷ es) = NoLockCall k e × NoLockCalls k es
+
+-- ---------------------------------------------------------------- the calls
+abbrev pub lock : ℕ → EventT
+lock k = callBy k 32 (pos 0) (pos 0) (pos 0) (pos 0)
+
+abbrev pub unlock : ℕ → EventT
+unlock k = callBy k 33 (pos 0) (pos 0) (pos 0) (pos 0)
+
+pub record LockCalls (m : Module) (k : ℕ) : Type 0 where
+  -- 32 LOCK_PREEMPTION: 1 outside NORMAL, 4 at 16; else one level more, and the process that raised it from 0 is the holder
+  pub lockEarly : (own m k .mode ≡ 3 → ⊥) → Refuses m (lock k) 1
+  pub lockFull : own m k .mode ≡ 3 → own m k .level ≡ levelLimit → Refuses m (lock k) 4
+  pub lockFirst : let p = own m k in
+      p .mode ≡ 3 → p .level ≡ 0 → Puts m (lock k) 0 0 k (withLock 1 (running p) p)
+  pub lockMore : let p = own m k in
+      p .mode ≡ 3 → 0 < p .level → p .level < levelLimit → Puts m (lock k) 0 0 k (withLock (p .level + 1) (p .holder) p)
+  -- 33 UNLOCK_PREEMPTION: 1 outside NORMAL, 1 at level 0; else one level less, and at 0 there is no holder
+  pub unlockEarly : (own m k .mode ≡ 3 → ⊥) → Refuses m (unlock k) 1
+  pub unlockFree : own m k .mode ≡ 3 → own m k .level ≡ 0 → Refuses m (unlock k) 1
+  pub unlockLast : let p = own m k in
+      p .mode ≡ 3 → p .level ≡ 1 → Puts m (unlock k) 0 0 k (withLock 0 0 p)
+  pub unlockOne : let p = own m k in
+      p .mode ≡ 3 → 1 < p .level → Puts m (unlock k) 0 0 k (withLock (p .level - 1) (p .holder) p)
+  -- STOP_SELF brings the level to 0: the caller is DORMANT then, and leaves the arrival list
+  pub stopSelf : let p = own m k in
+      let id = running p in
+      p .mode ≡ 3 → Puts m (callBy k 6 (pos 0) (pos 0) (pos 0) (pos 0)) 0 0 k (withProcess id (stopped (process id p)) (without id (p .arrival)) (withLock 0 0 p))
+  -- an accepted mode change brings the level to 0; a refused one leaves the whole record
+  pub modeChanged : (a : ℤ) → let e = callBy k 1 a (pos 0) (pos 0) (pos 0) in
+      step m e .answer .code ≡ 0 → (own (step m e .state) k .level ≡ 0) × (own (step m e .state) k .holder ≡ 0)
+  pub modeRefused : (a : ℤ) → let e = callBy k 1 a (pos 0) (pos 0) (pos 0) in
+      (step m e .answer .code ≡ 0 → ⊥) → step m e .state ≡ m
+
+-- ---------------------------------------------------------------- the whole
+pub record Locks : Type 0 where
+  pub reached : (m : Module) → Reached m → (k : ℕ) → Between 1 (m .table .size) k → LockHolds m k
+  -- the answer to an event of its partition, or of none, shows the holder
+  pub shown : (m : Module) → Reached m → (e : EventT) (k : ℕ) → let q = step m e .state in
+      Between 1 (m .table .size) k → (e .partition ≡ pos 0) ⊎ (e .partition ≡ pos k) → current q ≡ k → 0 < own q k .level
+      → step m e .answer .running ≡ own q k .holder
+  pub calls : (m : Module) (k : ℕ) → Calling m k → LockCalls m k
+  -- no other event reaches the lock of a partition, whatever it does to priorities and arrivals: with `reached`, the holder is READY, and it is the
+  -- running process where its partition is current, after the whole list
+  pub kept : (m : Module) → Reached m → (k : ℕ) → Between 1 (m .table .size) k → (es : List EventT) → NoLockCalls k es → SameLock (own m k) (own (after m es) k)
+  -- Neighbours outside a closed set can't reach its levels: two runs that differ in their calls alone agree on them (of Left and Right, whose
+  -- claim is of every field)
+  pub apart : (m : Module) (S : ℕ → Bool) → Within (m .table) S → Closed (m .table) S → (left right : List EventT) → keep (common S) left ≡ keep (common S) right
+      → (k : ℕ) → S k ≡ true → SameLock (own (after m left) k) (own (after m right) k)

@@ -1,4 +1,4 @@
-// Calls 1 to 13: what each decides. Beside each call: how many of the fields a, b, c, e it uses.
+// Calls 1 to 13, 32 and 33: what each decides. Beside each call: how many of the fields a, b, c, e it uses.
 ghost use mathlib.Core.Path.{_≡_};
 ghost use mathlib.Core.Bool.{cond, not, _&&_, _||_};
 ghost use lib.Dec.{eqb};
@@ -8,7 +8,7 @@ ghost use Rattle.machine.specs.Fields.{isNumber, isMinusOne, between, isDuratio
 ghost use Rattle.machine.specs.Process.{periodic};
 ghost use Rattle.machine.specs.declared.Change.the-variants.{Nothing, Last};
 ghost use Rattle.machine.specs.Decisions.{dormant};
-ghost use Rattle.machine.specs.Calls.{setMode, processNamed, isMultiple, above, isPriority, admissible, createProcess, reaches, start, stop, stopSelf, suspend, suspendSelf, timedWait, periodicWait, resume, setPriority, status, getStatus};
+ghost use Rattle.machine.specs.Calls.{setMode, processNamed, isMultiple, above, isPriority, admissible, createProcess, reaches, start, stop, stopSelf, suspend, suspendSelf, timedWait, periodicWait, resume, setPriority, status, getStatus, lockPreemption, unlockPreemption};
 use machine::Change;
 use machine::Context;
 use machine::Decision;
@@ -235,7 +235,7 @@ pub fn stop_process(p: Partition, c: Context, id: u32) -> Decision
 
 pub const STOP_SELF_FIELDS: u8 = 0;
 
-// 6 STOP_SELF.
+// 6 STOP_SELF; it ends a preemption lock.
 pub fn stop_self(p: Partition, c: Context) -> Decision
     ensures { λ r. ⌜ r ≡ stopSelf c p ⌝ }
 {
@@ -244,7 +244,11 @@ pub fn stop_self(p: Partition, c: Context) -> Decision
     }
     let id = decisions::caller_of(c);
     let x = partition::process_at(p, id);
-    decisions::changed(Change::Stored(id, process::stop(x)))
+    Decision::Changed(
+        Change::LevelSet(0, 0),
+        Change::Stored(id, process::stop(x)),
+        0,
+    )
 }
 
 // Whether a process is DORMANT or periodic.
@@ -296,11 +300,14 @@ pub fn suspend_self(p: Partition, c: Context, a: Field) -> Decision
     if !fields::is_timeout(a) {
         return Decision::Refused(3);
     }
+    if 0 < p.level {
+        return Decision::Refused(5);
+    }
     if fields::is_number(a, 0) {
         return Decision::Unchanged(0, Time::At(0));
     }
     let wake = process::later_time(Time::At(c.time), fields::time_of(a));
-    decisions::block(c.caller, process::suspended_until(x, wake))
+    decisions::block(p.level, c.caller, process::suspended_until(x, wake))
 }
 
 pub const TIMED_WAIT_FIELDS: u8 = 1;
@@ -315,13 +322,20 @@ pub fn timed_wait(p: Partition, c: Context, a: Field) -> Decision
     if !fields::is_duration(a) {
         return Decision::Refused(3);
     }
+    if 0 < p.level {
+        return Decision::Refused(5);
+    }
     if fields::is_number(a, 0) {
         return decisions::changed(Change::Last(c.caller));
     }
     let id = decisions::caller_of(c);
     let x = partition::process_at(p, id);
     let wake = process::later_time(Time::At(c.time), fields::time_of(a));
-    decisions::block(c.caller, process::waiting_for(x, Wait::Timed, wake))
+    decisions::block(
+        p.level,
+        c.caller,
+        process::waiting_for(x, Wait::Timed, wake),
+    )
 }
 
 pub const PERIODIC_WAIT_FIELDS: u8 = 0;
@@ -343,7 +357,7 @@ pub fn periodic_wait(p: Partition, c: Context) -> Decision
     let times = x.times;
     let last = times.release;
     let release = process::later_time(last, period);
-    decisions::block(c.caller, process::wait_for_release(x, release))
+    decisions::block(p.level, c.caller, process::wait_for_release(x, release))
 }
 
 pub const RESUME_FIELDS: u8 = 1;
@@ -434,4 +448,42 @@ pub fn get_status(p: Partition, c: Context, id: u32) -> Decision
     let times = x.times;
     let deadline = times.deadline;
     Decision::Unchanged(status_of(x, c, id), deadline)
+}
+
+pub const LOCK_PREEMPTION_FIELDS: u8 = 0;
+
+// 32 LOCK_PREEMPTION. The process that raises the level from 0 is the holder.
+pub fn lock_preemption(p: Partition, c: Context) -> Decision
+    ensures { λ r. ⌜ r ≡ lockPreemption c p ⌝ }
+{
+    if p.mode != 3 {
+        return Decision::Refused(1);
+    }
+    if Module::LEVEL <= p.level {
+        return Decision::Refused(4);
+    }
+    let level = p.level + 1;
+    if 0 < p.level {
+        return decisions::changed(Change::LevelSet(level, p.holder));
+    }
+    decisions::changed(Change::LevelSet(level, c.caller))
+}
+
+pub const UNLOCK_PREEMPTION_FIELDS: u8 = 0;
+
+// 33 UNLOCK_PREEMPTION. At level 0 there is no holder.
+pub fn unlock_preemption(p: Partition) -> Decision
+    ensures { λ r. ⌜ r ≡ unlockPreemption p ⌝ }
+{
+    if p.mode != 3 {
+        return Decision::Refused(1);
+    }
+    if p.level == 0 {
+        return Decision::Refused(1);
+    }
+    let level = p.level - 1;
+    if 0 < level {
+        return decisions::changed(Change::LevelSet(level, p.holder));
+    }
+    decisions::changed(Change::LevelSet(level, 0))
 }

@@ -158,10 +158,13 @@ pub fn changed(change: Change) -> Decision
     Decision::Changed(change, Change::Nothing, 0)
 }
 
-// The only place that gives code 7: process id has the record x, in which it waits.
-pub fn block(id: u8, x: Process) -> Decision
-    ensures { λ r. ⌜ r ≡ blocked id x ⌝ }
+// The only place that gives code 7: process id has the record x, in which it waits; 5 while preemption is locked.
+pub fn block(level: u8, id: u8, x: Process) -> Decision
+    ensures { λ r. ⌜ r ≡ blocked level id x ⌝ }
 {
+    if 0 < level {
+        return Decision::Refused(5);
+    }
     Decision::Blocked(id, x)
 }
 

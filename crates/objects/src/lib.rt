@@ -177,7 +177,7 @@ fn wait_queued(p: Partition, c: Context, a: Field, wait: Wait) -> Decision
     }
     let x = partition::process_at(p, decisions::caller_of(c));
     let until = process::later_time(Time::At(c.time), fields::time_of(a));
-    decisions::block(c.caller, process::waiting_for(x, wait, until))
+    decisions::block(p.level, c.caller, process::waiting_for(x, wait, until))
 }
 
 // What a send that may wait admits.

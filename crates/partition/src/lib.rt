@@ -124,11 +124,15 @@ fn or_later(c: Choice, id: u8, priority: u8) -> Choice
     c
 }
 
+// While preemption is locked, the holder.
 pub fn running_process(p: Partition) -> u8
     ensures { λ r. ⌜ r ≡ running p ⌝ }
 {
     if p.mode != 3 {
         return 0;
+    }
+    if 0 < p.level {
+        return p.holder;
     }
     let arrival = p.arrival;
     let n = count(arrival);
@@ -488,6 +492,8 @@ fn enter_normal(p: Partition, c: Context) -> Partition
     let n = wide(p.processCount);
     let mut q = p;
     q.mode = 3;
+    q.level = 0;
+    q.holder = 0;
     let mut id: u32 = 0;
     while id < n {
         id = id + 1;
@@ -571,6 +577,10 @@ fn change(p: Partition, a: Change, b: Change) -> Partition
             }
             Change::Ended(o) => q = end_waits(q, queue_of(q, o), false, 0),
             Change::Handed(o, m) => q = end_waits(q, queue_of(q, o), true, m),
+            Change::LevelSet(level, holder) => {
+                q.level = level;
+                q.holder = holder;
+            }
             Change::Entered(x) => q = enter_normal(q, x),
         }
         c = b;

@@ -1,4 +1,4 @@
-// Calls 1 to 31 by number: the fields that each uses, and what it decides.
+// Calls 1 to 33 by number: the fields that each uses, and what it decides.
 ghost use mathlib.Core.Path.{_≡_};
 ghost use Rattle.machine.specs.Services.{serviceOf, called};
 use machine::Context;
@@ -44,6 +44,8 @@ pub fn fields_of(n: u32) -> u8
         29 => blackboards::CLEAR_FIELDS,
         30 => queuing::SEND_FIELDS,
         31 => queuing::RECEIVE_FIELDS,
+        32 => calls::LOCK_PREEMPTION_FIELDS,
+        33 => calls::UNLOCK_PREEMPTION_FIELDS,
         _ => 0,
     }
 }
@@ -91,6 +93,8 @@ pub fn call(p: Partition, c: Context, x: Port, n: u32, r: Request) -> Decision
         29 => blackboards::clear_blackboard(p, id),
         30 => queuing::send_channel(p, c, x, b, third),
         31 => queuing::receive_channel(p, c, x, b),
+        32 => calls::lock_preemption(p, c),
+        33 => calls::unlock_preemption(p),
         _ => Decision::Refused(13),
     }
 }

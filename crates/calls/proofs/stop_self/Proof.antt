@@ -10,14 +10,13 @@ returns c = rw (ne-eqb _ _ (c .if1 .taken))
 
 returns-2 : tie.Need-returns-2
 unfolding stopSelf checked
-returns-2 c = rw (c .changed .ensures, c .before .stop .ensures, eq-eqb _ _ (c .before .before .before .before .if1 .left), c .before .before .process-at .ensures, c .before .before .before .caller-of .ensures)
+returns-2 c = rw (c .stop .ensures, eq-eqb _ _ (c .before .before .before .if1 .left), c .before .process-at .ensures, c .before .before .caller-of .ensures)
 
 pub stop-self-spec : {M : Type 1} → statement M
 stop-self-spec =
     tie.close
     (tie.spec
     returns
-    (λ _ _. tt)
     (λ _ _. tt)
     (λ _ _. tt)
     (λ _ _. tt)

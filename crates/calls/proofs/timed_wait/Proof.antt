@@ -1,4 +1,4 @@
-use borrow.Author.Tests.{eq-eqb, ne-eqb}
+use borrow.Author.Tests.{eq-eqb, ne-eqb, lt-ltb, le-ltb}
 use Rattle.machine.specs.Decisions.{checked}
 use Rattle.machine.specs.Calls.{timedWait}
 use Rattle.calls.proofs.timed_wait.Statement.{statement}
@@ -14,11 +14,15 @@ returns-2 c = rw (eq-eqb _ _ (c .before .before .if1 .left), ← c .before .is-d
 
 returns-3 : tie.Need-returns-3
 unfolding timedWait checked
-returns-3 c = rw (c .changed .ensures, eq-eqb _ _ (c .before .before .before .before .before .if1 .left), ← c .before .before .before .before .is-duration .ensures, c .before .before .before .if2 .left, ← c .before .before .is-number .ensures, c .before .if3 .taken)
+returns-3 c = rw (eq-eqb _ _ (c .before .before .before .before .if1 .left), ← c .before .before .before .is-duration .ensures, c .before .before .if2 .left, lt-ltb _ _ (c .if3 .taken))
 
 returns-4 : tie.Need-returns-4
 unfolding timedWait checked
-returns-4 c = rw (c .block .ensures, c .before .waiting-for .ensures, c .before .before .later-time .ensures, c .before .before .before .time-of .ensures, eq-eqb _ _ (c .before .before .before .before .before .before .before .before .before .before .if1 .left), ← c .before .before .before .before .before .before .before .before .before .is-duration .ensures, c .before .before .before .before .before .before .before .before .if2 .left, ← c .before .before .before .before .before .before .before .is-number .ensures, c .before .before .before .before .before .before .if3 .left, c .before .before .before .before .process-at .ensures, c .before .before .before .before .before .caller-of .ensures)
+returns-4 c = rw (c .changed .ensures, eq-eqb _ _ (c .before .before .before .before .before .before .before .if1 .left), ← c .before .before .before .before .before .before .is-duration .ensures, c .before .before .before .before .before .if2 .left, le-ltb _ _ (c .before .before .before .if3 .left), ← c .before .before .is-number .ensures, c .before .if4 .taken)
+
+returns-5 : tie.Need-returns-5
+unfolding timedWait checked
+returns-5 c = rw (c .block .ensures, c .before .waiting-for .ensures, c .before .before .later-time .ensures, c .before .before .before .time-of .ensures, eq-eqb _ _ (c .before .before .before .before .before .before .before .before .before .before .before .before .if1 .left), ← c .before .before .before .before .before .before .before .before .before .before .before .is-duration .ensures, c .before .before .before .before .before .before .before .before .before .before .if2 .left, le-ltb _ _ (c .before .before .before .before .before .before .before .before .if3 .left), ← c .before .before .before .before .before .before .before .is-number .ensures, c .before .before .before .before .before .before .if4 .left, c .before .before .before .before .process-at .ensures, c .before .before .before .before .before .caller-of .ensures)
 
 pub timed-wait-spec : {M : Type 1} → statement M
 timed-wait-spec =
@@ -27,13 +31,14 @@ timed-wait-spec =
     returns
     (λ _ _. tt)
     returns-2
-    (λ _ _. tt)
-    (λ _ _. tt)
     returns-3
     (λ _ _. tt)
     (λ _ _. tt)
+    returns-4
     (λ _ _. tt)
     (λ _ _. tt)
     (λ _ _. tt)
     (λ _ _. tt)
-    returns-4)
+    (λ _ _. tt)
+    (λ _ _. tt)
+    returns-5)

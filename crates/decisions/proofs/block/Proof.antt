@@ -1,11 +1,19 @@
-use mathlib.Core.Path.{refl}
-use Rattle.machine.specs.Decisions.{blocked}
+use borrow.Author.Tests.{lt-ltb, le-ltb}
+use Rattle.machine.specs.Decisions.{checked, blocked}
 use Rattle.decisions.proofs.block.Statement.{statement}
 use Rattle.decisions.proofs.block.Tie as tie
 
 returns : tie.Need-returns
-unfolding blocked
-returns c = refl
+unfolding checked blocked
+returns c = rw (lt-ltb _ _ (c .if1 .taken))
+
+returns-2 : tie.Need-returns-2
+unfolding checked blocked
+returns-2 c = rw (le-ltb _ _ (c .if1 .left))
 
 pub block-spec : {M : Type 1} → statement M
-block-spec = tie.close (tie.spec returns)
+block-spec =
+    tie.close
+    (tie.spec
+    returns
+    returns-2)

@@ -59,7 +59,8 @@ loop-again c =
     (⊎-elim (λ w. rw (w .5, w .1 .given .1) (sym (blackboard-out _ _ q (slot-out blackboardLimit (w .1 .given .0 .0) _ (w .3 .ensures) (w .4 .left)))))
     (⊎-elim (λ w. rw (w .5, w .1 .given .1, w .4 .ensures, members-of (w .3 .result) (waiters (w .1 .given .0 .0) q) (w .3 .ensures)))
     (⊎-elim (λ w. rw (w .5, w .1 .given .1, w .4 .ensures, members-of (w .3 .result) (waiters (w .1 .given .0 .0) q) (w .3 .ensures)))
-    (λ w. rw (w .4, w .1 .given .1) (w .3 .ensures)))))))))))))))) (c .match .came) in
+    (⊎-elim (λ w. rw (w .3, w .1 .given .1))
+    (λ w. rw (w .4, w .1 .given .1) (w .3 .ensures))))))))))))))))) (c .match .came) in
     (omega arith, left-more (l .n) (l .c) (c .before .before .before .args .b) q (c .match .q) _ (omega arith) same (l .inv .1))
 
 returns : tie.Need-returns Inv-loop μ-loop
@@ -122,6 +123,7 @@ change-spec =
     (λ c. search needs)
     (λ _ _. tt)
     (λ _ _. tt)
+    (λ c. search needs)
     (λ c. search needs)
     (λ _ _. tt)
     (λ c. omega arith)

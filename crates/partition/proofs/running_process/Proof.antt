@@ -4,7 +4,7 @@ use mathlib.Core.Logic.{⊎-elim}
 use native.Mathlib.Omega.{arith}
 use lib.ListN.{drop}
 use borrow.Author.Needs.{needs}
-use borrow.Author.Tests.{eq-eqb, ne-eqb}
+use borrow.Author.Tests.{eq-eqb, ne-eqb, lt-ltb, le-ltb}
 use Rattle.machine.specs.declared.Choice.{Choice}
 use Rattle.machine.specs.Ids.{members}
 use Rattle.machine.specs.Partition.{chosen, running}
@@ -23,6 +23,10 @@ returns : tie.Need-returns Inv-loop μ-loop
 unfolding running
 returns c = rw (ne-eqb _ _ (c .if1 .taken))
 
+returns-2 : tie.Need-returns-2 Inv-loop μ-loop
+unfolding running
+returns-2 c = rw (eq-eqb _ _ (c .before .if1 .left), lt-ltb _ _ (c .if2 .taken))
+
 loop-holds : tie.Need-loop-holds Inv-loop μ-loop
 loop-holds c = (omega arith, refl)
 
@@ -33,11 +37,11 @@ add-i : tie.Need-add-i Inv-loop μ-loop
 add-i c = omega (arith, c .before .before .before .before .before .before .before .before .count .ensures .1)
 
 loop-again : tie.Need-loop-again Inv-loop μ-loop
-loop-again c = let p = c .before .before .before .before .before .before .before .before .before .before .before .args .t1 in let x = ⊎-elim (λ w. read-in (c .before .before .before .before .wide .result) (c .before .before .before .slot .result) p (c .before .if2 .x) (c .before .before .before .slot .ensures) (w .0 .taken) (w .2)) (λ w. read-out (c .before .before .before .before .wide .result) (c .before .before .before .slot .result) p (c .before .if2 .x) (c .before .before .before .slot .ensures) (w .0 .left) (w .1 ∙ c .before .before .blank .ensures)) (c .before .if2 .came) in (omega arith, rw (c .or-later .ensures, x, c .before .before .before .before .wide .ensures) (sym (chosen-more (p .arrival) (c .before .before .before .before .before .before .before .loop .i) p (c .before .before .before .before .before .before .before .loop .best) (omega (arith, c .before .before .before .before .before .before .before .before .count .ensures .0))) ∙ c .before .before .before .before .before .before .before .loop .inv .1))
+loop-again c = let p = c .before .before .before .before .before .before .before .before .before .before .before .before .args .t1 in let x = ⊎-elim (λ w. read-in (c .before .before .before .before .wide .result) (c .before .before .before .slot .result) p (c .before .if3 .x) (c .before .before .before .slot .ensures) (w .0 .taken) (w .2)) (λ w. read-out (c .before .before .before .before .wide .result) (c .before .before .before .slot .result) p (c .before .if3 .x) (c .before .before .before .slot .ensures) (w .0 .left) (w .1 ∙ c .before .before .blank .ensures)) (c .before .if3 .came) in (omega arith, rw (c .or-later .ensures, x, c .before .before .before .before .wide .ensures) (sym (chosen-more (p .arrival) (c .before .before .before .before .before .before .before .loop .i) p (c .before .before .before .before .before .before .before .loop .best) (omega (arith, c .before .before .before .before .before .before .before .before .count .ensures .0))) ∙ c .before .before .before .before .before .before .before .loop .inv .1))
 
-returns-2 : tie.Need-returns-2 Inv-loop μ-loop
+returns-3 : tie.Need-returns-3 Inv-loop μ-loop
 unfolding running
-returns-2 c = let p = c .before .before .before .before .before .args .t1 in rw (eq-eqb _ _ (c .before .before .before .before .if1 .left)) (ap (λ (x : Choice). x .id) (sym (chosen-done (p .arrival) (c .before .loop .i) p (c .before .loop .best) (omega (arith, c .before .before .count .ensures .0))) ∙ c .before .loop .inv .1))
+returns-3 c = let p = c .before .before .before .before .before .before .args .t1 in rw (eq-eqb _ _ (c .before .before .before .before .before .if1 .left), le-ltb _ _ (c .before .before .before .before .if2 .left)) (ap (λ (x : Choice). x .id) (sym (chosen-done (p .arrival) (c .before .loop .i) p (c .before .loop .best) (omega (arith, c .before .before .count .ensures .0))) ∙ c .before .loop .inv .1))
 
 pub running-process-spec : {M : Type 1} → statement M
 running-process-spec =
@@ -46,6 +50,7 @@ running-process-spec =
     Inv-loop
     μ-loop
     returns
+    returns-2
     (λ c κs. search needs)
     loop-holds
     element-copy-out-id
@@ -58,4 +63,4 @@ running-process-spec =
     add-i
     (λ c. omega arith)
     loop-again
-    returns-2)
+    returns-3)

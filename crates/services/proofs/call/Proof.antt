@@ -134,8 +134,16 @@ unfolding checked callDecision services
 returns-32 c = rw (← c .before .before .before .before .has-no-caller .ensures, c .before .before .before .if1 .left, c .before .match .keys31, c .receive-channel .ensures)
 
 returns-33 : tie.Need-returns-33
+unfolding checked callDecision services
+returns-33 c = rw (← c .before .before .before .before .has-no-caller .ensures, c .before .before .before .if1 .left, c .before .match .keys32, c .lock-preemption .ensures)
+
+returns-34 : tie.Need-returns-34
+unfolding checked callDecision services
+returns-34 c = rw (← c .before .before .before .before .has-no-caller .ensures, c .before .before .before .if1 .left, c .before .match .keys33, c .unlock-preemption .ensures)
+
+returns-35 : tie.Need-returns-35
 unfolding checked callDecision NoneTo
-returns-33 c = rw (← c .before .before .before .has-no-caller .ensures, c .before .before .if1 .left, callDecision, none-left (c .before .before .before .before .args .n) (c .match .rest))
+returns-35 c = rw (← c .before .before .before .has-no-caller .ensures, c .before .before .if1 .left, callDecision, none-left (c .before .before .before .before .args .n) (c .match .rest))
 
 pub call-spec : {M : Type 1} → statement M
 call-spec =
@@ -143,6 +151,8 @@ call-spec =
     (tie.spec
     (λ c κs. search needs)
     returns
+    (λ c κs. search needs)
+    (λ c κs. search needs)
     (λ c κs. search needs)
     (λ c κs. search needs)
     (λ c κs. search needs)
@@ -206,4 +216,6 @@ call-spec =
     returns-30
     returns-31
     returns-32
-    returns-33)
+    returns-33
+    returns-34
+    returns-35)

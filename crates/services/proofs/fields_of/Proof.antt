@@ -128,8 +128,16 @@ unfolding services
 returns-31 c = rw (c .match .keys31)
 
 returns-32 : tie.Need-returns-32
+unfolding services
+returns-32 c = rw (c .match .keys32)
+
+returns-33 : tie.Need-returns-33
+unfolding services
+returns-33 c = rw (c .match .keys33)
+
+returns-34 : tie.Need-returns-34
 unfolding NoneTo
-returns-32 c = rw (none-left (c .before .args .n) (c .match .rest))
+returns-34 c = rw (none-left (c .before .args .n) (c .match .rest))
 
 pub fields-of-spec : {M : Type 1} → statement M
 fields-of-spec =
@@ -166,4 +174,6 @@ fields-of-spec =
     returns-29
     returns-30
     returns-31
-    returns-32)
+    returns-32
+    returns-33
+    returns-34)

@@ -1,7 +1,8 @@
-//! The bodies of calls 1 to 31 ("Calls" of document 01; 23 to 31 of document
-//! 02, a and b). Checks run in the order written.
+//! The bodies of calls 1 to 33 ("Calls" of document 01; 23 to 33 of document
+//! 02, a, b and e). Checks run in the order written.
 
 mod channel;
+mod lock;
 mod message;
 mod passing;
 mod process;
@@ -20,6 +21,9 @@ pub const PRIORITIES: RangeInclusive<i64> = 1..=239;
 pub const MOST_VALUE: i64 = 32_767;
 /// How many messages a buffer may hold.
 pub const LIMITS: RangeInclusive<i64> = 1..=16;
+
+/// The calls that can give 7.
+pub const WAITING: [i64; 10] = [8, 9, 10, 15, 20, 24, 25, 28, 30, 31];
 
 /// What a body with shared checks answers; `Err` is a refusal by one of them.
 type Checked = Result<Outcome, Outcome>;
@@ -85,11 +89,14 @@ impl Partition {
         Ok(())
     }
 
-    /// What a call does that finds nothing. 2: a = 0. Else queued last,
-    /// w = t + a or -1, code 7.
+    /// What a call does that finds nothing. 2: a = 0. 5: locked. Else queued
+    /// last, w = t + a or -1, code 7.
     fn wait_in_queue(&mut self, id: Id, wait: Wait, t: i64, a: i64) -> Checked {
         if a == 0 {
             return Err(refuse(2));
+        }
+        if self.locked() {
+            return Err(refuse(5));
         }
         self.change(id, |process| {
             process.wait = wait;
@@ -154,6 +161,8 @@ impl Module {
             11 => partition.resume(caller, a),
             12 => partition.set_priority(a, b),
             13 => partition.get_process_status(caller, a),
+            32 => partition.lock_preemption(caller),
+            33 => partition.unlock_preemption(caller),
             _ => outcome(partition.object_body(caller, t, event)),
         }
     }

@@ -1,11 +1,14 @@
-//! Counts what made-up inputs reach: answers, waits, reasons, corners.
+//! Counts what made-up inputs reach: answers, waits, reasons, corners, locks.
 
+mod locks;
 mod messages;
 mod queuing;
 mod releases;
 
+pub use locks::{LOCKED, LOCKS};
 pub use releases::{RELEASES, STARTS};
 
+use crate::calls::WAITING;
 use crate::events::Events;
 use crate::generate;
 use crate::line::LENGTH;
@@ -14,7 +17,7 @@ use crate::record::{Channel, Mode, Module, Partition, Process, QueueId, Wait};
 use crate::replay::{read_table, Lines};
 use std::io::{self, Write};
 
-const CALLS: usize = 32;
+const CALLS: usize = 34;
 const CODES: usize = 14;
 
 /// The codes that the documents allow for a tick (0) and for each call, but
@@ -52,6 +55,8 @@ pub const ALLOWED: [&[usize]; CALLS] = [
     &[0, 3, 8, 9, 13],
     &[0, 2, 3, 5, 7, 8, 9, 13],
     &[0, 2, 3, 5, 7, 8, 9, 13],
+    &[0, 1, 4, 8, 9, 13],
+    &[0, 1, 8, 9, 13],
 ];
 
 const NAMES: [&str; CALLS] = [
@@ -87,6 +92,8 @@ const NAMES: [&str; CALLS] = [
     "CLEAR",
     "SEND",
     "RECEIVE",
+    "LOCK_PREEMPTION",
+    "UNLOCK_PREEMPTION",
 ];
 
 /// The kinds of wait, and the suspended mark of a process without wait.
@@ -155,7 +162,7 @@ pub const REASONS: [&str; 11] = [
     "partition below 0",
     "partition above P",
     "call below 0",
-    "call above 31",
+    "call above 33",
     "partition 0 with a call",
     "a partition with call 0",
     "unused a not 0",
@@ -290,6 +297,9 @@ pub struct Coverage {
     pub corners: [u64; CORNERS.len()],
     /// By the way to start.
     pub releases: [[u64; RELEASES.len()]; STARTS.len()],
+    /// What calls that can wait got from the holder of a lock.
+    pub locked: [[u64; LOCKED.len()]; WAITING.len()],
+    pub locks: [u64; LOCKS.len()],
     pub shapes: [u64; SHAPES.len()],
     pub tables: [u64; TABLES.len()],
     pub events: u64,
@@ -303,6 +313,8 @@ impl Coverage {
             reasons: [0; REASONS.len()],
             corners: [0; CORNERS.len()],
             releases: [[0; RELEASES.len()]; STARTS.len()],
+            locked: [[0; LOCKED.len()]; WAITING.len()],
+            locks: [0; LOCKS.len()],
             shapes: [0; SHAPES.len()],
             tables: [0; TABLES.len()],
             events: 0,
@@ -319,11 +331,20 @@ impl Coverage {
         coverage
     }
 
-    /// The same for the events that mostly start and stop.
+    /// The same for the events that mostly start and stop, without tables.
     pub fn of_starts(from: u64, to: u64, count: u64) -> Coverage {
+        Coverage::of_events(from, to, count, |seed| Events::of_starts(seed).1)
+    }
+
+    /// The same for the events that mostly lock.
+    pub fn of_locks(from: u64, to: u64, count: u64) -> Coverage {
+        Coverage::of_events(from, to, count, |seed| Events::of_locks(seed).1)
+    }
+
+    fn of_events(from: u64, to: u64, count: u64, events: fn(u64) -> Events) -> Coverage {
         let mut coverage = Coverage::new();
         for seed in from..=to {
-            coverage.take_events(Events::of_starts(seed).1, count);
+            coverage.take_events(events(seed), count);
         }
         coverage
     }
@@ -353,6 +374,7 @@ impl Coverage {
             self.take_partition(event, old, new);
         }
         self.take_corners(before, event, answer, after);
+        self.take_locks(before, event, answer, after);
     }
 
     fn take_partition(&mut self, event: &Event, old: &Partition, new: &Partition) {
@@ -445,7 +467,7 @@ impl Coverage {
                 self.take_read_corners(channel, after.t());
             }
             23..=29 => self.take_message_corners(event, answer, old, new),
-            30.. => self.take_queuing_corners(event, answer, before, after),
+            30 | 31 => self.take_queuing_corners(event, answer, before, after),
             _ => self.take_call_corners(event, old),
         }
         self.take_running_corners(answer, old, new);
@@ -589,6 +611,8 @@ impl Coverage {
         print_list(out, "reasons for 13", &REASONS, &self.reasons)?;
         print_list(out, "corners", &CORNERS, &self.corners)?;
         self.print_releases(out)?;
+        self.print_locked(out)?;
+        print_list(out, "locks", &LOCKS, &self.locks)?;
         print_list(out, "channels", &SHAPES, &self.shapes)?;
         print_list(out, "tables", &TABLES, &self.tables)?;
         print_pairs(out, "allowed and not reached", &self.missing())?;
@@ -607,6 +631,16 @@ impl Coverage {
             out,
             "releases: possible and not reached",
             &self.missing_releases(),
+        )?;
+        print_named(
+            out,
+            "locks: possible and not reached",
+            &self.missing_locks(),
+        )?;
+        print_named(
+            out,
+            "locks: reached and not possible",
+            &self.unforeseen_locks(),
         )
     }
 
@@ -684,7 +718,7 @@ fn reason(module: &Module, event: &Event) -> usize {
         (event.partition < 0, "partition below 0"),
         (event.partition > partitions, "partition above P"),
         (event.call < 0, "call below 0"),
-        (event.call > LAST_CALL, "call above 31"),
+        (event.call > LAST_CALL, "call above 33"),
         (
             event.partition == 0 && event.call != 0,
             "partition 0 with a call",

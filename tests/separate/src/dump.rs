@@ -91,13 +91,16 @@ fn dump_messages(queue: &MessageQueue, out: &mut impl Write) -> io::Result<()> {
 fn dump_partition(partition: &Partition, k: usize, out: &mut impl Write) -> io::Result<()> {
     writeln!(
         out,
-        "partition {k} mode {} processes {} semaphores {} events {} buffers {} blackboards {}",
+        "partition {k} mode {} processes {} semaphores {} events {} buffers {} blackboards {} \
+         level {} holder {}",
         partition.mode.number(),
         partition.processes.len(),
         partition.semaphores.len(),
         partition.events.len(),
         partition.buffers.len(),
-        partition.blackboards.len()
+        partition.blackboards.len(),
+        partition.lock.level,
+        partition.lock.holder
     )?;
     for (process, id) in partition.processes.iter().zip(1..) {
         dump_process(process, id, out)?;

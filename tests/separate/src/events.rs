@@ -1,11 +1,11 @@
 //! Events chosen by looking at the record, so that calls of the current
 //! partition, known ids and the edges of every rule come up.
 
-use crate::calls::{LIMITS, MOST_TIME};
+use crate::calls::{LIMITS, MOST_TIME, WAITING};
 use crate::line::{self, Line};
 use crate::machine::{Answer, Event, LAST_CALL, USED};
 use crate::record::{Blackboard, Buffer, Channel, EventFlag, Id, Mode, Module, Process};
-use crate::record::{MessageQueue, Semaphore};
+use crate::record::{MessageQueue, Semaphore, Wait, LEVELS};
 use crate::replay::Lines;
 use crate::rng::Rng;
 use crate::tables;
@@ -17,8 +17,8 @@ const FAR: i64 = line::GREATEST;
 pub struct Events {
     pub module: Module,
     pub(crate) rng: Rng,
-    /// Ticks still to come before the next choice.
-    burst: usize,
+    /// An event that comes so many times more before the next choice.
+    burst: (Event, usize),
     mostly: Mostly,
 }
 
@@ -32,6 +32,8 @@ enum Mostly {
     Queuing,
     /// Starts and stops periodic processes.
     Starting,
+    /// Locks preemption, and calls with and without the lock.
+    Locking,
 }
 
 /// Tells of a message queue and of how many wait to send and to receive.
@@ -43,13 +45,13 @@ type Weights = [usize; USED.len()];
 /// How often each call is made by a partition's main program: tick, 1, 2, ...
 const START_WEIGHTS: Weights = [
     8, 5, 26, 13, 11, 2, 1, 4, 1, 1, 1, 4, 3, 3, 11, 1, 4, 10, 2, 2, 1, 4, 4, 12, 1, 1, 10, 4, 1,
-    2, 1, 1,
+    2, 1, 1, 1, 1,
 ];
 
 /// How often each call is made by a running process.
 const NORMAL_WEIGHTS: Weights = [
     24, 1, 2, 8, 7, 3, 1, 6, 4, 6, 4, 8, 6, 6, 2, 11, 8, 2, 5, 5, 8, 7, 7, 2, 14, 11, 2, 6, 9, 5,
-    1, 1,
+    1, 1, 3, 1,
 ];
 
 impl Events {
@@ -64,11 +66,26 @@ impl Events {
     /// The same where partitions have several windows and mostly start and
     /// stop periodic processes.
     pub fn of_starts(seed: u64) -> (Vec<line::Six>, Events) {
+        Events::mostly(seed, tables::several_windows, Mostly::Starting)
+    }
+
+    /// The same where few partitions, most of them with channels, lock
+    /// preemption again and again.
+    pub fn of_locks(seed: u64) -> (Vec<line::Six>, Events) {
+        Events::mostly(seed, tables::close_partitions, Mostly::Locking)
+    }
+
+    /// A table of this sort and events that mostly do this.
+    fn mostly(
+        seed: u64,
+        table: fn(&mut Rng) -> Vec<line::Six>,
+        mostly: Mostly,
+    ) -> (Vec<line::Six>, Events) {
         let mut rng = Rng::new(seed);
-        let numbers = tables::several_windows(&mut rng);
+        let numbers = table(&mut rng);
         let module = tables::module(&numbers).expect("an accepted table");
         let mut events = Events::of(module, rng);
-        events.mostly = Mostly::Starting;
+        events.mostly = mostly;
         (numbers, events)
     }
 
@@ -83,7 +100,7 @@ impl Events {
         Events {
             module,
             rng,
-            burst: 0,
+            burst: (Event::TICK, 0),
             mostly,
         }
     }
@@ -107,9 +124,9 @@ impl Events {
 
     /// Chooses an event and leaves the module as it is.
     pub fn choose(&mut self) -> Event {
-        if self.burst > 0 {
-            self.burst -= 1;
-            return Event::TICK;
+        if self.burst.1 > 0 {
+            self.burst.1 -= 1;
+            return self.burst.0;
         }
         if self.rng.percent(3) {
             return self.malformed();
@@ -136,13 +153,15 @@ impl Events {
         };
         match self.rng.weighted(&weights) {
             0 => self.ticks(),
+            32 => self.locks(own),
+            33 => self.unlocks(own),
             call => self.call(own, call as i64),
         }
     }
 
     /// A periodic caller mostly works for a while and waits for its release.
     /// One that waits in a queue is suspended more often, and a suspended one
-    /// stopped or erased.
+    /// that waits stopped or erased.
     fn normal_weights(&self, own: Id) -> Weights {
         let partition = self.module.partition(own);
         let mut weights = NORMAL_WEIGHTS;
@@ -166,8 +185,35 @@ impl Events {
             }
             Mostly::Queuing => self.weigh_channels(own, &mut weights),
             Mostly::Starting => weigh_starts(&mut weights),
+            Mostly::Locking => self.weigh_locking(own, &mut weights),
+        }
+        if partition.locked() {
+            // One call in seven or so.
+            weights[33] = weights.iter().sum::<usize>() / 6;
         }
         weights
+    }
+
+    /// Who holds no lock often takes one; who holds one makes the calls that
+    /// can wait, and ends it in other ways than by unlocking too.
+    fn weigh_locking(&self, own: Id, weights: &mut Weights) {
+        if self.module.channels.iter().any(|it| it.queue().is_some()) {
+            self.weigh_channels(own, weights);
+            weights[1] += 8 * self.awaiting(own);
+        }
+        if !self.module.partition(own).locked() {
+            weights[32] = 25;
+            return;
+        }
+        for call in WAITING {
+            weights[call as usize] *= 2;
+        }
+        for call in [3, 4, 11, 16, 18, 27] {
+            weights[call] *= 2;
+        }
+        weights[1] += 3;
+        weights[6] = 3;
+        weights[32] = 10;
     }
 
     /// Who is at an end of queuing channels mostly sends and receives, where
@@ -191,7 +237,7 @@ impl Events {
                 weights[31] = 50;
             }
         }
-        weights[1] += usize::from(self.channels_wait(own)) + 4 * self.awaiting(own);
+        weights[1] += usize::from(self.channels_wait(own)) + 4 * self.awaiting(own).pow(2);
     }
 
     /// On how many channels somebody waits to send to the partition.
@@ -227,11 +273,14 @@ impl Events {
             weights[2] *= 2;
             weights[3] *= 2;
         }
+        let processes = &self.module.partition(own).processes;
+        let few = processes.iter().filter(|it| it.started).count() < 5;
+        if self.mostly == Mostly::Locking {
+            weights[1] = if few { 1 } else { 15 };
+        }
         if self.mostly == Mostly::Queuing {
-            let processes = &self.module.partition(own).processes;
-            let few = processes.iter().filter(|it| it.started).count() < 5;
             weights[1] = if few { 1 } else { 25 };
-            weights[1] += 6 * self.awaiting(own);
+            weights[1] += 6 * self.awaiting(own).pow(2);
             weights[0] /= 4;
             for weight in &mut weights[14..] {
                 *weight = weight.div_ceil(4);
@@ -248,12 +297,39 @@ impl Events {
     /// A tick, often with more behind it, now and then up to the next frame.
     fn ticks(&mut self) -> Event {
         let rest = (self.module.frame - self.module.t % self.module.frame) as usize;
-        self.burst = match self.rng.below(20) {
+        let more = match self.rng.below(20) {
             0..=10 => 0,
             11..=17 => self.rng.below(6),
             _ => rest.min(40),
         };
+        self.burst = (Event::TICK, more);
         Event::TICK
+    }
+
+    /// LOCK_PREEMPTION, often once or twice more, now and then until it is
+    /// refused.
+    fn locks(&mut self, own: Id) -> Event {
+        let up = LEVELS - self.module.partition(own).lock.level;
+        let more = match self.rng.below(20) {
+            0 => up as usize,
+            1..=4 => 1 + self.rng.below(2),
+            _ => 0,
+        };
+        let event = self.call(own, 32);
+        self.burst = (event, more);
+        event
+    }
+
+    /// UNLOCK_PREEMPTION, once or down to level 0.
+    fn unlocks(&mut self, own: Id) -> Event {
+        let level = self.module.partition(own).lock.level;
+        let more = match self.rng.below(2) {
+            0 => 0,
+            _ => (level - 1).max(0) as usize,
+        };
+        let event = self.call(own, 33);
+        self.burst = (event, more);
+        event
     }
 
     fn call_by_other(&mut self, own: Id) -> Event {
@@ -376,7 +452,7 @@ impl Events {
             20 => [self.event_to_wait(own), self.time_out(own), 0, 0],
             21 => [self.source_channel(own), self.message(), 0, 0],
             22 => [self.destination_channel(own), 0, 0, 0],
-            23.. => self.message_fields(own, call),
+            23..=31 => self.message_fields(own, call),
             _ => [0; 4],
         }
     }
@@ -412,14 +488,15 @@ impl Events {
     }
 
     /// Mostly NORMAL once a process is started; restarts and IDLE are rare,
-    /// less so where a suspended process waits in a queue, or where a restart
-    /// tells on a queuing channel.
+    /// less so where a suspended process waits, where a restart tells on a
+    /// queuing channel, or where it ends a lock.
     fn mode(&mut self, own: Id) -> i64 {
         let partition = self.module.partition(own);
         let started = partition.processes.iter().any(|process| process.started);
         let waits = partition.processes.iter().any(suspended_waiter) || self.channels_wait(own);
         let weights = match partition.mode {
             // 0, 1, 2, 3, out of range
+            Mode::Normal if partition.locked() => [6, 20, 24, 25, 25],
             Mode::Normal if waits || self.mostly == Mostly::Starting => [1, 25, 35, 20, 19],
             Mode::Normal => [1, 8, 10, 50, 31],
             _ if self.awaiting(own) > 0 => [3, 20, 25, 40, 12],
@@ -562,7 +639,7 @@ impl Events {
         self.message()
     }
 
-    /// A process to stop: often one that waits in a queue.
+    /// A process to stop: often one that waits in a queue or is suspended.
     fn process_to_stop(&mut self, own: Id) -> i64 {
         match self.rng.below(4) {
             0 => self.process(own, |process| process.wait.queued()),
@@ -819,5 +896,5 @@ fn may_suspend_waiter(process: &Process) -> bool {
 }
 
 fn suspended_waiter(process: &Process) -> bool {
-    process.wait.queued() && process.suspended
+    process.wait != Wait::None && process.suspended
 }

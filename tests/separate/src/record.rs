@@ -1,5 +1,5 @@
-//! The module record ("Module record" of document 01; buffers, blackboards and
-//! queuing channels of document 02, a and b).
+//! The module record ("Module record" of document 01; buffers, blackboards,
+//! queuing channels and the preemption lock of document 02, a, b and e).
 
 use std::collections::VecDeque;
 
@@ -11,6 +11,8 @@ pub const SEMAPHORES: usize = 8;
 pub const EVENTS: usize = 8;
 pub const BUFFERS: usize = 8;
 pub const BLACKBOARDS: usize = 8;
+/// The greatest level of a preemption lock.
+pub const LEVELS: i64 = 16;
 
 /// Time ends here.
 pub const LAST_TIME: i64 = 99_999_999;
@@ -202,6 +204,21 @@ pub struct Blackboard {
     pub queue: VecDeque<Id>,
 }
 
+/// A partition's preemption lock: its level, and the process that raised it
+/// from 0. The holder is 0 while the level is.
+#[derive(Clone, Copy, Debug, PartialEq, Eq)]
+pub struct Lock {
+    pub level: i64,
+    pub holder: Id,
+}
+
+impl Lock {
+    pub const OPEN: Lock = Lock {
+        level: 0,
+        holder: 0,
+    };
+}
+
 #[derive(Clone, Debug, PartialEq, Eq)]
 pub struct Partition {
     pub mode: Mode,
@@ -215,10 +232,11 @@ pub struct Partition {
     pub ports: Vec<VecDeque<Id>>,
     /// The READY processes in order of arrival.
     pub arrival: VecDeque<Id>,
+    pub lock: Lock,
 }
 
 impl Partition {
-    /// Fresh: COLD_START with nothing created.
+    /// Fresh: COLD_START with nothing created and no lock.
     pub fn fresh(channels: usize) -> Partition {
         Partition {
             mode: Mode::ColdStart,
@@ -229,7 +247,13 @@ impl Partition {
             blackboards: Vec::with_capacity(BLACKBOARDS),
             ports: vec![VecDeque::new(); channels],
             arrival: VecDeque::with_capacity(PROCESSES),
+            lock: Lock::OPEN,
         }
+    }
+
+    /// True while the level of the preemption lock is above 0.
+    pub fn locked(&self) -> bool {
+        self.lock.level > 0
     }
 
     pub fn process(&self, id: Id) -> &Process {
@@ -338,11 +362,15 @@ impl Partition {
         self.end_wait_by_signal(id);
     }
 
-    /// The READY process of greatest current priority, first in the arrival
-    /// list among equals; 0 if there is none or the mode is not NORMAL.
+    /// In NORMAL the holder of the lock; where there is none, the READY process
+    /// of greatest current priority, first in the arrival list among equals; 0
+    /// if there is none or the mode is not NORMAL.
     pub fn running(&self) -> Id {
         if self.mode != Mode::Normal {
             return 0;
+        }
+        if self.locked() {
+            return self.lock.holder;
         }
         let mut running = 0;
         let mut greatest = i64::MIN;
@@ -356,7 +384,7 @@ impl Partition {
     }
 
     /// Erases what modes 0, 1 and 2 erase inside the partition, those who wait
-    /// at its ends of channels too.
+    /// at its ends of channels too, and opens its lock.
     pub fn erase(&mut self) {
         self.processes.clear();
         self.semaphores.clear();
@@ -365,6 +393,7 @@ impl Partition {
         self.blackboards.clear();
         self.ports.iter_mut().for_each(VecDeque::clear);
         self.arrival.clear();
+        self.lock = Lock::OPEN;
     }
 }
 

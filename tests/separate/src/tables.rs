@@ -30,11 +30,29 @@ pub fn accepted(rng: &mut Rng) -> Vec<Six> {
 /// An accepted table without channels in which partitions have several
 /// windows, with and without flag 1.
 pub fn several_windows(rng: &mut Rng) -> Vec<Six> {
-    let partitions = rng.range(1, 3);
-    let windows = partitions * rng.range(2, 5);
+    let (partitions, windows) = (rng.range(1, 3), rng.range(2, 5));
+    few_partitions(rng, partitions, windows, 0)
+}
+
+/// An accepted table of few partitions, each soon current again, most of them
+/// with channels.
+pub fn close_partitions(rng: &mut Rng) -> Vec<Six> {
+    let (partitions, windows) = (rng.pick(&[1, 2, 2, 3, 3, 3]), rng.range(1, 3));
+    let channels = match partitions {
+        1 => 0,
+        _ => rng.pick(&[0, 1, 2, 4, 6, 8]),
+    };
+    few_partitions(rng, partitions, windows, channels)
+}
+
+/// Partitions with so many windows each in the mean, a short major frame, and
+/// channels.
+fn few_partitions(rng: &mut Rng, partitions: i64, windows: i64, channels: i64) -> Vec<Six> {
+    let windows = partitions * windows;
     let frame = windows + rng.range(0, 20);
-    let mut lines = vec![[frame, partitions, windows, 0, 0, 0]];
+    let mut lines = vec![[frame, partitions, windows, channels, 0, 0]];
     lines.extend(window_lines(rng, frame, partitions, windows));
+    lines.extend(channel_lines(rng, frame, partitions, channels));
     lines
 }
 

@@ -24,11 +24,11 @@ window 3 start 7 duration 1 partition 3 flag 1
 channel 1 source 1 destination 2 refresh 5 message -1 written -1
 channel 2 source 2 destination 1 refresh 5 message -1 written -1
 channel 3 source 2 destination 3 refresh 5 message -1 written -1
-partition 1 mode 1 processes 0 semaphores 0 events 0 buffers 0 blackboards 0
+partition 1 mode 1 processes 0 semaphores 0 events 0 buffers 0 blackboards 0 level 0 holder 0
 arrival
-partition 2 mode 1 processes 0 semaphores 0 events 0 buffers 0 blackboards 0
+partition 2 mode 1 processes 0 semaphores 0 events 0 buffers 0 blackboards 0 level 0 holder 0
 arrival
-partition 3 mode 1 processes 0 semaphores 0 events 0 buffers 0 blackboards 0
+partition 3 mode 1 processes 0 semaphores 0 events 0 buffers 0 blackboards 0 level 0 holder 0
 arrival
 ";
     assert_eq!(dump::text(&World::new(&CHANNELS).module), expected);
@@ -46,11 +46,11 @@ fn the_worked_example_at_t_6() {
 module t 6 current 2 running 0 frame 10 partitions 2 windows 2 channels 0
 window 1 start 0 duration 6 partition 1 flag 1
 window 2 start 6 duration 4 partition 2 flag 1
-partition 1 mode 3 processes 1 semaphores 0 events 0 buffers 0 blackboards 0
+partition 1 mode 3 processes 1 semaphores 0 events 0 buffers 0 blackboards 0 level 0 holder 0
 process 1 name 7 base 50 current 50 period -1 capacity 5 release -1 deadline -1 wake -1 delay 0 \
 suspended 0 missed 1 code 0 message 0 started 1 wait none
 arrival 1
-partition 2 mode 1 processes 0 semaphores 0 events 0 buffers 0 blackboards 0
+partition 2 mode 1 processes 0 semaphores 0 events 0 buffers 0 blackboards 0 level 0 holder 0
 arrival
 ";
     assert_eq!(dump::text(&world.module), expected);
@@ -82,7 +82,7 @@ fn every_kind_of_wait_has_its_word() {
     let expected = "\
 module t 0 current 1 running 1 frame 10 partitions 1 windows 1 channels 0
 window 1 start 0 duration 10 partition 1 flag 1
-partition 1 mode 3 processes 8 semaphores 2 events 2 buffers 0 blackboards 0
+partition 1 mode 3 processes 8 semaphores 2 events 2 buffers 0 blackboards 0 level 0 holder 0
 process 1 name 1 base 1 current 2 period -1 capacity -1 release -1 deadline -1 wake -1 delay 0 \
 suspended 0 missed 0 code 0 message 0 started 1 wait none
 process 2 name 2 base 9 current 9 period -1 capacity -1 release -1 deadline -1 wake -1 delay 0 \
@@ -139,7 +139,7 @@ fn buffers_and_blackboards_with_their_waiters_and_messages() {
     let expected = "\
 module t 0 current 1 running 1 frame 10 partitions 1 windows 1 channels 0
 window 1 start 0 duration 10 partition 1 flag 1
-partition 1 mode 3 processes 6 semaphores 1 events 1 buffers 2 blackboards 2
+partition 1 mode 3 processes 6 semaphores 1 events 1 buffers 2 blackboards 2 level 0 holder 0
 process 1 name 1 base 1 current 1 period -1 capacity -1 release -1 deadline -1 wake -1 delay 0 \
 suspended 0 missed 0 code 0 message 0 started 1 wait none
 process 2 name 2 base 9 current 9 period -1 capacity -1 release -1 deadline -1 wake 7 delay 0 \
@@ -216,7 +216,7 @@ channel 1 source 1 destination 2 refresh 9 limit 2 messages 0 9999999
 channel 2 source 2 destination 1 refresh 9 limit 8 messages
 channel 3 source 1 destination 2 refresh 9 message -1 written -1
 channel 4 source 1 destination 2 refresh 9 limit 1 messages
-partition 1 mode 3 processes 4 semaphores 0 events 0 buffers 0 blackboards 0
+partition 1 mode 3 processes 4 semaphores 0 events 0 buffers 0 blackboards 0 level 0 holder 0
 process 1 name 1 base 1 current 1 period -1 capacity -1 release -1 deadline -1 wake -1 delay 0 \
 suspended 0 missed 0 code 0 message 0 started 1 wait none
 process 2 name 2 base 9 current 9 period -1 capacity -1 release -1 deadline -1 wake 7 delay 0 \
@@ -229,7 +229,7 @@ arrival 1
 waiters sending channel 1 2 4
 waiters sending channel 4
 waiters receiving channel 2 3
-partition 2 mode 3 processes 1 semaphores 0 events 0 buffers 0 blackboards 0
+partition 2 mode 3 processes 1 semaphores 0 events 0 buffers 0 blackboards 0 level 0 holder 0
 process 1 name 1 base 5 current 5 period -1 capacity -1 release -1 deadline -1 wake 11 delay 0 \
 suspended 0 missed 0 code 0 message 0 started 1 wait receiving channel 4
 arrival
@@ -249,6 +249,31 @@ fn waiting_for_normal_and_two_in_the_arrival_list() {
     world.started(5);
     world.normal();
     assert!(dump::text(&world.module).contains("\narrival 1 2\n"));
+}
+
+#[test]
+fn a_lock_shows_its_level_and_its_holder() {
+    let mut world = World::one();
+    world.started(5);
+    world.started(9);
+    world.normal();
+    world.done(32, &[]);
+    world.done(12, &[1, 10]);
+    let partition =
+        "\npartition 1 mode 3 processes 2 semaphores 0 events 0 buffers 0 blackboards 0";
+    let locked = dump::text(&world.module);
+    assert!(locked.contains(&format!("{partition} level 1 holder 2\n")));
+    assert!(locked.starts_with("module t 0 current 1 running 2 "));
+    for _ in 1..16 {
+        world.done(32, &[]);
+    }
+    assert!(dump::text(&world.module).contains(&format!("{partition} level 16 holder 2\n")));
+    for _ in 0..16 {
+        world.done(33, &[]);
+    }
+    let open = dump::text(&world.module);
+    assert!(open.contains(&format!("{partition} level 0 holder 0\n")));
+    assert!(open.starts_with("module t 0 current 1 running 1 "));
 }
 
 #[test]

@@ -1,7 +1,9 @@
 //! The generator reaches what it is there to reach.
 
+use separate::calls::WAITING;
 use separate::coverage::WAITS;
 use separate::coverage::{Coverage, CHANGES, CORNERS, REASONS, RELEASES, SHAPES, STARTS, TABLES};
+use separate::coverage::{LOCKED, LOCKS};
 use separate::generate::{generate, Kind};
 use separate::line::{self, Line};
 use separate::replay::{final_record, read_table, replay, Lines};
@@ -120,11 +122,50 @@ fn a_run_of_nothing_names_every_release_as_missing() {
 }
 
 #[test]
+fn everything_that_can_happen_under_a_lock_is_reached() {
+    for coverage in [
+        Coverage::of_seeds(1, 200, 1000),
+        Coverage::of_locks(3401, 3460, 1000),
+    ] {
+        assert_eq!(coverage.missing_locks(), []);
+        assert_eq!(coverage.unforeseen_locks(), []);
+    }
+}
+
+#[test]
+fn where_partitions_mostly_lock_each_of_it_is_reached_several_times() {
+    let mut coverage = Coverage::of_locks(3401, 3460, 1000);
+    let of_locks = |&(call, _): &(usize, usize)| call >= 32 || WAITING.contains(&(call as i64));
+    assert_eq!(coverage.missing().into_iter().find(of_locks), None);
+    assert_eq!(coverage.unforeseen(), []);
+    assert_eq!(coverage.unforeseen_waits(), []);
+    let counts = coverage.locked.iter_mut().flatten();
+    for count in counts.chain(&mut coverage.locks) {
+        *count = count.saturating_sub(3);
+    }
+    assert_eq!(coverage.missing_locks(), []);
+}
+
+#[test]
+fn a_run_of_nothing_names_everything_under_a_lock_as_missing() {
+    let missing = Coverage::new().missing_locks();
+    // SUSPEND_SELF 4, TIMED_WAIT 3, PERIODIC_WAIT 2, calls for objects 4 each,
+    // calls for channels 5 each.
+    assert_eq!(missing.len(), 4 + 3 + 2 + 5 * 4 + 2 * 5 + LOCKS.len());
+    assert!(missing.contains(&("TIMED_WAIT", "5 by the lock, time 0")));
+    assert!(!missing.contains(&("TIMED_WAIT", "0")));
+    assert!(missing.contains(&("lock", "level 16")));
+    assert!(missing.iter().all(|&(_, way)| way != "7"));
+    assert!(LOCKED.contains(&"7"));
+}
+
+#[test]
 fn one_seed_gives_one_input() {
     for kind in [
         Kind::Table,
         Kind::Events,
         Kind::Releases,
+        Kind::Locks,
         Kind::Busy,
         Kind::Passing,
         Kind::Queuing,
@@ -138,7 +179,7 @@ fn one_seed_gives_one_input() {
 
 #[test]
 fn events_print_an_accepted_table_and_count_good_lines() {
-    let kinds = [Kind::Events, Kind::Releases];
+    let kinds = [Kind::Events, Kind::Releases, Kind::Locks];
     for (seed, kind) in (0..50).flat_map(|seed| kinds.map(|kind| (seed, kind))) {
         let bytes = input(seed, kind, 100);
         let mut lines = Lines::new(bytes.as_slice());

@@ -122,6 +122,22 @@ fn check_blackboard(partition: &Partition, id: usize) {
         .is_none_or(|message| (0..=9_999_999).contains(&message)));
 }
 
+/// A level above 0 is of a NORMAL partition and has a READY holder, which runs
+/// whenever the partition is current.
+fn check_lock(module: &Module, k: usize) {
+    let partition = module.partition(k);
+    let lock = partition.lock;
+    assert!((0..=16).contains(&lock.level));
+    assert_eq!(lock.level == 0, lock.holder == 0);
+    if lock.level > 0 {
+        assert_eq!(partition.mode, Mode::Normal);
+        assert!(partition.process(lock.holder).ready());
+        if module.current() == k {
+            assert_eq!(module.running(), lock.holder);
+        }
+    }
+}
+
 fn check_partition(partition: &Partition, t: i64) {
     for process in &partition.processes {
         check_process(process, partition.mode, t);
@@ -170,6 +186,9 @@ fn check(module: &Module) {
         check_all_queued(partition);
         assert_eq!(partition.ports.len(), module.channels().len());
     }
+    for k in 1..=module.partitions().len() {
+        check_lock(module, k);
+    }
     for n in 1..=module.channels().len() {
         check_channel(module, n);
     }
@@ -190,9 +209,13 @@ fn check(module: &Module) {
     );
 }
 
-/// Generated events, each with its answer and the records before and after it.
+/// Generated events of two kinds in turn, each with its answer and the records
+/// before and after it.
 fn run(seed: u64, count: usize, mut take: impl FnMut(&Event, &Answer, &Module, &Module)) {
-    let (_, mut events) = Events::with_table(seed);
+    let (_, mut events) = match seed % 4 {
+        0 => Events::of_locks(seed),
+        _ => Events::with_table(seed),
+    };
     let mut before = events.module.clone();
     for _ in 0..count {
         let (event, answer) = events.next_event();

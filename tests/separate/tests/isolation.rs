@@ -72,6 +72,8 @@ struct Done {
     messages: [usize; 2],
     /// Calls 30 and 31 among these, where not all events are common.
     queuing: [usize; 2],
+    /// Calls 32 and 33 likewise.
+    locks: [usize; 2],
 }
 
 fn is_accepted(answer: &Answer) -> bool {
@@ -83,23 +85,29 @@ impl Done {
     fn take(&mut self, event: &Event, set: &[bool]) {
         let place = usize::from(common(set, event));
         self.free[0] += 1 - place;
-        self.messages[place] += usize::from(event.call >= 23);
         let all = !set[1..].contains(&false);
-        self.queuing[place] += usize::from(event.call >= 30 && !all);
+        let (queuing, lock) = ((30..=31).contains(&event.call), event.call >= 32);
+        self.messages[place] += usize::from(event.call >= 23 && !lock);
+        self.queuing[place] += usize::from(queuing && !all);
+        self.locks[place] += usize::from(lock && !all);
     }
 }
 
+/// A table and events for its module.
+type Source = fn(u64) -> (Vec<Six>, Events);
+
 /// Runs both lists and adds up what they did.
-fn compare(seed: u64, count: usize, done: &mut Done) {
+fn compare(source: Source, seed: u64, count: usize, done: &mut Done) {
     let mut rng = Rng::new(seed);
-    let (numbers, mut left) = Events::with_table(seed);
+    let (numbers, mut left) = source(seed);
     let module = tables::module(&numbers).expect("an accepted table");
     let mut set = vec![false; module.partitions().len() + 1];
     set.iter_mut()
         .skip(1)
         .for_each(|inside| *inside = rng.percent(40));
     close(&module, &mut set);
-    let mut right = Events::of(module, Rng::new(!seed));
+    let mut right = source(!seed).1;
+    right.module = module;
     for _ in 0..count {
         let (event, answer) = left.next_event();
         if is_accepted(&answer) {
@@ -173,10 +181,21 @@ fn a_queuing_channel_with_one_end_in_the_set_lets_answers_differ() {
 fn common_events_get_the_same_answers_and_leave_the_same_records() {
     let mut done = Done::default();
     for seed in 0..1000 {
-        compare(seed, 900, &mut done);
+        compare(Events::with_table, seed, 900, &mut done);
     }
     // Both sides had many different free events that changed something.
     assert!(done.free.iter().all(|&free| free > 10_000));
     assert!(done.messages.iter().all(|&calls| calls > 5_000));
     assert!(done.queuing.iter().all(|&calls| calls > 2_000));
+    assert!(done.locks.iter().all(|&calls| calls > 2_000));
+}
+
+#[test]
+fn they_do_so_where_partitions_mostly_lock() {
+    let mut done = Done::default();
+    for seed in 0..500 {
+        compare(Events::of_locks, seed, 900, &mut done);
+    }
+    assert!(done.locks.iter().all(|&calls| calls > 2_000));
+    assert!(done.free.iter().all(|&free| free > 5_000));
 }

@@ -264,7 +264,7 @@ fn dump_prints_the_record_at_the_end() {
     let expected = "\
 module t 3 current 1 running 0 frame 10 partitions 1 windows 1 channels 0
 window 1 start 0 duration 10 partition 1 flag 1
-partition 1 mode 1 processes 0 semaphores 0 events 0 buffers 0 blackboards 0
+partition 1 mode 1 processes 0 semaphores 0 events 0 buffers 0 blackboards 0 level 0 holder 0
 arrival
 ";
     assert_eq!(String::from_utf8(output.stdout).expect("ASCII"), expected);
@@ -275,6 +275,7 @@ arrival
 fn generate_prints_what_the_library_makes() {
     for (name, kind) in [
         ("events", Kind::Events),
+        ("locks", Kind::Locks),
         ("damaged", Kind::Damaged),
         ("passing", Kind::Passing),
         ("queuing", Kind::Queuing),
@@ -318,4 +319,7 @@ fn coverage_names_what_was_not_reached() {
     assert!(printed.contains("  sending channel: by restart\n"));
     assert!(printed.contains("  source's restart with receivers waiting: 0\n"));
     assert!(printed.contains("  START: more: in this frame, at a later flagged start\n"));
+    assert!(printed.contains("  call 32 LOCK_PREEMPTION code 4\n"));
+    assert!(printed.contains("  PERIODIC_WAIT: 5 by the lock\n"));
+    assert!(printed.contains("  lock: ended by mode 2\n"));
 }

@@ -1,5 +1,5 @@
 //! coverage FROM TO COUNT [KIND]: what the generator reaches over seeds FROM to
-//! TO with COUNT events each, of the kind events or releases.
+//! TO with COUNT events each, of the kind events, releases or locks.
 
 use separate::coverage::Coverage;
 use std::io;
@@ -12,6 +12,7 @@ fn main() -> ExitCode {
         [] => Coverage::of_seeds,
         [kind] if kind == "events" => Coverage::of_seeds,
         [kind] if kind == "releases" => Coverage::of_starts,
+        [kind] if kind == "locks" => Coverage::of_locks,
         _ => return usage(),
     };
     let numbers = numbers.iter().map(|number| number.parse().ok());
@@ -26,6 +27,6 @@ fn main() -> ExitCode {
 }
 
 fn usage() -> ExitCode {
-    eprintln!("coverage FROM TO COUNT [events|releases]");
+    eprintln!("coverage FROM TO COUNT [events|releases|locks]");
     ExitCode::FAILURE
 }

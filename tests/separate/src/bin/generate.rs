@@ -20,6 +20,6 @@ fn main() -> ExitCode {
 }
 
 fn usage() -> ExitCode {
-    eprintln!("generate SEED table|events|releases|busy|passing|queuing|ticks|damaged COUNT");
+    eprintln!("generate SEED table|events|releases|locks|busy|passing|queuing|ticks|damaged COUNT");
     ExitCode::FAILURE
 }

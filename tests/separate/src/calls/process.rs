@@ -2,7 +2,7 @@
 
 use super::{after, in_t, refuse, D, MOST_TIME, PRIORITIES};
 use crate::machine::{Caller, Outcome};
-use crate::record::{Id, Partition, Process, Wait, PROCESSES};
+use crate::record::{Id, Lock, Partition, Process, Wait, PROCESSES};
 
 impl Partition {
     /// 2 CREATE_PROCESS name, priority, period, capacity.
@@ -50,12 +50,13 @@ impl Partition {
         Outcome::DONE
     }
 
-    /// 6 STOP_SELF.
+    /// 6 STOP_SELF. It opens the lock.
     pub(super) fn stop_self(&mut self, caller: Caller) -> Outcome {
         let Caller::Process(id) = caller else {
             return refuse(5);
         };
         self.make_dormant(id);
+        self.lock = Lock::OPEN;
         Outcome::DONE
     }
 
@@ -83,7 +84,7 @@ impl Partition {
         Outcome::DONE
     }
 
-    /// 8 SUSPEND_SELF a.
+    /// 8 SUSPEND_SELF a. 5, last: locked.
     pub(super) fn suspend_self(&mut self, caller: Caller, t: i64, a: i64) -> Outcome {
         let Caller::Process(id) = caller else {
             return refuse(5);
@@ -93,6 +94,9 @@ impl Partition {
         }
         if !in_t(a) {
             return refuse(3);
+        }
+        if self.locked() {
+            return refuse(5);
         }
         if a == 0 {
             return Outcome::DONE;
@@ -104,13 +108,16 @@ impl Partition {
         Outcome::WAITING
     }
 
-    /// 9 TIMED_WAIT a.
+    /// 9 TIMED_WAIT a. 5, last: locked.
     pub(super) fn timed_wait(&mut self, caller: Caller, t: i64, a: i64) -> Outcome {
         let Caller::Process(id) = caller else {
             return refuse(5);
         };
         if !D.contains(&a) {
             return refuse(3);
+        }
+        if self.locked() {
+            return refuse(5);
         }
         if a == 0 {
             self.move_to_end(id);
@@ -123,7 +130,7 @@ impl Partition {
         Outcome::WAITING
     }
 
-    /// 10 PERIODIC_WAIT.
+    /// 10 PERIODIC_WAIT. 5, last: locked.
     pub(super) fn periodic_wait(&mut self, caller: Caller) -> Outcome {
         let Caller::Process(id) = caller else {
             return refuse(5);
@@ -131,6 +138,9 @@ impl Partition {
         let Some(period) = self.process(id).period else {
             return refuse(5);
         };
+        if self.locked() {
+            return refuse(5);
+        }
         self.change(id, |process| {
             // A started periodic process has a release.
             let release = process.release.unwrap_or(-1) + period;

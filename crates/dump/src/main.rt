@@ -229,6 +229,12 @@ fn print_items(p: Partition, item: Item, n: u8) {
     }
 }
 
+// The preemption lock.
+fn print_lock(level: u8, holder: u8) {
+    print_number(b" level ", level as u32);
+    print_number(b" holder ", holder as u32);
+}
+
 fn print_partition(k: u32, p: Partition) {
     let arrival = p.arrival;
     print_number(b"partition ", k);
@@ -238,6 +244,7 @@ fn print_partition(k: u32, p: Partition) {
     print_number(b" events ", p.eventCount as u32);
     print_number(b" buffers ", p.bufferCount as u32);
     print_number(b" blackboards ", p.blackboardCount as u32);
+    print_lock(p.level, p.holder);
     print(b"\n");
     print_items(p, Item::Process, p.processCount);
     print_items(p, Item::Semaphore, p.semaphoreCount);

@@ -128,10 +128,7 @@ suspendSelf c a p =
 unfoldable pub timedWait : Context → Field → Partition → Decision
 timedWait c a p =
     checked Refused
-    ((startMode p, 5)
-    ∷ (not (isDuration a), 3)
-    ∷ (locked (p .level), 5)
-    ∷ [])
+    ((startMode p, 5) ∷ (not (isDuration a), 3) ∷ (locked (p .level), 5) ∷ [])
     (cond (isNumber 0 a)
     (changed (Last (c .caller)))
     (blocked (p .level) (c .caller) (waitingFor Timed (later (At (c .time)) (timeOf a)) (process (c .caller) p))))

@@ -1,4 +1,4 @@
--- The worked example of document 01 and its continuation, and one of document 02: what is put in and what is printed, in columns.
+-- The worked example of document 01 and its continuation, and two of document 02: what is put in and what is printed, in columns.
 use Prim.Native.Nat.{ℕ}
 use Prim.Native.String.{String}
 use Prim.Native.Char.{code}
@@ -100,3 +100,40 @@ releasedInSecond =
     "         0         2         9         5         1         2" ∷
     "         7         0         0         5         1         1" ∷
     "         0         3        19         5         1         1" ∷ []
+
+-- ---------------------------------------------------------------- the preemption lock (document 02, e)
+-- one partition, one window
+unfoldable pub oneWindow : List String
+oneWindow =
+    "        10         1         1         0         0         0" ∷
+    "         0        10         1         1         0         0" ∷ []
+
+-- process 1 locks preemption and starts process 2, of greater priority; the status of 2, TIMED_WAIT 0 of 1, a tick, UNLOCK_PREEMPTION twice
+unfoldable pub lockedUpdate : List String
+lockedUpdate =
+    "         1         2         7        10        -1        -1" ∷
+    "         1         2         8        90        -1        -1" ∷
+    "         1         3         1         0         0         0" ∷
+    "         1         1         3         0         0         0" ∷
+    "         1        32         0         0         0         0" ∷
+    "         1         3         2         0         0         0" ∷
+    "         1        13         2         0         0         0" ∷
+    "         1         9         0         0         0         0" ∷
+    "         0         0         0         0         0         0" ∷
+    "         1        33         0         0         0         0" ∷
+    "         1        33         0         0         0         0" ∷ []
+
+-- 1 runs until it unlocks, then 2, for which nothing is locked
+unfoldable pub lockedAnswers : List String
+lockedAnswers =
+    "         0         1         0         0         1         0" ∷
+    "         0         2         0         0         1         0" ∷
+    "         0         0         0         0         1         0" ∷
+    "         0         0         0         0         1         1" ∷
+    "         0         0         0         0         1         1" ∷
+    "         0         0         0         0         1         1" ∷
+    "         0         1        -1         0         1         1" ∷
+    "         5         0         0         0         1         1" ∷
+    "         0         0         0         1         1         1" ∷
+    "         0         0         0         1         1         2" ∷
+    "         1         0         0         1         1         2" ∷ []

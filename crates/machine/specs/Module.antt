@@ -23,6 +23,8 @@ noChannel = record { source = 0; destination = 0; refresh = 0; size = 0 }
 abbrev pub noPartition : Partition
 noPartition = record {
   mode = 0;
+  level = 0;
+  holder = 0;
   processes = [];
   processCount = 0;
   semaphores = [];
@@ -36,8 +38,6 @@ noPartition = record {
   arrival = record { items = []; len = 0 };
   waiting = record { items = []; len = 0 };
   soonest = 0;
-  level = 0;
-  holder = 0;
 }
 
 unfoldable pub emptyTable : Table

@@ -60,6 +60,8 @@ noBlackboard = emptyBlackboard 0
 abbrev pub nothingCreated : ℕ → Partition
 nothingCreated mode = record {
   mode = mode;
+  level = 0;
+  holder = 0;
   processes = replicate processLimit blankProcess;
   processCount = 0;
   semaphores = replicate semaphoreLimit noSemaphore;
@@ -73,8 +75,6 @@ nothingCreated mode = record {
   arrival = idsOf [];
   waiting = idsOf [];
   soonest = 0;
-  level = 0;
-  holder = 0;
 }
 
 -- Ids count from 1 in order of creation: 1..limit
@@ -107,6 +107,8 @@ blackboard k p = byId blackboardLimit noBlackboard k (p .blackboards)
 abbrev pub withMode : ℕ → Partition → Partition
 withMode mode p = record {
   mode = mode;
+  level = 0;
+  holder = 0;
   processes = p .processes;
   processCount = p .processCount;
   semaphores = p .semaphores;
@@ -120,14 +122,14 @@ withMode mode p = record {
   arrival = p .arrival;
   waiting = p .waiting;
   soonest = p .soonest;
-  level = 0;
-  holder = 0;
 }
 
 -- the preemption lock has this level and this holder
 abbrev pub withLock : ℕ → ℕ → Partition → Partition
 withLock level holder p = record {
   mode = p .mode;
+  level = level;
+  holder = holder;
   processes = p .processes;
   processCount = p .processCount;
   semaphores = p .semaphores;
@@ -141,13 +143,13 @@ withLock level holder p = record {
   arrival = p .arrival;
   waiting = p .waiting;
   soonest = p .soonest;
-  level = level;
-  holder = holder;
 }
 
 abbrev pub withProcesses : List Process → ℕ → Ids → Ids → Partition → Partition
 withProcesses l n a w p = record {
   mode = p .mode;
+  level = p .level;
+  holder = p .holder;
   processes = l;
   processCount = n;
   semaphores = p .semaphores;
@@ -161,13 +163,13 @@ withProcesses l n a w p = record {
   arrival = a;
   waiting = w;
   soonest = p .soonest;
-  level = p .level;
-  holder = p .holder;
 }
 
 abbrev pub withSemaphores : List SemaphoreT → ℕ → Partition → Partition
 withSemaphores l n p = record {
   mode = p .mode;
+  level = p .level;
+  holder = p .holder;
   processes = p .processes;
   processCount = p .processCount;
   semaphores = l;
@@ -181,13 +183,13 @@ withSemaphores l n p = record {
   arrival = p .arrival;
   waiting = p .waiting;
   soonest = p .soonest;
-  level = p .level;
-  holder = p .holder;
 }
 
 abbrev pub withEvents : List EventState → ℕ → Partition → Partition
 withEvents l n p = record {
   mode = p .mode;
+  level = p .level;
+  holder = p .holder;
   processes = p .processes;
   processCount = p .processCount;
   semaphores = p .semaphores;
@@ -201,13 +203,13 @@ withEvents l n p = record {
   arrival = p .arrival;
   waiting = p .waiting;
   soonest = p .soonest;
-  level = p .level;
-  holder = p .holder;
 }
 
 abbrev pub withBuffers : List Buffer → ℕ → Partition → Partition
 withBuffers l n p = record {
   mode = p .mode;
+  level = p .level;
+  holder = p .holder;
   processes = p .processes;
   processCount = p .processCount;
   semaphores = p .semaphores;
@@ -221,13 +223,13 @@ withBuffers l n p = record {
   arrival = p .arrival;
   waiting = p .waiting;
   soonest = p .soonest;
-  level = p .level;
-  holder = p .holder;
 }
 
 abbrev pub withBlackboards : List BlackboardT → ℕ → Partition → Partition
 withBlackboards l n p = record {
   mode = p .mode;
+  level = p .level;
+  holder = p .holder;
   processes = p .processes;
   processCount = p .processCount;
   semaphores = p .semaphores;
@@ -241,13 +243,13 @@ withBlackboards l n p = record {
   arrival = p .arrival;
   waiting = p .waiting;
   soonest = p .soonest;
-  level = p .level;
-  holder = p .holder;
 }
 
 abbrev pub withSoonest : ℕ → Partition → Partition
 withSoonest n p = record {
   mode = p .mode;
+  level = p .level;
+  holder = p .holder;
   processes = p .processes;
   processCount = p .processCount;
   semaphores = p .semaphores;
@@ -261,8 +263,6 @@ withSoonest n p = record {
   arrival = p .arrival;
   waiting = p .waiting;
   soonest = n;
-  level = p .level;
-  holder = p .holder;
 }
 
 -- process id has this record from now on. The arrival list, document 01's term, holds the READY processes: becoming READY appends it

@@ -93,11 +93,13 @@ pub struct Blackboard {
     pub message: u32,
 }
 
-// arrival: the READY processes. waiting: those that wait on an object, in the order in which they began; the queue of an
-// object is the part of it that waits for this object. soonest: no wake time or deadline comes before it (Module).
-// level: that of the preemption lock; holder: the process that raised it from 0, 0 at level 0.
+// level: that of the preemption lock; holder: the process that raised it from 0, 0 at level 0. arrival: the READY processes. waiting: those
+// that wait on an object, in the order in which they began; the queue of an object is the part of it that waits for this object. soonest: no
+// wake time or deadline comes before it (Module).
 pub struct Partition {
     pub mode: u8,
+    pub level: u8,
+    pub holder: u8,
     pub processes: [Process; Module::PROCESSES],
     pub processCount: u8,
     pub semaphores: [Semaphore; Module::SEMAPHORES],
@@ -111,8 +113,6 @@ pub struct Partition {
     pub arrival: Ids,
     pub waiting: Ids,
     pub soonest: u32,
-    pub level: u8,
-    pub holder: u8,
 }
 
 pub struct Window {
@@ -508,6 +508,8 @@ impl Partition {
         let b = Buffer::blank();
         Partition {
             mode: 0,
+            level: 0,
+            holder: 0,
             processes: [x; Module::PROCESSES],
             processCount: 0,
             semaphores: [Semaphore {
@@ -535,8 +537,6 @@ impl Partition {
                 len: 0,
             },
             soonest: 0,
-            level: 0,
-            holder: 0,
         }
     }
 

@@ -1,5 +1,7 @@
 use mathlib.Core.Path.{refl}
 use native.Mathlib.Omega.{arith}
+use borrow.Author.Tests.{leb-false}
+use Rattle.machine.specs.Limits.{processLimit}
 use Rattle.machine.specs.Calls.{createProcess}
 use Rattle.machine.proofs.Tests.{Passed}
 use Rattle.decisions.proofs.Laws.{refused-code, passed-code}
@@ -20,6 +22,10 @@ cast-t18 c = omega (arith, c .number-of .ensures, admitted-name (c .before .befo
 cast-t20 : tie.Need-cast-t20
 unfolding Passed
 cast-t20 c = omega (arith, c .number-of2 .ensures, admitted-priority (c .before .before .before .before .before .before .before .before .args .c) (c .before .before .before .before .before .before .before .before .args .r) _ refl (passed-code _ _ (rw (c .before .before .before .before .before .before .is-process-named .ensures, c .before .before .before .before .before .is-admissible .ensures) at (c .before .before .before .creation-code .ensures)) (Refused 0) refl (c .before .before .if1 .left) .1 .1 .1 .0))
+
+add-id : tie.Need-add-id
+unfolding Passed
+add-id c = omega (arith, leb-false processLimit (c .before .before .before .before .before .before .before .before .before .before .before .args .p .processCount) (passed-code _ _ (rw (c .before .before .before .before .before .before .before .before .before .is-process-named .ensures, c .before .before .before .before .before .before .before .before .is-admissible .ensures) at (c .before .before .before .before .before .before .creation-code .ensures)) (Refused 0) refl (c .before .before .before .before .before .if1 .left) .1 .0))
 
 returns-2 : tie.Need-returns-2
 unfolding createProcess
@@ -42,5 +48,5 @@ create-process-spec =
     (λ _ _. tt)
     (λ _ _. tt)
     (λ _ _. tt)
-    (λ c. search needs)
+    add-id
     returns-2)

@@ -24,7 +24,7 @@ cast-current : tie.Need-cast-current
 cast-current c = omega (arith, c .number-of .ensures, passed 1 priorityLimit (c .before .before .before .before .before .before .before .before .args .a) (c .before .before .before .before .before .is-priority .result) (c .before .before .before .before .before .is-priority .ensures) (c .before .before .before .before .if2 .left))
 
 cast-last-if : tie.Need-cast-last-if
-cast-last-if c = omega (arith, c .before .before .before .before .before .before .before .before .before .before .good .0 .1 .1 .1 .1 .0 .1, known-id (c .before .before .before .before .before .before .before .before .before .before .args .id) (c .before .before .before .before .before .before .before .before .before .before .args .p .processCount) (sym (c .before .before .before .before .before .before .before .before .before .is-unknown .ensures) ∙ c .before .before .before .before .before .before .before .before .if1 .left) .1)
+cast-last-if c = omega (arith, c .before .before .before .before .before .before .before .before .before .before .good .0 .1 .1 .1 .1 .1 .1 .0 .1, known-id (c .before .before .before .before .before .before .before .before .before .before .args .id) (c .before .before .before .before .before .before .before .before .before .before .args .p .processCount) (sym (c .before .before .before .before .before .before .before .before .before .is-unknown .ensures) ∙ c .before .before .before .before .before .before .before .before .if1 .left) .1)
 
 returns-4 : tie.Need-returns-4
 unfolding setPriority checked

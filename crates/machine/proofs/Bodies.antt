@@ -80,7 +80,7 @@ pub record OnQueue (x : Port) (n i : ℕ) (a : Transfer) (value : ℕ) : Type 0 
 abbrev pub setsLevel : ℕ → Bool
 setsLevel n = eqb n 1 || (eqb n 6 || (eqb n 32 || eqb n 33))
 
--- a change that leaves the preemption lock, unless the call is one of these
+-- a change that leaves the preemption lock, unless the call is one of these; the second change of a call always leaves it
 abbrev pub LevelBy : ℕ → Change → Type 0
 LevelBy n Nothing = Unit {0}
 LevelBy n (Stored id x) = Unit {0}
@@ -102,7 +102,7 @@ Bodily x n (Refused code) = bodyRefusal code ≡ true
 Bodily x n (Unchanged value extra) = Unit {0}
 Bodily x n Ticked = ⊥
 Bodily x n (Blocked id y) = Unit {0}
-Bodily x n (Changed a b value) = LevelBy n a × LevelBy n b
+Bodily x n (Changed a b value) = LevelBy n a × LevelBy 0 b
 Bodily x n (Restarted mode) = setsLevel n ≡ true
 Bodily x n (Written i y) = FromSource x n i
 Bodily x n (PassedOn i a value) = OnQueue x n i a value

@@ -371,7 +371,7 @@ change-valid c k p v (Moved j a) h =
 change-valid c k p v (StoredBlackboard j s) h = blackboard-valid (c .frame) (c .time) p v j (h .0) s (h .1)
 change-valid c k p v (Ended o) h = all-valid (c .frame) (c .time) p v served (λ x g on. ended-sound _ x g on) o
 change-valid c k p v (Handed o m) h = all-valid (c .frame) (c .time) p v (handed m) (λ x g on. handed-sound _ x g on m h) o
-change-valid c k p v (LevelSet level holder) h = record { mode = v .mode; lock = h; lists = v .lists; objects = v .objects; eachProcess = v .eachProcess }
+change-valid c k p v (LevelSet level holder) h = record { mode = v .mode; lock = h .0; lists = v .lists; objects = v .objects; eachProcess = v .eachProcess }
 change-valid c k p v (Entered d) h = rw (h .0) (entered-valid c p v (k .time) (k .frame .1) (k .near) (h .1))
 
 -- and so does each decision
@@ -515,7 +515,7 @@ module _ (c : Context) (p : Partition) (v : Valid (c .frame) (c .time) p) (k : S
   unfolding stopSelf Passed
   stop-self-sound = in-checks _ _ (λ h.
       let b = normal-caller (in-normal (h .0)) .created in
-      (no-lock _ _, (b, stopped-sound _ (process (c .caller) p) (v .eachProcess (c .caller) b), λ some. absurd (omega arith)), omega arith))
+      ((no-lock _ _, λ _ more. absurd (omega arith)), (b, stopped-sound _ (process (c .caller) p) (v .eachProcess (c .caller) b), λ some. absurd (omega arith)), omega arith))
 
   pub suspend-sound : (id : ℕ) → Sound c p (suspend c id p)
   unfolding suspend Passed
@@ -584,12 +584,15 @@ module _ (c : Context) (p : Partition) (v : Valid (c .frame) (c .time) p) (k : S
   lock-sound = in-checks _ _ (λ h.
       let n = in-normal (h .0) in
       let room = leb-false levelLimit (p .level) (h .1 .0) in (
-        record {
-          few = omega arith;
-          free = λ z. absurd (omega arith);
-          normal = λ _. n;
-          held = λ _. by-test (λ (id : ℕ). ready (process id p) ≡ true) (locked (p .level)) (λ e. v .lock .held (ltb-true 0 (p .level) e)) (λ _. normal-caller n .isReady);
-        },
+        (
+          record {
+            few = omega arith;
+            free = λ z. absurd (omega arith);
+            normal = λ _. n;
+            held = λ _. by-test (λ (id : ℕ). ready (process id p) ≡ true) (locked (p .level)) (λ e. v .lock .held (ltb-true 0 (p .level) e)) (λ _. normal-caller n .isReady);
+          },
+          λ some _. rw (lt-ltb 0 (p .level) some),
+        ),
         tt,
         omega arith,
       ))
@@ -598,12 +601,15 @@ module _ (c : Context) (p : Partition) (v : Valid (c .frame) (c .time) p) (k : S
   unfolding unlockPreemption Passed
   unlock-sound = in-checks _ _ (λ h.
       let some = ltb-true 0 (p .level) (not-false _ (h .1 .0)) in (
-        record {
-          few = omega (arith, v .lock .few);
-          free = λ z. rw z;
-          normal = λ _. in-normal (h .0);
-          held = λ more. rw (lt-ltb 0 (p .level - 1) more) (v .lock .held some);
-        },
+        (
+          record {
+            few = omega (arith, v .lock .few);
+            free = λ z. rw z;
+            normal = λ _. in-normal (h .0);
+            held = λ more. rw (lt-ltb 0 (p .level - 1) more) (v .lock .held some);
+          },
+          λ _ more. rw (lt-ltb 0 (p .level - 1) more),
+        ),
         tt,
         omega arith,
       ))

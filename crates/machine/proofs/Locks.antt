@@ -7,12 +7,13 @@ use mathlib.Core.Logic.{_⊎_, inl, inr, ⊎-elim}
 use native.Mathlib.Omega.{arith}
 use lib.ListN.{length, take}
 use lib.IntN.{ℤ, pos}
-use lib.Dec.{eqb, leb, ltb}
+use lib.Dec.{eqb, ltb}
 use borrow.Author.Tests.{eq-eqb, ne-eqb, eqb-true, lt-ltb, le-ltb, ltb-true, ltb-false, le-leb, lt-leb, not-false}
 use Rattle.machine.specs.declared.Event.{Event as EventT}
 use Rattle.machine.specs.declared.Partition.{Partition}
 use Rattle.machine.specs.declared.Module.{Module}
 use Rattle.machine.specs.declared.Request.{Request}
+use Rattle.machine.specs.declared.Context.{Context}
 use Rattle.machine.specs.declared.Wait.the-variants.{Source}
 use Rattle.machine.specs.declared.Transfer.{Transfer}
 use Rattle.machine.specs.declared.Transfer.the-variants.{Put, HandedTo, Taken, LetIn}
@@ -24,9 +25,8 @@ use Rattle.machine.specs.Limits.{processLimit, semaphoreLimit, eventLimi
 use Rattle.machine.specs.Fields.{field, requestOf, numberOf, isNumber}
 use Rattle.machine.specs.Messages.{endsWait, moved}
 use Rattle.machine.specs.Process.{object, served, handed, ticked, entered, stopped}
-use Rattle.machine.specs.Partition.{within, normalMode, process, buffer, emptyBuffer, movedIn, endedBy, stored, created, arrivedLast, storedSemaphore, storedEvent, storedBuffer, storedBlackboard, waiters, changedAll, each, running, tickPartition, enteredNormal, nothingCreated, withLock, withMode, applied, noted}
-use Rattle.machine.specs.Module.{part, queue, channel, current, runningIn, withPart, withTime, withQueue, noPartition}
-use Rattle.machine.specs.Ticks.{tickModule}
+use Rattle.machine.specs.Partition.{within, normalMode, process, buffer, movedIn, endedBy, stored, created, arrivedLast, storedSemaphore, storedEvent, storedBuffer, storedBlackboard, waiters, running, tickPartition, enteredNormal, nothingCreated, withLock, withMode, applied, noted}
+use Rattle.machine.specs.Module.{part, queue, channel, current, withPart, withTime, withQueue, noPartition}
 use Rattle.machine.specs.Channels.{portOf, otherEnd, erasedTo}
 use Rattle.machine.specs.Decisions.{checked, replyOf, changed}
 use Rattle.machine.specs.Calls.{setMode, stopSelf, lockPreemption, unlockPreemption}
@@ -34,9 +34,9 @@ use Rattle.machine.specs.Services.{callDecision, services}
 use Rattle.machine.specs.Places.{strayField}
 use Rattle.machine.specs.Step.{contextOf, decision, moduleAfter, sees, step}
 use Rattle.machine.specs.LeftRight.{after}
-use Rattle.machine.specs.Valid.{Between, ListedIn, LockIn, Valid, SoundModule, SoundDecision, Reached, plainTick}
+use Rattle.machine.specs.Valid.{Between, ListedIn, SameHolder, SoundModule, SoundChange, SoundDecision, Reached, plainTick}
 use Rattle.machine.specs.Starred.{own, callBy, Refuses, Puts, Gives, Calling, withProcess, without}
-use Rattle.machine.specs.Locks.{LockHolds, SameLock, NoLockCall, NoLockCalls, lock, unlock, LockCalls, Locks}
+use Rattle.machine.specs.Locks.{LockHolds, SameLock, NoLockCall, NoLockCalls, LockedThroughout, lock, unlock, Locks}
 use Rattle.machine.proofs.Tests.{by-test, by-codes, Passed, not-both}
 use Rattle.machine.proofs.Bounds.{not-so}
 use Rattle.machine.proofs.Either.{either}
@@ -96,6 +96,27 @@ change-lock n off (Handed o m) h p = rest-lock p _ (changed-rest (handed m) (wai
 change-lock n off (LevelSet level holder) h p = not-both _ h off
 change-lock n off (Entered c) h p = not-both _ h off
 
+-- from a level above 0 to another the holder stays
+abbrev Holding : Partition → Partition → Type 0
+Holding p q = SameHolder p (q .level) (q .holder)
+
+-- what each change of a call makes of the holder
+change-holding : (c : Context) (p : Partition) → ListedIn p → (a : Change) → SoundChange c p a → Holding p (applied a p)
+unfolding enteredNormal
+change-holding c p v Nothing h _ _ = refl
+change-holding c p v (Stored id x) h _ _ = change-lock 0 refl (Stored id x) tt p .holder
+change-holding c p v (Created id x) h _ _ = change-lock 0 refl (Created id x) tt p .holder
+change-holding c p v (Last id) h _ _ = change-lock 0 refl (Last id) tt p .holder
+change-holding c p v (StoredSemaphore k s) h _ _ = change-lock 0 refl (StoredSemaphore k s) tt p .holder
+change-holding c p v (StoredEvent k e) h _ _ = change-lock 0 refl (StoredEvent k e) tt p .holder
+change-holding c p v (CreatedBuffer k name limit) h _ _ = change-lock 0 refl (CreatedBuffer k name limit) tt p .holder
+change-holding c p v (Moved k a) h _ _ = change-lock 0 refl (Moved k a) tt p .holder
+change-holding c p v (StoredBlackboard k b) h _ _ = change-lock 0 refl (StoredBlackboard k b) tt p .holder
+change-holding c p v (Ended o) h _ _ = change-lock 0 refl (Ended o) tt p .holder
+change-holding c p v (Handed o m) h _ _ = change-lock 0 refl (Handed o m) tt p .holder
+change-holding c p v (LevelSet level holder) h some more = h .1 some more
+change-holding c p v (Entered d) h _ more = absurd (let z = rest-lock (withMode 3 p) _ (each-rest (entered d) (withMode 3 p) v) .level in omega (arith, more, z))
+
 -- ---------------------------------------------------------------- an event
 module _ (m : Module) (s : SoundModule m) (r : Request) where
   abbrev k : ℕ
@@ -108,15 +129,22 @@ module _ (m : Module) (s : SoundModule m) (r : Request) where
   abbrev Elsewhere : ℕ → Type 0
   Elsewhere i = (k ≡ 0 → ⊥) → i ≡ k - 1 → setsLevel n ≡ false
 
-  -- the lock of partition number i + 1 is what it was
-  abbrev Left : ℕ → Partition → Type 0
-  Left i q = Elsewhere i → SameLock (part m i) q
+  -- the lock of partition number i + 1 is what it was; else its holder stays while the level is above 0
+  record Left (i : ℕ) (q : Partition) : Type 0 where
+    same : Elsewhere i → SameLock (part m i) q
+    holding : Holding (part m i) q
+
+  leaves : (i : ℕ) (q : Partition) → SameLock (part m i) q → Left i q
+  leaves i q l = record { same = λ _. l; holding = λ _ _. l .holder }
+
+  then-leaves : (i : ℕ) (p q : Partition) → Left i p → SameLock p q → Left i q
+  then-leaves i p q f g = record { same = λ e. lock-along (part m i) p q (f .same e) g; holding = λ some more. g .holder ∙ f .holding some (let z = g .level in omega arith) }
 
   same-left : (i : ℕ) → i < m .table .size → Left i (part m i)
-  same-left i l _ = same-lock (part m i)
+  same-left i l = leaves i (part m i) (same-lock (part m i))
 
   puts : (x : Module) → x .partitions ≡ m .partitions → (j : ℕ) → j < m .table .size → (p : Partition) → Left j p → (i : ℕ) → i < m .table .size → Left i (part (withPart j p x) i)
-  puts x e j inside p h i l = rw e (at-set Left (m .partitions) j (noted p) noPartition (omega (arith, inside, s .partitionsSize, s .table .size .1)) i (λ u. noted-lock (part m j) p (h u)) (λ _. same-left i l))
+  puts x e j inside p h i l = rw e (at-set Left (m .partitions) j (noted p) noPartition (omega (arith, inside, s .partitionsSize, s .table .size .1)) i (then-leaves j p (noted p) h (record { level = refl; holder = refl })) (λ _. same-left i l))
 
   module _ (q : Calls m r) where
     abbrev now : Partition
@@ -129,28 +157,30 @@ module _ (m : Module) (s : SoundModule m) (r : Request) where
     decided-lock (Refused c) h b = same-left
     decided-lock (Unchanged v e) h b = same-left
     decided-lock Ticked h b = absurd b
-    decided-lock (Blocked id x) h b = puts m refl (k - 1) here (stored id x now) (λ _. rest-lock now _ (stored-rest now id x))
-    decided-lock (Changed x y v) h b = puts m refl (k - 1) here (applied y (applied x now)) (λ u. lock-along now (applied x now) _ (change-lock n (u (q .some) refl) x (b .0) now) (change-lock n (u (q .some) refl) y (b .1) (applied x now)))
+    decided-lock (Blocked id x) h b = puts m refl (k - 1) here (stored id x now) (leaves (k - 1) _ (rest-lock now _ (stored-rest now id x)))
+    decided-lock (Changed x y v) h b = puts m refl (k - 1) here (applied y (applied x now)) (then-leaves (k - 1) (applied x now) _
+        (record { same = λ u. change-lock n (u (q .some) refl) x (b .0) now; holding = change-holding (contextOf m k) now (s .eachPartition (k - 1) here .lists) x (h .0) })
+        (change-lock 0 refl y (b .1) (applied x now)))
     decided-lock (Restarted mode) h b =
         let u = erasedTo k channelLimit m in
         let p = nothingCreated mode in
         refilled-keeps Left k (withPart (k - 1) p u) (part-sound u (erased-sound k channelLimit m (omega arith) s) (k - 1) here p (nothing-valid (m .table .frame) (m .t) mode h)) channelLimit
-        (λ i _ _ size frame t p v h e. noted-lock (part m _) _ (lock-along (part m _) p _ (h e) (rest-lock p _ (changed-rest served (take size (waiters _ p)) p))))
-        (puts u refl (k - 1) here p (λ u. not-both _ b (u (q .some) refl)))
+        (λ i _ _ size frame t p v h. then-leaves _ p _ h (noted-lock p _ (rest-lock p _ (changed-rest served (take size (waiters _ p)) p))))
+        (puts u refl (k - 1) here p (record { same = λ u. not-both _ b (u (q .some) refl); holding = λ _ more. absurd (omega arith) }))
     decided-lock (Written j x) h b = same-left
     decided-lock (PassedOn j a v) h b =
         let e = otherEnd k (channel (m .table) j) - 1 in
         by-test (λ (x : Module). (i : ℕ) → i < m .table .size → Left i (part x i)) (endsWait a)
-        (λ _. puts (withQueue j (moved a (queue m j)) m) refl e (on-queue m s r q j a v b .inside) (endedBy a (part m e)) (λ _. ended-lock a (part m e)))
+        (λ _. puts (withQueue j (moved a (queue m j)) m) refl e (on-queue m s r q j a v b .inside) (endedBy a (part m e)) (leaves e _ (ended-lock a (part m e))))
         (λ _. same-left)
 
-  pub event-lock : (i : ℕ) → i < m .table .size → Left i (part (moduleAfter m k (decision m r)) i)
+  event-lock : (i : ℕ) → i < m .table .size → Left i (part (moduleAfter m k (decision m r)) i)
   unfolding plainTick
   event-lock = by-event m r (λ (d : Decision). (i : ℕ) → i < m .table .size → Left i (part (moduleAfter m k d) i))
       (λ _ _. same-left)
-      (λ _ _ _ i l _.
+      (λ _ _ _ i l.
       let long : m .table .size ≤ length (m .partitions) = omega (arith, s .partitionsSize, s .table .size .1) in
-      rw (tick-module-plain m (inr s), plain-part (m .table .size) (withTime (m .t + 1) m) long i l) (noted-lock (part m i) _ (tick-lock (m .t + 1) (part m i) (s .eachPartition i l .lists))))
+      rw (tick-module-plain m (inr s), plain-part (m .table .size) (withTime (m .t + 1) m) long i l) (leaves i _ (noted-lock (part m i) _ (tick-lock (m .t + 1) (part m i) (s .eachPartition i l .lists)))))
       (λ q. decided-lock q (made m s r q) (made-sound m s r q) (made-body m s r q))
 
 -- ---------------------------------------------------------------- an event's numbers
@@ -204,7 +234,11 @@ module _ (m : Module) (h : Reached m) (k : ℕ) (b : Between 1 (m .table .size) 
 
   step-lock : (e : EventT) → NoLockCall k e → SameLock (own m k) (own (step m e .state) k)
   unfolding step
-  step-lock e free = event-lock m sound (requestOf e) (k - 1) (omega (arith, b .0, b .1)) (no-lock-call k e free (b .0))
+  step-lock e free = event-lock m sound (requestOf e) (k - 1) (omega (arith, b .0, b .1)) .same (no-lock-call k e free (b .0))
+
+  step-holding : (e : EventT) → Holding (own m k) (own (step m e .state) k)
+  unfolding step
+  step-holding e = event-lock m sound (requestOf e) (k - 1) (omega (arith, b .0, b .1)) .holding
 
   shown-holder : (e : EventT) → let q = step m e .state in
       (e .partition ≡ pos 0) ⊎ (e .partition ≡ pos k) → current q ≡ k → 0 < own q k .level → step m e .answer .running ≡ own q k .holder
@@ -222,6 +256,16 @@ list-lock : (k : ℕ) (es : List EventT) (m : Module) → Reached m → Between 
 unfolding NoLockCalls
 list-lock k [] m h b free = same-lock (own m k)
 list-lock k (e ∷ es) m h b free = lock-along (own m k) (own (step m e .state) k) _ (step-lock m h k b e (free .0)) (list-lock k es (step m e .state) (Reached.stepped m e h) (inside m h k b e) (free .1))
+
+locked-first : (k : ℕ) (m : Module) (es : List EventT) → LockedThroughout k m es → 0 < own m k .level
+unfolding LockedThroughout
+locked-first k m [] h = h
+locked-first k m (e ∷ es) h = h .0
+
+list-holding : (k : ℕ) (es : List EventT) (m : Module) → Reached m → Between 1 (m .table .size) k → LockedThroughout k m es → own (after m es) k .holder ≡ own m k .holder
+unfolding LockedThroughout
+list-holding k [] m h b t = refl
+list-holding k (e ∷ es) m h b t = list-holding k es (step m e .state) (Reached.stepped m e h) (inside m h k b e) (t .1) ∙ step-holding m h k b e (t .0) (locked-first k (step m e .state) es (t .1))
 
 -- ---------------------------------------------------------------- the calls
 module _ (m : Module) (k : ℕ) (u : SoundModule m) (h : Calling m k) where
@@ -348,6 +392,7 @@ locks = record {
     modeChanged = mode-changed m k u h;
     modeRefused = mode-refused m k u h;
   };
+  held = λ m h k b es t. list-holding k es m h b t;
   kept = λ m h k b es free. list-lock k es m h b free;
   apart = λ m S within closed left right q k s. let e = left-right m S within closed left right q .1 .records k s in record { level = ap (λ (x : Partition). x .level) (sym e); holder = ap (λ (x : Partition). x .holder) (sym e) };
 }

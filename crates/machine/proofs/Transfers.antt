@@ -26,7 +26,7 @@ use Rattle.machine.specs.Fields.{field, between}
 use Rattle.machine.specs.Messages.{noQueue, queueOf, held, first, sent, received, moved}
 use Rattle.machine.specs.Process.{object, carried, served, handed}
 use Rattle.machine.specs.Partition.{process, stored, waiters, noted}
-use Rattle.machine.specs.Decisions.{checked, awaiting, queued, blocked}
+use Rattle.machine.specs.Decisions.{checked, awaiting, queued}
 use Rattle.machine.specs.Channels.{queuing, channelChecks, send, receive, passed}
 use Rattle.machine.specs.Services.{services, callDecision}
 use Rattle.machine.specs.Places.{strayField}

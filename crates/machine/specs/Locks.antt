@@ -45,6 +45,11 @@ unfoldable pub NoLockCalls : ℕ → List EventT → Type 0
 NoLockCalls k [] = Unit {0}
 NoLockCalls k (e ∷ es) = NoLockCall k e × NoLockCalls k es
 
+-- the level is above 0 in the record, and after each event of the list
+unfoldable pub LockedThroughout : ℕ → Module → List EventT → Type 0
+LockedThroughout k m [] = 0 < own m k .level
+LockedThroughout k m (e ∷ es) = (0 < own m k .level) × LockedThroughout k (step m e .state) es
+
 -- ---------------------------------------------------------------- the calls
 abbrev pub lock : ℕ → EventT
 lock k = callBy k 32 (pos 0) (pos 0) (pos 0) (pos 0)
@@ -85,6 +90,8 @@ pub record Locks : Type 0 where
       Between 1 (m .table .size) k → (e .partition ≡ pos 0) ⊎ (e .partition ≡ pos k) → current q ≡ k → 0 < own q k .level
       → step m e .answer .running ≡ own q k .holder
   pub calls : (m : Module) (k : ℕ) → Calling m k → LockCalls m k
+  -- over every list of events the holder stays while the level is above 0, also where it locks further and unlocks
+  pub held : (m : Module) → Reached m → (k : ℕ) → Between 1 (m .table .size) k → (es : List EventT) → LockedThroughout k m es → own (after m es) k .holder ≡ own m k .holder
   -- no other event reaches the lock of a partition, whatever it does to priorities and arrivals: with `reached`, the holder is READY, and it is the
   -- running process where its partition is current, after the whole list
   pub kept : (m : Module) → Reached m → (k : ℕ) → Between 1 (m .table .size) k → (es : List EventT) → NoLockCalls k es → SameLock (own m k) (own (after m es) k)

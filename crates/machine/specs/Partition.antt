@@ -103,31 +103,10 @@ buffer k p = byId bufferLimit noBuffer k (p .buffers)
 abbrev pub blackboard : ℕ → Partition → BlackboardT
 blackboard k p = byId blackboardLimit noBlackboard k (p .blackboards)
 
--- mode set; a mode change brings the level to 0
-abbrev pub withMode : ℕ → Partition → Partition
-withMode mode p = record {
+-- this mode, and the preemption lock with this level and this holder
+abbrev pub withModeAndLock : ℕ → ℕ → ℕ → Partition → Partition
+withModeAndLock mode level holder p = record {
   mode = mode;
-  level = 0;
-  holder = 0;
-  processes = p .processes;
-  processCount = p .processCount;
-  semaphores = p .semaphores;
-  semaphoreCount = p .semaphoreCount;
-  events = p .events;
-  eventCount = p .eventCount;
-  buffers = p .buffers;
-  bufferCount = p .bufferCount;
-  blackboards = p .blackboards;
-  blackboardCount = p .blackboardCount;
-  arrival = p .arrival;
-  waiting = p .waiting;
-  soonest = p .soonest;
-}
-
--- the preemption lock has this level and this holder
-abbrev pub withLock : ℕ → ℕ → Partition → Partition
-withLock level holder p = record {
-  mode = p .mode;
   level = level;
   holder = holder;
   processes = p .processes;
@@ -144,6 +123,13 @@ withLock level holder p = record {
   waiting = p .waiting;
   soonest = p .soonest;
 }
+
+-- mode set; a mode change brings the level to 0
+abbrev pub withMode : ℕ → Partition → Partition
+withMode mode p = withModeAndLock mode 0 0 p
+
+abbrev pub withLock : ℕ → ℕ → Partition → Partition
+withLock level holder p = withModeAndLock (p .mode) level holder p
 
 abbrev pub withProcesses : List Process → ℕ → Ids → Ids → Partition → Partition
 withProcesses l n a w p = record {

@@ -351,6 +351,10 @@ SoundEnd p (LetIn id m) = Between 1 (p .processCount) id × (onObject (process i
 abbrev pub HolderReady : Partition → ℕ → Process → Type 0
 HolderReady p id x = 0 < p .level → id ≡ p .holder → ready x ≡ true
 
+-- from a level above 0 to another the holder stays
+abbrev pub SameHolder : Partition → ℕ → ℕ → Type 0
+SameHolder p level holder = 0 < p .level → 0 < level → holder ≡ p .holder
+
 -- a change that keeps a valid partition valid
 abbrev pub SoundChange : Context → Partition → Change → Type 0
 SoundChange c p Nothing = Unit {0}
@@ -364,7 +368,7 @@ SoundChange c p (Moved k a) = Between 1 (p .bufferCount) k × SoundMove (buffer 
 SoundChange c p (StoredBlackboard k b) = KnownOrNext blackboardLimit (p .blackboardCount) k × SoundBlackboard b
 SoundChange c p (Ended o) = Unit {0}
 SoundChange c p (Handed o m) = m ≤ durationLimit
-SoundChange c p (LevelSet level holder) = SoundLock level holder (normalMode p) (ready (process holder p))
+SoundChange c p (LevelSet level holder) = SoundLock level holder (normalMode p) (ready (process holder p)) × SameHolder p level holder
 SoundChange c p (Entered d) = (d ≡ c) × (normalMode p ≡ false)
 
 -- value and extra are in the line writer's range

@@ -3,7 +3,7 @@
 -- Assumes nothing.
 use Prim.Native.Nat.{ℕ, _≤_, _<_}
 use mathlib.Core.Path.{_≡_, refl}
-use mathlib.Core.Bool.{Bool, true, not, _&&_, _||_}
+use mathlib.Core.Bool.{Bool, true, false, not, _&&_, _||_}
 use mathlib.Core.Logic.{_⊎_, inl, inr}
 use mathlib.Core.List.{List, [], _∷_}
 use lib.Dec.{eqb, leb}
@@ -76,25 +76,25 @@ pub record OnQueue (x : Port) (n i : ℕ) (a : Transfer) (value : ℕ) : Type 0 
   pub placed : x .place < channelLimit
   pub end : Sends x n a value ⊎ Receives x n a value
 
--- calls 1, 6, 32 and 33
+-- a change that leaves the preemption lock
+abbrev pub leavesLevel : Change → Bool
+leavesLevel Nothing = true
+leavesLevel (Stored id x) = true
+leavesLevel (Created id x) = true
+leavesLevel (Last id) = true
+leavesLevel (StoredSemaphore k s) = true
+leavesLevel (StoredEvent k e) = true
+leavesLevel (CreatedBuffer k name limit) = true
+leavesLevel (Moved k a) = true
+leavesLevel (StoredBlackboard k b) = true
+leavesLevel (Ended o) = true
+leavesLevel (Handed o m) = true
+leavesLevel (LevelSet level holder) = false
+leavesLevel (Entered c) = false
+
+-- calls 1, 6, 32 and 33, which alone make a change that does not, and that as their first
 abbrev pub setsLevel : ℕ → Bool
 setsLevel n = eqb n 1 || (eqb n 6 || (eqb n 32 || eqb n 33))
-
--- a change that leaves the preemption lock, unless the call is one of these; the second change of a call always leaves it
-abbrev pub LevelBy : ℕ → Change → Type 0
-LevelBy n Nothing = Unit {0}
-LevelBy n (Stored id x) = Unit {0}
-LevelBy n (Created id x) = Unit {0}
-LevelBy n (Last id) = Unit {0}
-LevelBy n (StoredSemaphore k s) = Unit {0}
-LevelBy n (StoredEvent k e) = Unit {0}
-LevelBy n (CreatedBuffer k name limit) = Unit {0}
-LevelBy n (Moved k a) = Unit {0}
-LevelBy n (StoredBlackboard k b) = Unit {0}
-LevelBy n (Ended o) = Unit {0}
-LevelBy n (Handed o m) = Unit {0}
-LevelBy n (LevelSet level holder) = setsLevel n ≡ true
-LevelBy n (Entered c) = setsLevel n ≡ true
 
 -- what the body of a call decides
 abbrev pub Bodily : Port → ℕ → Decision → Type 0
@@ -102,7 +102,7 @@ Bodily x n (Refused code) = bodyRefusal code ≡ true
 Bodily x n (Unchanged value extra) = Unit {0}
 Bodily x n Ticked = ⊥
 Bodily x n (Blocked id y) = Unit {0}
-Bodily x n (Changed a b value) = LevelBy n a × LevelBy 0 b
+Bodily x n (Changed a b value) = ((leavesLevel a || setsLevel n) ≡ true) × (leavesLevel b ≡ true)
 Bodily x n (Restarted mode) = setsLevel n ≡ true
 Bodily x n (Written i y) = FromSource x n i
 Bodily x n (PassedOn i a value) = OnQueue x n i a value
@@ -128,48 +128,48 @@ module _ (x : Port) (n : ℕ) where
       let u = passed-parts before _ g in
       by-test (Body x n) b (λ e. f (u .0) (and-left beside _ (not-false _ (u .1 .1 .0))) e) (λ _. in-body _ _ refl (λ _. in-body _ _ refl (λ _. fine tt))))
 
-  signalled-by : (l : List ℕ) (k : ℕ) (p : Partition) → LevelBy n (signalled l k p)
+  signalled-by : (l : List ℕ) (k : ℕ) (p : Partition) → leavesLevel (signalled l k p) ≡ true
   unfolding signalled
-  signalled-by [] k p = tt
-  signalled-by (id ∷ l) k p = tt
+  signalled-by [] k p = refl
+  signalled-by (id ∷ l) k p = refl
 
   -- the body of each call
   pub call-body : (c : Context) (r : Request) (p : Partition) → 1 ≤ n → n ≤ callLimit → Body x n (callDecision c x n r p)
   unfolding setMode createProcess start stop stopSelf suspend suspendSelf timedWait periodicWait resume setPriority getStatus createSemaphore createEvent blocked waitSemaphore waitEvent signal setEvent resetEvent write read channelChecks createBuffer sendBuffer receiveBuffer createBlackboard show readBlackboard clear send receive lockPreemption unlockPreemption Passed
   call-body c r p lo hi =
       by-call c x n r p (Body x n)
-      (λ e. in-body _ _ refl (λ _. by-test (Body x n) (isNumber 3 (r .a)) (λ _. fine (sets e, tt)) (λ _. fine (sets e))))
-      (λ _. in-body _ _ refl (λ _. fine (tt, tt)))
-      (λ _ _. in-body _ _ refl (λ _. fine (tt, tt)))
-      (λ _ _. in-body _ _ refl (λ _. fine (tt, tt)))
-      (λ e. in-body _ _ refl (λ _. fine (rw e, tt)))
-      (λ _. in-body _ _ refl (λ _. fine (tt, tt)))
+      (λ e. in-body _ _ refl (λ _. by-test (Body x n) (isNumber 3 (r .a)) (λ _. fine (sets e, refl)) (λ _. fine (sets e))))
+      (λ _. in-body _ _ refl (λ _. fine (refl, refl)))
+      (λ _ _. in-body _ _ refl (λ _. fine (refl, refl)))
+      (λ _ _. in-body _ _ refl (λ _. fine (refl, refl)))
+      (λ e. in-body _ _ refl (λ _. fine (rw e, refl)))
+      (λ _. in-body _ _ refl (λ _. fine (refl, refl)))
       (λ a. in-body _ _ refl (λ _. by-test (Body x n) (isNumber 0 a) (λ _. fine tt) (λ _. in-body _ _ refl (λ _. fine tt))))
-      (λ a. in-body _ _ refl (λ _. by-test (Body x n) (isNumber 0 a) (λ _. fine (tt, tt)) (λ _. in-body _ _ refl (λ _. fine tt))))
+      (λ a. in-body _ _ refl (λ _. by-test (Body x n) (isNumber 0 a) (λ _. fine (refl, refl)) (λ _. in-body _ _ refl (λ _. fine tt))))
       (in-body _ _ refl (λ _. in-body _ _ refl (λ _. fine tt)))
-      (λ _. in-body _ _ refl (λ _. fine (tt, tt)))
-      (λ id a. in-body _ _ refl (λ _. by-test (λ (b : Change). Body x n (Changed (Stored id (withCurrent (numberOf a) (process id p))) b 0)) (ready (process id p)) (λ _. fine (tt, tt)) (λ _. fine (tt, tt))))
+      (λ _. in-body _ _ refl (λ _. fine (refl, refl)))
+      (λ id a. in-body _ _ refl (λ _. by-test (λ (b : Change). Body x n (Changed (Stored id (withCurrent (numberOf a) (process id p))) b 0)) (ready (process id p)) (λ _. fine (refl, refl)) (λ _. fine (refl, refl))))
       (λ _. in-body _ _ refl (λ _. fine tt))
-      (λ _. in-body _ _ refl (λ _. fine (tt, tt)))
-      (λ _ _. in-wait c _ _ _ _ _ _ _ p refl (λ _ _ _. fine (tt, tt)))
-      (λ k. in-body _ _ refl (λ _. fine (signalled-by (waiters (object (Semaphore k)) p) k p, tt)))
-      (λ _. in-body _ _ refl (λ _. fine (tt, tt)))
-      (λ _. in-body _ _ refl (λ _. fine (tt, tt)))
-      (λ _. in-body _ _ refl (λ _. fine (tt, tt)))
+      (λ _. in-body _ _ refl (λ _. fine (refl, refl)))
+      (λ _ _. in-wait c _ _ _ _ _ _ _ p refl (λ _ _ _. fine (refl, refl)))
+      (λ k. in-body _ _ refl (λ _. fine (rw (signalled-by (waiters (object (Semaphore k)) p) k p), refl)))
+      (λ _. in-body _ _ refl (λ _. fine (refl, refl)))
+      (λ _. in-body _ _ refl (λ _. fine (refl, refl)))
+      (λ _. in-body _ _ refl (λ _. fine (refl, refl)))
       (λ _ _. in-wait c _ _ _ _ _ _ _ p refl (λ _ _ _. fine tt))
       (λ e _. in-body _ _ refl (λ h. in-body _ _ refl (λ _. fine (record { call = e; place = refl; there = not-false _ (h .0); source = eqb-true _ _ (not-false _ (h .1 .1 .1 .0)) }))))
       (in-body _ _ refl (λ _. in-body _ _ refl (λ _. fine tt)))
-      (λ _ _. in-body _ _ refl (λ _. fine (tt, tt)))
-      (λ _. in-wait c _ _ _ _ _ _ _ p refl (λ _ _ _. fine (tt, tt)))
-      (λ _. in-wait c _ _ _ _ _ _ _ p refl (λ _ _ _. fine (tt, tt)))
-      (λ _. in-body _ _ refl (λ _. fine (tt, tt)))
-      (λ _ _. in-body _ _ refl (λ _. fine (tt, tt)))
+      (λ _ _. in-body _ _ refl (λ _. fine (refl, refl)))
+      (λ _. in-wait c _ _ _ _ _ _ _ p refl (λ _ _ _. fine (refl, refl)))
+      (λ _. in-wait c _ _ _ _ _ _ _ p refl (λ _ _ _. fine (refl, refl)))
+      (λ _. in-body _ _ refl (λ _. fine (refl, refl)))
+      (λ _ _. in-body _ _ refl (λ _. fine (refl, refl)))
       (λ _ _. in-wait c _ _ _ _ _ _ _ p refl (λ _ _ _. fine tt))
-      (λ _. in-body _ _ refl (λ _. fine (tt, tt)))
+      (λ _. in-body _ _ refl (λ _. fine (refl, refl)))
       (λ e. in-wait c _ _ _ _ _ _ _ p refl (λ h g b. fine (on-queue (x .channel .source) h (inl (record { call = e; source = at-end (x .channel .source) h; room = ltb-true _ _ b; message = numberOf (r .b); few = in-limits 0 durationLimit (r .b) g .1; transfer = refl; none = refl })))))
       (λ e. in-wait c _ _ _ _ _ _ _ p refl (λ h _ b. fine (on-queue (x .channel .destination) h (inr (record { call = e; destination = at-end (x .channel .destination) h; some = ltb-true _ _ b; transfer = refl; first = refl })))))
-      (λ e. in-body _ _ refl (λ _. fine (rw e, tt)))
-      (λ e. in-body _ _ refl (λ _. fine (rw e, tt)))
+      (λ e. in-body _ _ refl (λ _. fine (rw e, refl)))
+      (λ e. in-body _ _ refl (λ _. fine (rw e, refl)))
       (λ out. absurd (out lo hi))
     where
       sets : n ≡ 1 → setsLevel n ≡ true

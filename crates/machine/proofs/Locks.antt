@@ -10,11 +10,12 @@ use lib.IntN.{ℤ, pos}
 use lib.Dec.{eqb, ltb}
 use borrow.Author.Tests.{eq-eqb, ne-eqb, eqb-true, lt-ltb, le-ltb, ltb-true, ltb-false, le-leb, lt-leb, not-false}
 use Rattle.machine.specs.declared.Event.{Event as EventT}
+use Rattle.machine.specs.declared.Process.{Process}
+use Rattle.machine.specs.declared.Buffer.{Buffer}
 use Rattle.machine.specs.declared.Partition.{Partition}
 use Rattle.machine.specs.declared.Module.{Module}
 use Rattle.machine.specs.declared.Request.{Request}
 use Rattle.machine.specs.declared.Context.{Context}
-use Rattle.machine.specs.declared.Wait.the-variants.{Source}
 use Rattle.machine.specs.declared.Transfer.{Transfer}
 use Rattle.machine.specs.declared.Transfer.the-variants.{Put, HandedTo, Taken, LetIn}
 use Rattle.machine.specs.declared.Change.{Change}
@@ -24,8 +25,8 @@ use Rattle.machine.specs.declared.Decision.the-variants.{Refused, Unchan
 use Rattle.machine.specs.Limits.{processLimit, semaphoreLimit, eventLimit, bufferLimit, blackboardLimit, modeLimit, levelLimit, channelLimit}
 use Rattle.machine.specs.Fields.{field, requestOf, numberOf, isNumber}
 use Rattle.machine.specs.Messages.{endsWait, moved}
-use Rattle.machine.specs.Process.{object, served, handed, ticked, entered, stopped}
-use Rattle.machine.specs.Partition.{within, normalMode, process, buffer, movedIn, endedBy, stored, created, arrivedLast, storedSemaphore, storedEvent, storedBuffer, storedBlackboard, waiters, running, tickPartition, enteredNormal, nothingCreated, withLock, withMode, applied, noted}
+use Rattle.machine.specs.Process.{served, handed, ticked, entered, stopped}
+use Rattle.machine.specs.Partition.{within, normalMode, process, buffer, emptyBuffer, movedIn, endedBy, stored, created, arrivedLast, storedSemaphore, storedEvent, storedBuffer, storedBlackboard, waiters, each, running, tickPartition, enteredNormal, nothingCreated, withLock, withMode, applied, noted}
 use Rattle.machine.specs.Module.{part, queue, channel, current, withPart, withTime, withQueue, noPartition}
 use Rattle.machine.specs.Channels.{portOf, otherEnd, erasedTo}
 use Rattle.machine.specs.Decisions.{checked, replyOf, changed}
@@ -35,22 +36,24 @@ use Rattle.machine.specs.Places.{strayField}
 use Rattle.machine.specs.Step.{contextOf, decision, moduleAfter, sees, step}
 use Rattle.machine.specs.LeftRight.{after}
 use Rattle.machine.specs.Valid.{Between, ListedIn, SameHolder, SoundModule, SoundChange, SoundDecision, Reached, plainTick}
+use Rattle.machine.specs.Plain.{idsFrom}
 use Rattle.machine.specs.Starred.{own, callBy, Refuses, Puts, Gives, Calling, withProcess, without}
 use Rattle.machine.specs.Locks.{LockHolds, SameLock, NoLockCall, NoLockCalls, LockedThroughout, lock, unlock, Locks}
 use Rattle.machine.proofs.Tests.{by-test, by-codes, Passed, not-both}
-use Rattle.machine.proofs.Bounds.{not-so}
+use Rattle.machine.proofs.Bounds.{not-so, so}
 use Rattle.machine.proofs.Either.{either}
 use Rattle.machine.proofs.Fields.{in-limits}
 use Rattle.machine.proofs.Dispatch.{Calls, by-event}
-use Rattle.machine.proofs.Bodies.{Bodily, LevelBy, setsLevel, bodyRefusal}
-use Rattle.machine.proofs.Keeping.{Rest, stored-rest, changed-rest, each-rest}
+use Rattle.machine.proofs.Bodies.{Bodily, leavesLevel, setsLevel, bodyRefusal}
+use Rattle.machine.proofs.Keeping.{Rest, stored-rest, each-changed, changed-rest}
 use Rattle.machine.proofs.Kept.{running-caller, nothing-valid}
 use Rattle.machine.proofs.Running.{holder-runs}
 use Rattle.machine.proofs.Sound.{ready-off}
 use Rattle.machine.proofs.Reached.{at-set, plain-part, tick-module-plain, place, made, made-sound, made-body, part-sound, erased-sound, refilled-keeps, on-queue, valid-sound, reached-valid, decided-sound}
 use Rattle.machine.proofs.Answers.{decided-table}
-use Rattle.machine.proofs.Calling.{field-number, number-of, calling-sound, calling-place, calling-valid, gives, own-after}
+use Rattle.machine.proofs.Calling.{field-number, number-of, calling-sound, calling-valid, gives, own-after}
 use Rattle.machine.proofs.Corners.{stored-leaves, puts-is, normal-is, normal-not}
+use Rattle.machine.proofs.Starred.{own-restarted}
 use Rattle.machine.proofs.Isolation.{left-right}
 
 -- ---------------------------------------------------------------- a partition
@@ -66,56 +69,57 @@ rest-lock p q e = record { level = ap (λ (x : Partition). x .level) e; holder =
 noted-lock : (p q : Partition) → SameLock p q → SameLock p (noted q)
 noted-lock p q e = record { level = e .level; holder = e .holder }
 
+buffer-lock : (k : ℕ) (b : Buffer) (p : Partition) → SameLock p (storedBuffer k b p)
+unfolding storedBuffer
+buffer-lock k b p = by-test (SameLock p) (within bufferLimit k) (λ _. record { level = refl; holder = refl }) (λ _. same-lock p)
+
 ended-lock : (a : Transfer) (p : Partition) → SameLock p (endedBy a p)
 ended-lock (Put m) p = same-lock p
 ended-lock (HandedTo id m) p = rest-lock p _ (stored-rest p id _)
 ended-lock Taken p = same-lock p
 ended-lock (LetIn id m) p = rest-lock p _ (stored-rest p id _)
 
-tick-lock : (t : ℕ) (p : Partition) → ListedIn p → SameLock p (tickPartition t p)
-unfolding tickPartition
-tick-lock t p v = by-test (SameLock p) (normalMode p) (λ _. rest-lock p _ (each-rest (ticked t) p v)) (λ _. same-lock p)
+each-lock : (f : Process → Process) (p : Partition) → SameLock p (each f p)
+each-lock f p = rw (each-changed f (p .processCount) 1 p) (rest-lock p _ (changed-rest f (idsFrom (p .processCount) 1) p))
 
--- a change of a call other than 1, 6, 32 and 33
-change-lock : (n : ℕ) → setsLevel n ≡ false → (a : Change) → LevelBy n a → (p : Partition) → SameLock p (applied a p)
-unfolding created arrivedLast storedSemaphore storedEvent storedBuffer storedBlackboard
-change-lock n off Nothing h p = same-lock p
-change-lock n off (Stored id x) h p = rest-lock p _ (stored-rest p id x)
-change-lock n off (Created id x) h p = by-test (SameLock p) (within processLimit id) (λ _. record { level = refl; holder = refl }) (λ _. same-lock p)
-change-lock n off (Last id) h p = record { level = refl; holder = refl }
-change-lock n off (StoredSemaphore k s) h p = by-test (SameLock p) (within semaphoreLimit k) (λ _. record { level = refl; holder = refl }) (λ _. same-lock p)
-change-lock n off (StoredEvent k e) h p = by-test (SameLock p) (within eventLimit k) (λ _. record { level = refl; holder = refl }) (λ _. same-lock p)
-change-lock n off (CreatedBuffer k name limit) h p = by-test (SameLock p) (within bufferLimit k) (λ _. record { level = refl; holder = refl }) (λ _. same-lock p)
-change-lock n off (Moved k a) h p =
-    lock-along p (storedBuffer k (movedIn a (buffer k p)) p) _
-    (by-test (SameLock p) (within bufferLimit k) (λ _. record { level = refl; holder = refl }) (λ _. same-lock p))
-    (ended-lock a (storedBuffer k (movedIn a (buffer k p)) p))
-change-lock n off (StoredBlackboard k b) h p = by-test (SameLock p) (within blackboardLimit k) (λ _. record { level = refl; holder = refl }) (λ _. same-lock p)
-change-lock n off (Ended o) h p = rest-lock p _ (changed-rest served (waiters o p) p)
-change-lock n off (Handed o m) h p = rest-lock p _ (changed-rest (handed m) (waiters o p) p)
-change-lock n off (LevelSet level holder) h p = not-both _ h off
-change-lock n off (Entered c) h p = not-both _ h off
+tick-lock : (t : ℕ) (p : Partition) → SameLock p (tickPartition t p)
+unfolding tickPartition
+tick-lock t p = by-test (SameLock p) (normalMode p) (λ _. each-lock (ticked t) p) (λ _. same-lock p)
 
 -- from a level above 0 to another the holder stays
 abbrev Holding : Partition → Partition → Type 0
 Holding p q = SameHolder p (q .level) (q .holder)
 
--- what each change of a call makes of the holder
-change-holding : (c : Context) (p : Partition) → ListedIn p → (a : Change) → SoundChange c p a → Holding p (applied a p)
-unfolding enteredNormal
-change-holding c p v Nothing h _ _ = refl
-change-holding c p v (Stored id x) h _ _ = change-lock 0 refl (Stored id x) tt p .holder
-change-holding c p v (Created id x) h _ _ = change-lock 0 refl (Created id x) tt p .holder
-change-holding c p v (Last id) h _ _ = change-lock 0 refl (Last id) tt p .holder
-change-holding c p v (StoredSemaphore k s) h _ _ = change-lock 0 refl (StoredSemaphore k s) tt p .holder
-change-holding c p v (StoredEvent k e) h _ _ = change-lock 0 refl (StoredEvent k e) tt p .holder
-change-holding c p v (CreatedBuffer k name limit) h _ _ = change-lock 0 refl (CreatedBuffer k name limit) tt p .holder
-change-holding c p v (Moved k a) h _ _ = change-lock 0 refl (Moved k a) tt p .holder
-change-holding c p v (StoredBlackboard k b) h _ _ = change-lock 0 refl (StoredBlackboard k b) tt p .holder
-change-holding c p v (Ended o) h _ _ = change-lock 0 refl (Ended o) tt p .holder
-change-holding c p v (Handed o m) h _ _ = change-lock 0 refl (Handed o m) tt p .holder
-change-holding c p v (LevelSet level holder) h some more = h .1 some more
-change-holding c p v (Entered d) h _ more = absurd (let z = rest-lock (withMode 3 p) _ (each-rest (entered d) (withMode 3 p) v) .level in omega (arith, more, z))
+-- the lock is what it was, under a premise; in any case the holder stays while the level is above 0
+record LockAfter (Leaves : Type 0) (p q : Partition) : Type 0 where
+  same : Leaves → SameLock p q
+  holding : Holding p q
+
+module _ {Leaves : Type 0} where
+  left : (p q : Partition) → SameLock p q → LockAfter Leaves p q
+  left p q l = record { same = λ _. l; holding = λ _ _. l .holder }
+
+  then-left : (p q r : Partition) → LockAfter Leaves p q → SameLock q r → LockAfter Leaves p r
+  then-left p q r f g = record { same = λ e. lock-along p q r (f .same e) g; holding = λ some more. g .holder ∙ f .holding some (let z = g .level in omega arith) }
+
+-- each change that a call makes
+change-lock : (c : Context) (p : Partition) (a : Change) → SoundChange c p a → LockAfter (leavesLevel a ≡ true) p (applied a p)
+unfolding created arrivedLast storedSemaphore storedEvent storedBuffer storedBlackboard enteredNormal
+change-lock c p Nothing h = left p p (same-lock p)
+change-lock c p (Stored id x) h = left p _ (rest-lock p _ (stored-rest p id x))
+change-lock c p (Created id x) h = left p _ (by-test (SameLock p) (within processLimit id) (λ _. record { level = refl; holder = refl }) (λ _. same-lock p))
+change-lock c p (Last id) h = left p _ (record { level = refl; holder = refl })
+change-lock c p (StoredSemaphore k s) h = left p _ (by-test (SameLock p) (within semaphoreLimit k) (λ _. record { level = refl; holder = refl }) (λ _. same-lock p))
+change-lock c p (StoredEvent k e) h = left p _ (by-test (SameLock p) (within eventLimit k) (λ _. record { level = refl; holder = refl }) (λ _. same-lock p))
+change-lock c p (CreatedBuffer k name limit) h = left p _ (buffer-lock k (emptyBuffer name limit) p)
+change-lock c p (Moved k a) h =
+    let q = movedIn a (buffer k p) in
+    left p _ (lock-along p (storedBuffer k q p) _ (buffer-lock k q p) (ended-lock a (storedBuffer k q p)))
+change-lock c p (StoredBlackboard k b) h = left p _ (by-test (SameLock p) (within blackboardLimit k) (λ _. record { level = refl; holder = refl }) (λ _. same-lock p))
+change-lock c p (Ended o) h = left p _ (rest-lock p _ (changed-rest served (waiters o p) p))
+change-lock c p (Handed o m) h = left p _ (rest-lock p _ (changed-rest (handed m) (waiters o p) p))
+change-lock c p (LevelSet level holder) h = record { same = λ e. not-both _ e refl; holding = h .1 }
+change-lock c p (Entered d) h = record { same = λ e. not-both _ e refl; holding = λ _ more. absurd (let z = each-lock (entered d) (withMode 3 p) .level in omega (arith, more, z)) }
 
 -- ---------------------------------------------------------------- an event
 module _ (m : Module) (s : SoundModule m) (r : Request) where
@@ -129,22 +133,15 @@ module _ (m : Module) (s : SoundModule m) (r : Request) where
   abbrev Elsewhere : ℕ → Type 0
   Elsewhere i = (k ≡ 0 → ⊥) → i ≡ k - 1 → setsLevel n ≡ false
 
-  -- the lock of partition number i + 1 is what it was; else its holder stays while the level is above 0
-  record Left (i : ℕ) (q : Partition) : Type 0 where
-    same : Elsewhere i → SameLock (part m i) q
-    holding : Holding (part m i) q
-
-  leaves : (i : ℕ) (q : Partition) → SameLock (part m i) q → Left i q
-  leaves i q l = record { same = λ _. l; holding = λ _ _. l .holder }
-
-  then-leaves : (i : ℕ) (p q : Partition) → Left i p → SameLock p q → Left i q
-  then-leaves i p q f g = record { same = λ e. lock-along (part m i) p q (f .same e) g; holding = λ some more. g .holder ∙ f .holding some (let z = g .level in omega arith) }
+  -- the lock of partition number i + 1 then
+  abbrev Left : ℕ → Partition → Type 0
+  Left i q = LockAfter (Elsewhere i) (part m i) q
 
   same-left : (i : ℕ) → i < m .table .size → Left i (part m i)
-  same-left i l = leaves i (part m i) (same-lock (part m i))
+  same-left i l = left (part m i) (part m i) (same-lock (part m i))
 
   puts : (x : Module) → x .partitions ≡ m .partitions → (j : ℕ) → j < m .table .size → (p : Partition) → Left j p → (i : ℕ) → i < m .table .size → Left i (part (withPart j p x) i)
-  puts x e j inside p h i l = rw e (at-set Left (m .partitions) j (noted p) noPartition (omega (arith, inside, s .partitionsSize, s .table .size .1)) i (then-leaves j p (noted p) h (record { level = refl; holder = refl })) (λ _. same-left i l))
+  puts x e j inside p h i l = rw e (at-set Left (m .partitions) j (noted p) noPartition (omega (arith, inside, s .partitionsSize, s .table .size .1)) i (then-left (part m j) p (noted p) h (noted-lock p p (same-lock p))) (λ _. same-left i l))
 
   module _ (q : Calls m r) where
     abbrev now : Partition
@@ -157,21 +154,22 @@ module _ (m : Module) (s : SoundModule m) (r : Request) where
     decided-lock (Refused c) h b = same-left
     decided-lock (Unchanged v e) h b = same-left
     decided-lock Ticked h b = absurd b
-    decided-lock (Blocked id x) h b = puts m refl (k - 1) here (stored id x now) (leaves (k - 1) _ (rest-lock now _ (stored-rest now id x)))
-    decided-lock (Changed x y v) h b = puts m refl (k - 1) here (applied y (applied x now)) (then-leaves (k - 1) (applied x now) _
-        (record { same = λ u. change-lock n (u (q .some) refl) x (b .0) now; holding = change-holding (contextOf m k) now (s .eachPartition (k - 1) here .lists) x (h .0) })
-        (change-lock 0 refl y (b .1) (applied x now)))
+    decided-lock (Blocked id x) h b = puts m refl (k - 1) here (stored id x now) (left now _ (rest-lock now _ (stored-rest now id x)))
+    decided-lock (Changed x y v) h b =
+        let f = change-lock (contextOf m k) now x (h .0) in
+        let g = change-lock (contextOf m k) (applied x now) y (h .1) .same (b .1) in
+        puts m refl (k - 1) here (applied y (applied x now)) (then-left now (applied x now) _ (record { same = λ u. f .same (so (leavesLevel x) (λ e. not-both _ (rw e at (b .0)) (u (q .some) refl))); holding = f .holding }) g)
     decided-lock (Restarted mode) h b =
         let u = erasedTo k channelLimit m in
         let p = nothingCreated mode in
         refilled-keeps Left k (withPart (k - 1) p u) (part-sound u (erased-sound k channelLimit m (omega arith) s) (k - 1) here p (nothing-valid (m .table .frame) (m .t) mode h)) channelLimit
-        (λ i _ _ size frame t p v h. then-leaves _ p _ h (noted-lock p _ (rest-lock p _ (changed-rest served (take size (waiters _ p)) p))))
+        (λ i _ _ size frame t p v h. then-left _ p _ h (noted-lock p _ (rest-lock p _ (changed-rest served (take size (waiters _ p)) p))))
         (puts u refl (k - 1) here p (record { same = λ u. not-both _ b (u (q .some) refl); holding = λ _ more. absurd (omega arith) }))
     decided-lock (Written j x) h b = same-left
     decided-lock (PassedOn j a v) h b =
         let e = otherEnd k (channel (m .table) j) - 1 in
         by-test (λ (x : Module). (i : ℕ) → i < m .table .size → Left i (part x i)) (endsWait a)
-        (λ _. puts (withQueue j (moved a (queue m j)) m) refl e (on-queue m s r q j a v b .inside) (endedBy a (part m e)) (leaves e _ (ended-lock a (part m e))))
+        (λ _. puts (withQueue j (moved a (queue m j)) m) refl e (on-queue m s r q j a v b .inside) (endedBy a (part m e)) (left (part m e) _ (ended-lock a (part m e))))
         (λ _. same-left)
 
   event-lock : (i : ℕ) → i < m .table .size → Left i (part (moduleAfter m k (decision m r)) i)
@@ -180,7 +178,7 @@ module _ (m : Module) (s : SoundModule m) (r : Request) where
       (λ _ _. same-left)
       (λ _ _ _ i l.
       let long : m .table .size ≤ length (m .partitions) = omega (arith, s .partitionsSize, s .table .size .1) in
-      rw (tick-module-plain m (inr s), plain-part (m .table .size) (withTime (m .t + 1) m) long i l) (leaves i _ (noted-lock (part m i) _ (tick-lock (m .t + 1) (part m i) (s .eachPartition i l .lists)))))
+      rw (tick-module-plain m (inr s), plain-part (m .table .size) (withTime (m .t + 1) m) long i l) (left (part m i) _ (noted-lock (part m i) _ (tick-lock (m .t + 1) (part m i)))))
       (λ q. decided-lock q (made m s r q) (made-sound m s r q) (made-body m s r q))
 
 -- ---------------------------------------------------------------- an event's numbers
@@ -333,17 +331,6 @@ module _ (m : Module) (k : ℕ) (u : SoundModule m) (h : Calling m k) where
       is : Gives m asks (replyOf d .code) (replyOf d .value) (replyOf d .extra) (moduleAfter m k d)
           → (replyOf d .code ≡ 0 → (later .level ≡ 0) × (later .holder ≡ 0)) × ((replyOf d .code ≡ 0 → ⊥) → step m asks .state ≡ m)
 
-    restarts-free : (mode : ℕ) → mode ≤ modeLimit → let q = part (moduleAfter m k (Restarted mode)) (k - 1) in (q .level ≡ 0) × (q .holder ≡ 0)
-    restarts-free mode few =
-        let x = erasedTo k channelLimit m in
-        let q = nothingCreated mode in
-        let here = calling-place m k u h in
-        let s = part-sound x (erased-sound k channelLimit m (omega arith) u) (k - 1) here q (nothing-valid (m .table .frame) (m .t) mode few) in
-        refilled-keeps (λ i (y : Partition). i ≡ k - 1 → (y .level ≡ 0) × (y .holder ≡ 0)) k (withPart (k - 1) q x) s channelLimit
-        (λ i _ _ size frame t y v f e. let l = rest-lock y _ (changed-rest served (take size (waiters (object (Source (i + 1) 0)) y)) y) in (l .level ∙ f e .0, l .holder ∙ f e .1))
-        (λ i l. at-set (λ i (y : Partition). i ≡ k - 1 → (y .level ≡ 0) × (y .holder ≡ 0)) (m .partitions) (k - 1) (noted q) noPartition (omega (arith, here, u .partitionsSize, u .table .size .1)) i (λ _. (refl, refl)) (λ ne e. absurd (ne e)))
-        (k - 1) here refl
-
     mode-set : ModeSet (setMode (contextOf m k) (field a) p)
     unfolding setMode Passed enteredNormal
     mode-set = by-codes ModeSet bodyRefusal Refused _ _ refl
@@ -352,16 +339,15 @@ module _ (m : Module) (k : ℕ) (u : SoundModule m) (h : Calling m k) where
         (λ _. record {
           is = λ g.
               let q = enteredNormal (contextOf m k) p in
-              let l = rest-lock (withMode 3 p) q (each-rest (entered (contextOf m k)) (withMode 3 p) lists) in
+              let l = each-lock (entered (contextOf m k)) (withMode 3 p) in
               let e = own-after m k u h q g in
               (λ _. (ap (λ (y : Partition). y .level) e ∙ l .level, ap (λ (y : Partition). y .holder) e ∙ l .holder), λ some. absurd (some refl));
         })
         (λ _. record {
           is = λ g.
               let few = in-limits 0 modeLimit (field a) (not-false _ (f .0)) .1 in
-              let e = ap (λ (x : Module). own x k) (g .state) in
-              let l = restarts-free (numberOf (field a)) few in
-              (λ _. (ap (λ (y : Partition). y .level) e ∙ l .0, ap (λ (y : Partition). y .holder) e ∙ l .1), λ some. absurd (some refl));
+              let e = ap (λ (x : Module). own x k) (g .state) ∙ own-restarted m k u h (numberOf (field a)) few in
+              (λ _. (ap (λ (y : Partition). y .level) e, ap (λ (y : Partition). y .holder) e), λ some. absurd (some refl));
         }))
 
     mode-gives : let d = setMode (contextOf m k) (field a) p in Gives m asks (replyOf d .code) (replyOf d .value) (replyOf d .extra) (moduleAfter m k d)

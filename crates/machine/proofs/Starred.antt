@@ -27,7 +27,7 @@ use Rattle.machine.specs.declared.Wait.{Wait}
 use Rattle.machine.specs.declared.Wait.the-variants.{None, Normal, Delay, Timed, Period, Semaphore, Event, Sending, Receiving, Blackboard, Source, Destination}
 use Rattle.machine.specs.declared.Time.{Time}
 use Rattle.machine.specs.declared.Time.the-variants.{Never, At}
-use Rattle.machine.specs.Limits.{timeLimit, channelLimit}
+use Rattle.machine.specs.Limits.{timeLimit, channelLimit, modeLimit}
 use Rattle.machine.specs.Fields.{field, requestOf, isNumber, numberOf}
 use Rattle.machine.specs.Ids.{members, kept}
 use Rattle.machine.specs.Messages.{noQueue, held, endsWait}
@@ -320,6 +320,16 @@ module _ (m : Module) (u : SoundModule m) (room : m .t < timeLimit) (k id : ℕ)
 -- ---------------------------------------------------------------- calls
 module _ (m : Module) (k : ℕ) (u : SoundModule m) (h : Calling m k) where
   -- ---------------------------------------------------------------- modes 0, 1, 2
+  -- the caller's partition then: nothing refills it
+  pub own-restarted : (mode : ℕ) → mode ≤ modeLimit → own (St.restarted k (nothingCreated mode) m) k ≡ noted (nothingCreated mode)
+  own-restarted mode low =
+      let p = nothingCreated mode in
+      let place = calling-place m k u h in
+      let erased = Ch.erasedTo k channelLimit m in
+      let w = part-sound erased (erased-sound k channelLimit m (omega arith) u) (k - 1) place p (nothing-valid (m .table .frame) (m .t) mode low) in
+      refilled-part-other k (M.withPart (k - 1) p erased) w channelLimit (k - 1) place (λ i f z. let c = u .table .eachChannel i (f .there) in c .apart (omega (arith, c .source .0, c .destination .0, f .into)))
+      ∙ getD-set-same (m .partitions) (k - 1) (noted p) M.noPartition (omega (arith, place, u .partitionsSize, u .table .size .1))
+
   module _ (mode : ℕ) (low : mode ≤ 2) (warm : mode ≡ 2 → own m k .mode ≡ 1 → ⊥) where
     restart-gives : Gives m (callBy k 1 (pos mode) (pos 0) (pos 0) (pos 0)) 0 0 (At 0) (St.restarted k (nothingCreated mode) m)
     unfolding callDecision services Pl.strayField C.setMode D.checked
@@ -348,9 +358,7 @@ module _ (m : Module) (k : ℕ) (u : SoundModule m) (h : Calling m k) where
         let w = part-sound erased (erased-sound k channelLimit m (omega arith) u) (k - 1) place p (nothing-valid (m .table .frame) (m .t) mode (omega arith)) in
         let messages = refilled-messages k channelLimit q in (
           g .codeIs,
-          ap (λ (n : Module). own n k) (g .state)
-              ∙ refilled-part-other k q w channelLimit (k - 1) place (λ i f z. let c = u .table .eachChannel i (f .there) in c .apart (omega (arith, c .source .0, c .destination .0, f .into)))
-              ∙ getD-set-same (m .partitions) (k - 1) (noted p) M.noPartition (omega (arith, place, u .partitionsSize, u .table .size .1)),
+          ap (λ (n : Module). own n k) (g .state) ∙ own-restarted mode (omega arith),
           λ i b d. ap (λ (n : Module). M.message n i .present) (g .state) ∙ ap (λ (l : List Message). getD l i D.noMessage .present) messages ∙ ap (λ (x : Message). x .present) (erased-own k channelLimit m i (omega (arith, u .table .channelCount)) (omega (arith, u .messagesSize)) d),
           λ i ne. ap (λ (n : Module). M.message n i) (g .state) ∙ ap (λ (l : List Message). getD l i D.noMessage) messages ∙ erased-other k channelLimit m i (ne-eqb _ k ne),
           λ i b full d.

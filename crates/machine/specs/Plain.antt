@@ -1,5 +1,6 @@
 -- The machine with no bound. So as to be total, the definitions carry bounds: an id outside its limit names the default and stores nothing,
--- a full list or queue stays as it is, a level above 16 counts as 16, a channel is queuing between partitions 1 to 8 only, sums of times and a semaphore's value stop at the greatest, at most 8 partitions are ticked, M = 0 gives 0, and
+-- a full list or queue stays as it is, a level above 16 counts as 16, a channel is queuing between partitions 1 to 8 only, sums of times and
+-- a semaphore's value stop at the greatest, at most 8 partitions are ticked, M = 0 gives 0, and
 -- a number past the greatest time is no number. Here the same is said without them, and what it means that none of them acts at an event:
 -- `no-bound-acts` proves it of every event at every record that a run reaches. Nothing of the machine rests on it.
 use Prim.Native.Nat.{ℕ, zero, suc, _+_, _-_, _%_, _≤_, _<_}

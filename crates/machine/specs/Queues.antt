@@ -193,7 +193,8 @@ pub record QueueCalls (m : Module) (k j : ℕ) : Type 0 where
 
 -- buffers and blackboards; b is a message
 pub record MessageCalls (m : Module) (k j : ℕ) : Type 0 where
-  -- 24 SEND_BUFFER to a full buffer, 25 RECEIVE_BUFFER from an empty one, 28 READ_BLACKBOARD of one that shows nothing: queued last, or 5 while preemption is locked
+  -- 24 SEND_BUFFER to a full buffer, 25 RECEIVE_BUFFER from an empty one, 28 READ_BLACKBOARD of one that shows nothing: queued last, or 5
+  -- while preemption is locked
   pub sendWaits : (b : ℕ) (a : ℤ) → let p = own m k in
       p .mode ≡ 3 → Between 1 (p .bufferCount) j → buffer j p .queue .len ≡ buffer j p .limit → b ≤ durationLimit → WaitsFor a
       → WouldWait m k (callBy k 24 (pos j) (pos b) a (pos 0)) (Sending j b)

@@ -1,7 +1,7 @@
 -- The cases of document 01 marked with a star, and its mistakes to shut out, with what document 02 adds, as one list of claims about
 -- `step`: each for every reached record, table and event to which it applies, with what the answer and the record then hold; the worked
--- example, its continuation and the examples of releases inside a frame and of the preemption lock as computed runs from bytes. The premises speak of an event's
--- numbers, the table, the record, the current partition and the running process.
+-- example, its continuation and the examples of releases inside a frame and of the preemption lock as computed runs from bytes. The
+-- premises speak of an event's numbers, the table, the record, the current partition and the running process.
 use Prim.Native.Nat.{ℕ, suc, _+_, _-_, _*_, _/_, _%_, _≤_, _<_}
 use mathlib.Core.Path.{_≡_}
 use mathlib.Core.Bool.{Bool, true, false, cond, _||_}
@@ -273,8 +273,8 @@ pub record Corners (m : Module) (k : ℕ) : Type 0 where
       Between 1 (m .table .channelCount) i → channel (m .table) (i - 1) .size ≡ 0 → channel (m .table) (i - 1) .destination ≡ k → x .present ≡ true
       → (m .t ≡ x .written + refresh → Gives m (callBy k 22 (pos i) (pos 0) (pos 0) (pos 0)) 0 (x .value) (At 1) m)
       × (m .t ≡ x .written + refresh + 1 → Gives m (callBy k 22 (pos i) (pos 0) (pos 0) (pos 0)) 0 (x .value) (At 0) m)
-  -- timeout 0: SUSPEND_SELF changes nothing, TIMED_WAIT puts the caller last, WAIT_SEMAPHORE and WAIT_EVENT answer 2 where they would wait, and
-  -- succeed where they need not; the calls of document 02 that wait answer 2 too (where they need not wait, and
+  -- timeout 0: SUSPEND_SELF changes nothing and TIMED_WAIT puts the caller last (both at level 0 of the preemption lock), WAIT_SEMAPHORE and
+  -- WAIT_EVENT answer 2 where they would wait, and succeed where they need not; the calls of document 02 that wait answer 2 too (where they need not wait, and
   -- 30 and 31: `MessageCalls` and `ChannelCalls` of Queues)
   pub suspendSelf : let p = own m k in
       p .mode ≡ 3 → p .level ≡ 0 → process (running p) p .given .period ≡ Never

@@ -386,7 +386,8 @@ SoundDecision c p (Restarted mode) = mode ≤ modeLimit
 SoundDecision c p (Written i x) = SoundMessage (c .time) x
 SoundDecision c p (Passed i a value) = value ≤ numberLimit
 
--- the running process id where preemption is not locked: READY, every member of the arrival list before it of smaller current priority, every one after it of none greater
+-- the running process id where preemption is not locked: READY, every member of the arrival list before it of smaller current priority, every
+-- one after it of none greater
 pub record Runs (p : Partition) (id : ℕ) : Type 0 where
   pub isReady : ready (process id p) ≡ true
   pub before : List ℕ

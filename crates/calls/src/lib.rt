@@ -1,4 +1,4 @@
-// Calls 1 to 13, 32 and 33: what each decides. Beside each call: how many of the fields a, b, c, e it uses.
+// Calls 1 to 13 and 32 to 34: what each decides. Beside each call: how many of the fields a, b, c, e it uses.
 ghost use mathlib.Core.Path.{_≡_};
 ghost use mathlib.Core.Bool.{cond, not, _&&_, _||_};
 ghost use lib.Dec.{eqb};
@@ -8,7 +8,7 @@ ghost use Rattle.machine.specs.Fields.{isNumber, isMinusOne, between, isDuratio
 ghost use Rattle.machine.specs.Process.{periodic};
 ghost use Rattle.machine.specs.declared.Change.the-variants.{Nothing, Last};
 ghost use Rattle.machine.specs.Decisions.{dormant};
-ghost use Rattle.machine.specs.Calls.{setMode, processNamed, isMultiple, above, isPriority, admissible, createProcess, reaches, start, stop, stopSelf, suspend, suspendSelf, timedWait, periodicWait, resume, setPriority, status, getStatus, lockPreemption, unlockPreemption};
+ghost use Rattle.machine.specs.Calls.{setMode, processNamed, isMultiple, above, isPriority, admissible, createProcess, reaches, start, stop, stopSelf, suspend, suspendSelf, timedWait, periodicWait, resume, setPriority, status, getStatus, lockPreemption, unlockPreemption, getTicksLeft};
 use machine::Change;
 use machine::Context;
 use machine::Decision;
@@ -486,4 +486,13 @@ pub fn unlock_preemption(p: Partition) -> Decision
         return decisions::changed(Change::LevelSet(level, p.holder));
     }
     decisions::changed(Change::LevelSet(level, 0))
+}
+
+pub const GET_TICKS_LEFT_FIELDS: u8 = 0;
+
+// 34 GET_TICKS_LEFT.
+pub fn get_ticks_left(c: Context) -> Decision
+    ensures { λ r. ⌜ r ≡ getTicksLeft c ⌝ }
+{
+    Decision::Unchanged(c.left, Time::At(0))
 }

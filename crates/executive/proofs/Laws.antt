@@ -17,7 +17,7 @@ use Rattle.machine.specs.Decisions.{noCallerAs, coded, checked, codeOf, replyOf
 use Rattle.machine.specs.Messages.{noQueue, moved, endsWait}
 use Rattle.machine.specs.Fields.{requestOf, numberOf}
 use Rattle.machine.specs.Limits.{partitionLimit, channelLimit}
-use Rattle.machine.specs.Module.{noPartition, channel, part, message, queue, current, runningIn, withPart, withMessage, withQueue, withTime}
+use Rattle.machine.specs.Module.{noPartition, channel, part, message, queue, current, ticksLeft, runningIn, withPart, withMessage, withQueue, withTime}
 use Rattle.machine.specs.Partition.{within, running, noted, endedBy, partitionAfter}
 use Rattle.machine.specs.Places.{noCaller, ticks, eventChecks, firstChecks}
 use Rattle.machine.specs.Services.{called}
@@ -71,14 +71,14 @@ code-more ((false, n) ∷ l) k h = code-more l k (and-right (leb 1 n) (codesIn (
 
 -- ---------------------------------------------------------------- the release point
 -- a call that takes no start rule may be shown another
-release-shown : (T : Table) (t k caller n : ℕ) (x : Port) (r : Request) (p : Partition)
-    → called (record { time = t; frame = T .frame; release = releaseFor T t k n; caller = caller }) x n r p ≡ called (record { time = t; frame = T .frame; release = releasePoint T t k; caller = caller }) x n r p
-release-shown T t k caller n x r p = either (takesStartRule n)
+release-shown : (T : Table) (t k left caller n : ℕ) (x : Port) (r : Request) (p : Partition)
+    → called (record { time = t; frame = T .frame; left = left; release = releaseFor T t k n; caller = caller }) x n r p ≡ called (record { time = t; frame = T .frame; left = left; release = releasePoint T t k; caller = caller }) x n r p
+release-shown T t k left caller n x r p = either (takesStartRule n)
     (λ e. rw e)
     (λ e.
     let late = or-right (eqb n 1) _ e in
     ap (checked Refused ((noCallerAs caller p, 9) ∷ []))
-    (release-unseen t (T .frame) caller n x r p (eqb-false n 1 (or-left (eqb n 1) _ e)) (eqb-false n 3 (or-left (eqb n 3) _ late)) (eqb-false n 4 (or-right (eqb n 3) _ late)) _ _))
+    (release-unseen t (T .frame) left caller n x r p (eqb-false n 1 (or-left (eqb n 1) _ e)) (eqb-false n 3 (or-left (eqb n 3) _ late)) (eqb-false n 4 (or-right (eqb n 3) _ late)) _ _))
 
 -- ---------------------------------------------------------------- the places
 abbrev own : Request → ℕ
@@ -273,6 +273,10 @@ module _ {m : Module} {e : Event} {T : Table} {x : Plan} (f : Planned m e T x) w
   unfolding planOf
   current-is = rw here
 
+  left-is : x .left ≡ lookup (m .table) time .left
+  unfolding planOf
+  left-is = rw here
+
   ticks-is : x .ticks ≡ tickCount (m .table) (x .code) k
   unfolding planOf
   ticks-is = rw here
@@ -298,6 +302,9 @@ module _ {m : Module} {e : Event} {T : Table} {x : Plan} (f : Planned m e T x) w
   -- a call looks at the window that is current
   seen : ticks r ≡ false → now ≡ current m
   seen z = ap (λ (t : ℕ). lookup (m .table) t .partition) (time-called (m .table) (m .t) now r z)
+
+  left-seen : ticks r ≡ false → x .left ≡ ticksLeft m
+  left-seen z = left-is ∙ ap (λ (t : ℕ). lookup (m .table) t .left) (time-called (m .table) (m .t) now r z)
 
   -- a call that no place refuses: its partition has a place, and is the current one
   pub record Called : Type 0 where
@@ -363,14 +370,14 @@ module _ {m : Module} {e : Event} {T : Table} {x : Plan} (f : Planned m e T x) w
       -- what the code decides is the machine's decision
       module _ {caller v : ℕ} {hold : Message} {port : Port} {d : Decision} (runs : caller ≡ running (part q (x .slot))) (point : v ≡ releaseFor T (q .t) (x .own) (x .call)) (lies : hold ≡ message q (x .place))
           {view : Traffic} (shows : view ≡ seenTraffic T q (x .own) (x .place)) (sees-port : port ≡ portAt T (x .own) (x .request .a) hold view)
-          (made : d ≡ called (record { time = q .t; frame = T .frame; release = v; caller = caller }) port (x .call) (x .request) (part q (x .slot))) where
+          (made : d ≡ called (record { time = q .t; frame = T .frame; left = x .left; release = v; caller = caller }) port (x .call) (x .request) (part q (x .slot))) where
         made-is : d ≡ decision m r
         made-is =
             let c = calls inside in
             let w = called-same in
-            let shown : called (record { time = q .t; frame = T .frame; release = v; caller = caller }) port (x .call) (x .request) (part q (x .slot)) ≡ called (record { time = q .t; frame = T .frame; release = releasePoint T (q .t) (x .own); caller = caller }) port (x .call) (x .request) (part q (x .slot)) =
-            rw point (release-shown T (q .t) (x .own) caller (x .call) port (x .request) (part q (x .slot))) in
-            made ∙ shown ∙ rw (runs, sees-port, lies, shows, w, ← f .same, request-is, own-is, call-is, place-is, c .slot) (sym (place-passed m r (f .long) now seen (x .code) code-is (c .none) ∙ rw (c .some)))
+            let shown : called (record { time = q .t; frame = T .frame; left = x .left; release = v; caller = caller }) port (x .call) (x .request) (part q (x .slot)) ≡ called (record { time = q .t; frame = T .frame; left = x .left; release = releasePoint T (q .t) (x .own); caller = caller }) port (x .call) (x .request) (part q (x .slot)) =
+            rw point (release-shown T (q .t) (x .own) (x .left) caller (x .call) port (x .request) (part q (x .slot))) in
+            made ∙ shown ∙ rw (runs, sees-port, lies, shows, w, ← f .same, request-is, own-is, call-is, place-is, left-seen (c .some), c .slot) (sym (place-passed m r (f .long) now seen (x .code) code-is (c .none) ∙ rw (c .some)))
 
         made-called : d ≡ called (contextOf m k) (portOf m k r) (numberOf (r .call)) r (part m (k - 1))
         made-called = made-is ∙ place-passed m r (f .long) now seen (x .code) code-is (calls inside .none) ∙ chosen (calls inside .some)

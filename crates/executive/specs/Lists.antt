@@ -19,6 +19,7 @@ use Rattle.machine.specs.Windows.{lookup, releasePoint}
 use Rattle.machine.specs.declared.Answer.{Answer}
 use Rattle.machine.specs.declared.Event.{Event}
 use Rattle.machine.specs.declared.EventRecord.{EventRecord}
+use Rattle.machine.specs.declared.Lookup.{Lookup}
 use Rattle.machine.specs.declared.Module.{Module}
 use Rattle.machine.specs.declared.Request.{Request}
 use Rattle.machine.specs.declared.Table.{Table}
@@ -62,13 +63,14 @@ releaseFor T t k n = cond (takesStartRule n) (releasePoint T t k) 0
 abbrev pub shownSlot : Request → ℕ → ℕ
 shownSlot r k = cond (sees r k) (slotOf k) partitionLimit
 
-abbrev pub planned : Table → Request → ℕ → Placed → ℕ → Plan
-planned T r k x now =
+abbrev pub planned : Table → Request → ℕ → Placed → Lookup → Plan
+planned T r k x v =
+    let now = v .partition in
     let code = placeCode (x .code) k now in
-    record { request = r; own = k; call = numberOf (r .call); place = numberOf (r .a) - 1; code = code; time = x .time; current = now; ticks = tickCount T code k; spot = slotOf now; slot = callSlot code k; shown = shownSlot r now }
+    record { request = r; own = k; call = numberOf (r .call); place = numberOf (r .a) - 1; code = code; time = x .time; current = now; left = v .left; ticks = tickCount T code k; spot = slotOf now; slot = callSlot code k; shown = shownSlot r now }
 
 abbrev pub requestPlan : Table → ℕ → Request → Plan
-requestPlan T t r = planned T r (numberOf (r .partition)) (placedAt T t r) (lookup T (placedAt T t r .time) .partition)
+requestPlan T t r = planned T r (numberOf (r .partition)) (placedAt T t r) (lookup T (placedAt T t r .time))
 
 unfoldable pub planOf : Table → ℕ → Event → Plan
 planOf T t e = requestPlan T t (requestOf e)

@@ -38,8 +38,8 @@ pub struct Opening {
 }
 
 // ---------------------------------------------------------------- what an event does, before its partition is looked at
-// The code of the places that need no partition, the time and the current partition after the event, how many partitions are ticked,
-// and where these lie: the channel that a call may name, the current partition, the one that makes a call, the one whose
+// The code of the places that need no partition, the time, the current partition and the ticks left after the event, how many
+// partitions are ticked, and where these lie: the channel that a call may name, the current partition, the one that makes a call, the one whose
 // running process is shown; past the last for none.
 struct Plan {
     request: Request,
@@ -49,6 +49,7 @@ struct Plan {
     code: u8,
     time: u32,
     current: u8,
+    left: u32,
     ticks: usize,
     spot: usize,
     slot: usize,
@@ -165,6 +166,7 @@ fn plan_of(table: Table, t: u32, event: Event) -> Plan
         code,
         time: first.time,
         current: now.partition,
+        left: now.left,
         ticks: tick_count(table, code, own),
         spot: slot_of(now.partition as u32),
         slot: call_slot(code, own),
@@ -307,6 +309,7 @@ impl Executive {
                 let context = Context {
                     time: m.t,
                     frame: table.frame,
+                    left: x.left,
                     release: release_for(table, m.t, x.own, x.call),
                     caller: runs[slot],
                 };

@@ -32,7 +32,8 @@ use Rattle.machine.proofs.Dispatch.{by-event, by-decision}
 use Rattle.machine.proofs.Bodies.{Bodily}
 use Rattle.machine.proofs.Either.{either}
 use Rattle.machine.proofs.Kept.{running-caller}
-use Rattle.machine.proofs.Reached.{current-known, refilled-table, made, made-sound, made-body, decided-sound, reached-valid}
+use Rattle.machine.proofs.WindowLeft.{current-known}
+use Rattle.machine.proofs.Reached.{refilled-table, made, made-sound, made-body, decided-sound, reached-valid}
 
 -- ---------------------------------------------------------------- the table stays
 tick-table : (n : ℕ) (m : Module) → tickTo n m .table ≡ m .table

@@ -34,7 +34,7 @@ use Rattle.machine.specs.Process.{Class, classOf, objectIn, object, late
 use Rattle.machine.specs.Partition.{within, byId, noSemaphore, noEvent, noBuffer, noBlackboard, process, event, buffer, blackboard, normalMode, movedIn, endedBy, firstWaiter, withMode, stored, storedSemaphore, storedEvent, storedBuffer, storedBlackboard, created, arrivedLast, waiters, changedAll, each, enteredNormal, tickPartition, applied, nothingCreated, noted, freshPartition}
 use Rattle.machine.specs.Fields.{isNumber, isMessage, numberOf, timeOf, requestOf}
 use Rattle.machine.specs.Decisions.{checked, changed, blocked, unknown, startMode, queued, awaiting}
-use Rattle.machine.specs.Calls.{setMode, createProcess, start, stop, stopSelf, suspend, suspendSelf, timedWait, periodicWait, resume, setPriority, getStatus, lockPreemption, unlockPreemption}
+use Rattle.machine.specs.Calls.{setMode, createProcess, start, stop, stopSelf, suspend, suspendSelf, timedWait, periodicWait, resume, setPriority, getStatus, lockPreemption, unlockPreemption, getTicksLeft}
 use Rattle.machine.specs.Objects.{withUp, createSemaphore, waitSemaphore, signalled, signal, createEvent, setEvent, resetEvent, waitEvent}
 use Rattle.machine.specs.Buffers.{createBuffer, hasRoom, holds, sendBuffer, receiveBuffer}
 use Rattle.machine.specs.Blackboards.{createBlackboard, show, showing, readBlackboard, clear}
@@ -513,7 +513,7 @@ module _ (c : Context) (p : Partition) (v : Valid (c .frame) (c .time) p) (s : S
       fair-checks _ _ (λ _. fair (no-object (c .caller) (suspendedUntil (later (At (c .time)) (timeOf a)) (process (c .caller) p)) (ready-off (process (c .caller) p) (q .isReady))))))
 
   pub call-fair : (r : Request) → IsFair x n p (callDecision c x n r p)
-  unfolding setMode createProcess start stop stopSelf suspend timedWait periodicWait resume setPriority getStatus blocked write read channelChecks lockPreemption unlockPreemption Passed
+  unfolding setMode createProcess start stop stopSelf suspend timedWait periodicWait resume setPriority getStatus blocked write read channelChecks lockPreemption unlockPreemption getTicksLeft Passed
   call-fair r =
       by-call c x n r p (IsFair x n p)
       (λ _. fair-checks _ _ (λ _. by-test (IsFair x n p) (isNumber 3 (r .a)) (λ _. fair (one-process (Entered c) tt)) (λ _. fair tt)))
@@ -551,6 +551,7 @@ module _ (c : Context) (p : Partition) (v : Valid (c .frame) (c .time) p) (s : S
       (λ e. receive-channel-fair e _)
       (λ _. fair-checks _ _ (λ _. fair (one-process (LevelSet _ _) tt)))
       (λ _. fair-checks _ _ (λ _. fair (one-process (LevelSet _ _) tt)))
+      (fair tt)
       (λ _. fair tt)
 
 -- ---------------------------------------------------------------- a partition after a decision

@@ -25,7 +25,7 @@ use Rattle.machine.specs.Messages.{sent, received}
 use Rattle.machine.specs.Process.{object, ready, withCurrent}
 use Rattle.machine.specs.Partition.{process, waiters}
 use Rattle.machine.specs.Decisions.{checked, replyOf, blocked, startMode, waitChecks, queued, awaiting}
-use Rattle.machine.specs.Calls.{setMode, createProcess, start, stop, stopSelf, suspend, suspendSelf, timedWait, periodicWait, resume, setPriority, getStatus, lockPreemption, unlockPreemption}
+use Rattle.machine.specs.Calls.{setMode, createProcess, start, stop, stopSelf, suspend, suspendSelf, timedWait, periodicWait, resume, setPriority, getStatus, lockPreemption, unlockPreemption, getTicksLeft}
 use Rattle.machine.specs.Objects.{createSemaphore, waitSemaphore, signalled, signal, createEvent, setEvent, resetEvent, waitEvent}
 use Rattle.machine.specs.Channels.{queuing, queuingPort, channelChecks, write, read, send, receive}
 use Rattle.machine.specs.Buffers.{createBuffer, sendBuffer, receiveBuffer}
@@ -135,7 +135,7 @@ module _ (x : Port) (n : ℕ) where
 
   -- the body of each call
   pub call-body : (c : Context) (r : Request) (p : Partition) → 1 ≤ n → n ≤ callLimit → Body x n (callDecision c x n r p)
-  unfolding setMode createProcess start stop stopSelf suspend suspendSelf timedWait periodicWait resume setPriority getStatus createSemaphore createEvent blocked waitSemaphore waitEvent signal setEvent resetEvent write read channelChecks createBuffer sendBuffer receiveBuffer createBlackboard show readBlackboard clear send receive lockPreemption unlockPreemption Passed
+  unfolding setMode createProcess start stop stopSelf suspend suspendSelf timedWait periodicWait resume setPriority getStatus createSemaphore createEvent blocked waitSemaphore waitEvent signal setEvent resetEvent write read channelChecks createBuffer sendBuffer receiveBuffer createBlackboard show readBlackboard clear send receive lockPreemption unlockPreemption getTicksLeft Passed
   call-body c r p lo hi =
       by-call c x n r p (Body x n)
       (λ e. in-body _ _ refl (λ _. by-test (Body x n) (isNumber 3 (r .a)) (λ _. fine (sets e, refl)) (λ _. fine (sets e))))
@@ -170,6 +170,7 @@ module _ (x : Port) (n : ℕ) where
       (λ e. in-wait c _ _ _ _ _ _ _ p refl (λ h _ b. fine (on-queue (x .channel .destination) h (inr (record { call = e; destination = at-end (x .channel .destination) h; some = ltb-true _ _ b; transfer = refl; first = refl })))))
       (λ e. in-body _ _ refl (λ _. fine (rw e, refl)))
       (λ e. in-body _ _ refl (λ _. fine (rw e, refl)))
+      (fine tt)
       (λ out. absurd (out lo hi))
     where
       sets : n ≡ 1 → setsLevel n ≡ true

@@ -30,8 +30,8 @@ use Rattle.machine.specs.Step.{contextOf, decision, moduleAfter, stepped
 use Rattle.machine.specs.Valid.{Valid, ValidModule, SoundModule, SoundContext}
 use Rattle.machine.specs.Starred.{own, callBy, Gives, Calling}
 use Rattle.machine.proofs.Either.{either}
-use Rattle.machine.proofs.Reached.{reached-valid, current-known}
-use Rattle.machine.proofs.Starts.{release-bounds}
+use Rattle.machine.proofs.WindowLeft.{current-known}
+use Rattle.machine.proofs.Reached.{reached-valid, context-of}
 
 -- ---------------------------------------------------------------- an integer as a field
 pub field-number : (n : ℕ) → n ≤ greatestTime → field (pos n) ≡ Number n
@@ -93,10 +93,7 @@ module _ (m : Module) (k : ℕ) (u : SoundModule m) (h : Calling m k) where
       (λ e. rw e))
 
   pub calling-context : SoundContext (contextOf m k) (own m k)
-  calling-context =
-      let s = u in
-      let b = release-bounds (m .table) (s .table) (m .t) (s .time) k in
-      record { time = s .time; frame = s .table .frame; ahead = b .0; near = b .1; caller = refl; calls = calling-caller }
+  calling-context = context-of m u k calling-caller
 
   -- the numbers of the call as the rules look at them
   abbrev pub asked : ℕ → Field → Field → Field → Field → Request

@@ -23,7 +23,7 @@ use Rattle.machine.specs.Partition.{partitionAfter}
 use Rattle.machine.specs.Module.{part, current, withPart, withMessage}
 use Rattle.machine.specs.Ticks.{tickModule}
 use Rattle.machine.specs.Channels.{portOf, write, read, send, receive, passed}
-use Rattle.machine.specs.Calls.{setMode, createProcess, start, stop, stopSelf, suspend, suspendSelf, timedWait, periodicWait, resume, setPriority, getStatus, lockPreemption, unlockPreemption}
+use Rattle.machine.specs.Calls.{setMode, createProcess, start, stop, stopSelf, suspend, suspendSelf, timedWait, periodicWait, resume, setPriority, getStatus, lockPreemption, unlockPreemption, getTicksLeft}
 use Rattle.machine.specs.Objects.{createSemaphore, createEvent, waitSemaphore, waitEvent, signal, setEvent, resetEvent}
 use Rattle.machine.specs.Buffers.{createBuffer, sendBuffer, receiveBuffer}
 use Rattle.machine.specs.Blackboards.{createBlackboard, show, readBlackboard, clear}
@@ -79,10 +79,11 @@ module _ (c : Context) (x : Port) (n : ℕ) (r : Request) (p : Partition) (P : D
     (f31 : n ≡ 31 → P (receive c x (r .b) p))
     (f32 : n ≡ 32 → P (lockPreemption c p))
     (f33 : n ≡ 33 → P (unlockPreemption p))
+    (f34 : P (getTicksLeft c))
     (other : (1 ≤ n → n ≤ callLimit → ⊥) → P (Refused 13)) where
   each : Each (λ j (s : Service). n ≡ j → P (s .decides c x r p)) 1 services
   unfolding Each services
-  each = (λ e. f1 e, (λ _. f2 _, (λ _. f3 _ _, (λ _. f3 _ _, (λ e. f5 e _, (λ e. f6 e, (λ _. f7 _, (λ _. f8 _, (λ _. f9 _, (λ _. f10, (λ _. f11 _, (λ _. f12 _ _, (λ _. f13 _, (λ _. f14 _, (λ _. f15 _ _, (λ _. f16 _, (λ _. f17 _, (λ _. f18 _, (λ _. f19 _, (λ _. f20 _ _, (λ e. f21 e _, (λ _. f22, (λ _. f23 _ _, (λ e. f24 e, (λ e. f25 e, (λ _. f26 _, (λ _. f27 _ _, (λ _. f28 _ _, (λ _. f29 _, (λ e. f30 e, (λ e. f31 e, (λ e. f32 e, (λ e. f33 e, tt)))))))))))))))))))))))))))))))))
+  each = (λ e. f1 e, (λ _. f2 _, (λ _. f3 _ _, (λ _. f3 _ _, (λ e. f5 e _, (λ e. f6 e, (λ _. f7 _, (λ _. f8 _, (λ _. f9 _, (λ _. f10, (λ _. f11 _, (λ _. f12 _ _, (λ _. f13 _, (λ _. f14 _, (λ _. f15 _ _, (λ _. f16 _, (λ _. f17 _, (λ _. f18 _, (λ _. f19 _, (λ _. f20 _ _, (λ e. f21 e _, (λ _. f22, (λ _. f23 _ _, (λ e. f24 e, (λ e. f25 e, (λ _. f26 _, (λ _. f27 _ _, (λ _. f28 _ _, (λ _. f29 _, (λ e. f30 e, (λ e. f31 e, (λ e. f32 e, (λ e. f33 e, (λ _. f34, tt))))))))))))))))))))))))))))))))))
 
   all : length services ≡ callLimit
   unfolding services
@@ -96,13 +97,13 @@ module _ (c : Context) (x : Port) (n : ℕ) (r : Request) (p : Partition) (P : D
       by-place (λ j (s : Service). n ≡ j → P (s .decides c x r p)) services noService 1 each (n - 1) n (omega arith) (λ h _. other (λ lo hi. let e = all in omega arith)) refl
 
 -- a call that takes no start rule does not look at the release point
-module _ (time frame caller n : ℕ) (x : Port) (r : Request) (p : Partition) (mode : n ≡ 1 → ⊥) (start : n ≡ 3 → ⊥) (delayed : n ≡ 4 → ⊥) (u v : ℕ) where
+module _ (time frame left caller n : ℕ) (x : Port) (r : Request) (p : Partition) (mode : n ≡ 1 → ⊥) (start : n ≡ 3 → ⊥) (delayed : n ≡ 4 → ⊥) (u v : ℕ) where
   abbrev seen : ℕ → Context
-  seen release = record { time = time; frame = frame; release = release; caller = caller }
+  seen release = record { time = time; frame = frame; left = left; release = release; caller = caller }
 
   alike : Each (λ j (s : Service). n ≡ j → s .decides (seen u) x r p ≡ s .decides (seen v) x r p) 1 services
-  unfolding Each services awaiting queued createProcess stop stopSelf suspend suspendSelf timedWait periodicWait resume getStatus waitSemaphore waitEvent write read sendBuffer receiveBuffer readBlackboard send receive lockPreemption
-  alike = (λ e. absurd (mode e), (λ _. refl, (λ e. absurd (start e), (λ e. absurd (delayed e), (λ _. refl, (λ _. refl, (λ _. refl, (λ _. refl, (λ _. refl, (λ _. refl, (λ _. refl, (λ _. refl, (λ _. refl, (λ _. refl, (λ _. refl, (λ _. refl, (λ _. refl, (λ _. refl, (λ _. refl, (λ _. refl, (λ _. refl, (λ _. refl, (λ _. refl, (λ _. refl, (λ _. refl, (λ _. refl, (λ _. refl, (λ _. refl, (λ _. refl, (λ _. refl, (λ _. refl, (λ _. refl, (λ _. refl, tt)))))))))))))))))))))))))))))))))
+  unfolding Each services awaiting queued createProcess stop stopSelf suspend suspendSelf timedWait periodicWait resume getStatus waitSemaphore waitEvent write read sendBuffer receiveBuffer readBlackboard send receive lockPreemption getTicksLeft
+  alike = (λ e. absurd (mode e), (λ _. refl, (λ e. absurd (start e), (λ e. absurd (delayed e), (λ _. refl, (λ _. refl, (λ _. refl, (λ _. refl, (λ _. refl, (λ _. refl, (λ _. refl, (λ _. refl, (λ _. refl, (λ _. refl, (λ _. refl, (λ _. refl, (λ _. refl, (λ _. refl, (λ _. refl, (λ _. refl, (λ _. refl, (λ _. refl, (λ _. refl, (λ _. refl, (λ _. refl, (λ _. refl, (λ _. refl, (λ _. refl, (λ _. refl, (λ _. refl, (λ _. refl, (λ _. refl, (λ _. refl, (λ _. refl, tt))))))))))))))))))))))))))))))))))
 
   pub release-unseen : callDecision (seen u) x n r p ≡ callDecision (seen v) x n r p
   unfolding callDecision

@@ -150,7 +150,7 @@ module _ (T : Table) (S : ℕ → Bool) (closed : Closed T S) where
       let s : S k ≡ true = own S e z ∙ c in
       let p : M.part m (k - 1) ≡ M.part n (k - 1) = a .parts (k - 1) (ap S (one-less k z) ∙ s) in
       let x = port-both m n k r a s in
-      λ i. checked Refused ((Pl.noCaller (p i), 9) ∷ []) (callDecision (record { time = a .time i; frame = tables m n a i .frame; release = Wi.releasePoint (tables m n a i) (a .time i) k; caller = running (p i) }) (x i) (numberOf (r .call)) r (p i))
+      λ i. checked Refused ((Pl.noCaller (p i), 9) ∷ []) (callDecision (record { time = a .time i; frame = tables m n a i .frame; left = Wi.lookup (tables m n a i) (a .time i) .left; release = Wi.releasePoint (tables m n a i) (a .time i) k; caller = running (p i) }) (x i) (numberOf (r .call)) r (p i))
 
   tick-done-both : (m n : Module) → Agree T S m n → Agree T S (Ti.tickModule m) (Ti.tickModule n)
   tick-done-both m n a =

@@ -38,7 +38,7 @@ use Rattle.machine.specs.Ids.{members}
 use Rattle.machine.specs.Fields.{isNumber, between, isDuration, isMinusOne, isTimeout, isName, isMessage, numberOf, timeOf}
 use Rattle.machine.specs.Process.{Class, classOf, createdProcess, blankProcess, later, object, onObject, periodic, ready, carried, served, handed, withCurrent, entered, ticked}
 use Rattle.machine.specs.Partition.{normalMode, idleMode, locked, byId, nothingCreated, noSemaphore, noEvent, noBuffer, noBlackboard, process, semaphore, buffer, blackboard, emptyBuffer, movedIn, endedBy, withMode, stored, waitsOn, waiters, firstWaiter, changedAll, each, running, tickPartition, enteredNormal, created, storedSemaphore, storedEvent, storedBuffer, storedBlackboard, applied, partitionAfter, freshPartition}
-use Rattle.machine.specs.Calls.{setMode, isMultiple, above, isPriority, admissible, createProcess, reaches, start, stop, stopSelf, suspend, suspendSelf, timedWait, periodicWait, resume, setPriority, status, getStatus, lockPreemption, unlockPreemption}
+use Rattle.machine.specs.Calls.{setMode, isMultiple, above, isPriority, admissible, createProcess, reaches, start, stop, stopSelf, suspend, suspendSelf, timedWait, periodicWait, resume, setPriority, status, getStatus, lockPreemption, unlockPreemption, getTicksLeft}
 use Rattle.machine.specs.Objects.{createSemaphore, createEvent, withValue, withUp, waitSemaphore, waitEvent, oneMore, signalled, signal, setEvent, resetEvent}
 use Rattle.machine.specs.Channels.{queuing, queuingPort, channelChecks, write, read, send, receive}
 use Rattle.machine.specs.Buffers.{createBuffer, sendBuffer, receiveBuffer}
@@ -614,6 +614,11 @@ module _ (c : Context) (p : Partition) (v : Valid (c .frame) (c .time) p) (k : S
         omega arith,
       ))
 
+  -- ------------------------------------------------------------ the ticks left
+  pub left-sound : Sound c p (getTicksLeft c)
+  unfolding getTicksLeft
+  left-sound = record { is = (omega (arith, k .left .1, k .frame .1), omega arith) }
+
   -- ------------------------------------------------------------ objects
   pub create-semaphore-sound : (r : Request) → Sound c p (createSemaphore r p)
   unfolding createSemaphore Passed
@@ -823,4 +828,5 @@ call-sound c x n r p v k s =
     (λ _. receive-channel-sound c p v k x (s .first) _)
     (λ _. lock-sound c p v k)
     (λ _. unlock-sound c p v k)
+    (left-sound c p v k)
     (λ _. record { is = tt })

@@ -33,6 +33,7 @@ pub mod Taken
 pub mod Replays
 pub mod Applied
 pub mod Starts
+pub mod WindowLeft
 pub mod Waits
 pub mod Releases
 pub mod Queues
@@ -48,3 +49,4 @@ pub mod Transfers
 pub mod Families
 pub mod Channels
 pub mod Locks
+pub mod TicksLeft

@@ -420,7 +420,7 @@ unfolding lookup nextStart releaseAfter
 table-plain T s t ends = record {
   frame = s .frame .0;
   current = λ u. rw (frame-some T s);
-  starts = λ u k flagged. rw (frame-some T s);
+  starts = λ u f. rw (frame-some T s);
   count = rw (le-leb (T .size) partitionLimit (s .size .1));
   queuing = queuing-plain T s;
   channels = s .channelCount;

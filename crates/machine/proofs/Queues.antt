@@ -40,7 +40,7 @@ use Rattle.machine.specs.Process.{Class, classOf, objectIn, forNormal, b
 use Rattle.machine.specs.Partition.{within, nothingCreated, idleMode, normalMode, noSemaphore, noEvent, process, semaphore, event, stored, created, storedSemaphore, storedEvent, storedBuffer, storedBlackboard, emptyBuffer, movedIn, endedBy, buffer, arrivedLast, withLock, changedAll, waitsOn, waiters, running, applied, tickPartition, enteredNormal, withMode, withEvents, each, noted}
 use Rattle.machine.specs.Fields.{field, requestOf, isNumber, isTimeout, isMessage, numberOf, timeOf}
 use Rattle.machine.specs.Decisions.{checked, replyOf, changed, unchanged, unknown, blocked, startMode, queued, awaiting}
-use Rattle.machine.specs.Calls.{setMode, createProcess, start, stop, stopSelf, suspend, suspendSelf, timedWait, periodicWait, resume, setPriority, getStatus, lockPreemption, unlockPreemption}
+use Rattle.machine.specs.Calls.{setMode, createProcess, start, stop, stopSelf, suspend, suspendSelf, timedWait, periodicWait, resume, setPriority, getStatus, lockPreemption, unlockPreemption, getTicksLeft}
 use Rattle.machine.specs.Objects.{oneMore, withValue, withUp, createSemaphore, waitSemaphore, signalled, signal, createEvent, setEvent, resetEvent, waitEvent}
 use Rattle.machine.specs.Channels.{otherEnd, portOf, channelChecks, write, read, send, receive, erasedTo}
 use Rattle.machine.specs.Buffers.{createBuffer, sendBuffer, receiveBuffer}
@@ -410,7 +410,7 @@ module _ (c : Context) (p : Partition) where
   signalled-order (id ∷ l) k = inl refl
 
   pub call-order : (x : Port) (n : ℕ) (r : Request) → InOrder c p (callDecision c x n r p)
-  unfolding setMode createProcess start stop stopSelf suspend suspendSelf timedWait periodicWait resume setPriority getStatus createSemaphore createEvent blocked waitSemaphore waitEvent signal setEvent resetEvent write read channelChecks createBuffer sendBuffer receiveBuffer createBlackboard show readBlackboard clear send receive lockPreemption unlockPreemption Passed
+  unfolding setMode createProcess start stop stopSelf suspend suspendSelf timedWait periodicWait resume setPriority getStatus createSemaphore createEvent blocked waitSemaphore waitEvent signal setEvent resetEvent write read channelChecks createBuffer sendBuffer receiveBuffer createBlackboard show readBlackboard clear send receive lockPreemption unlockPreemption getTicksLeft Passed
   call-order x n r =
       by-call c x n r p (InOrder c p)
       (λ _. in-order _ _ (λ _. by-test (InOrder c p) (isNumber 3 (r .a)) (λ _. fine (tt, tt)) (λ _. fine tt)))
@@ -445,6 +445,7 @@ module _ (c : Context) (p : Partition) where
       (λ _. await-order _ _ _ _ _ _ _ (fine tt))
       (λ _. in-order _ _ (λ _. fine (tt, tt)))
       (λ _. in-order _ _ (λ _. fine (tt, tt)))
+      (fine tt)
       (λ _. fine tt)
     where
       starts : (id delay : ℕ) → KeepsOrEnds (process id p) (cond (normalMode p) (startRule c delay (process id p)) (startedEarly delay (process id p)))

@@ -32,9 +32,9 @@ use Rattle.machine.specs.Partition.{process, waiters, firstWaiter, chang
 use Rattle.machine.specs.Decisions.{checked, noMessage}
 use Rattle.machine.specs.Services.{callDecision}
 use Rattle.machine.specs.Module.{noPartition, emptyTable, emptyModule, freshModule, channel, part, withPart, message, queue, withMessages, withMessage, withQueue, withTime}
-use Rattle.machine.specs.Windows.{windows, covers, owner, lookup}
 use Rattle.machine.specs.Ticks.{tickTo, partitionCount, tickModule}
 use Rattle.machine.specs.Channels.{queuing, queuingAt, seenAt, apart, otherEnd, otherQueue, trafficOf, seesTraffic, trafficAt, portOf, passed, leadsInto, keptTo, erasedTo, admitted, refilledAt, refilledTo}
+use Rattle.machine.specs.Places.{noCaller}
 use Rattle.machine.specs.Step.{contextOf, decision, moduleAfter, step}
 use Rattle.machine.specs.Table.{readTable}
 use Rattle.machine.specs.Valid.Reached.{stepped}
@@ -49,19 +49,9 @@ use Rattle.machine.proofs.Refusals.{call-in-range}
 use Rattle.machine.proofs.Kept.{tick-valid, fresh-valid, SoundPort, call-sound, decision-valid, ended-valid, let-in-valid, let-in-queue, sent-sound, received-sound}
 use Rattle.machine.proofs.Messages.{queue-sound, moved-sound, first-sound}
 use Rattle.machine.proofs.Quiet.{tick-to-plain}
-use Rattle.machine.proofs.Starts.{frame-some, release-bounds}
+use Rattle.machine.proofs.Starts.{release-bounds}
+use Rattle.machine.proofs.WindowLeft.{current-known, window-left}
 use Rattle.machine.proofs.Tables.{table-read}
-
--- ---------------------------------------------------------------- windows
--- a window's owner is a partition
-owner-known : (previous frame size : ℕ) (ws : List Window) (x : ℕ) → SoundWindows previous frame size ws → owner ws x ≤ size
-unfolding owner SoundWindows
-owner-known previous frame size [] x s = omega arith
-owner-known previous frame size (w ∷ ws) x s = by-test (λ (n : ℕ). n ≤ size) (covers w x) (λ _. s .0 .owner .1) (λ _. owner-known (w .start + w .duration) frame size ws x (s .1))
-
-pub current-known : (T : Table) → SoundTable T → (t : ℕ) → lookup T t .partition ≤ T .size
-unfolding lookup
-current-known T s t = rw (frame-some T s) (owner-known 0 (T .frame) (T .size) (windows T) (t % T .frame) (s .eachWindow))
 
 -- ---------------------------------------------------------------- a partition stored, a message stored
 noted-valid : (frame t : ℕ) (p : Partition) → Valid frame t p → Valid frame t (noted p)
@@ -300,6 +290,13 @@ pub record Channelled (m : Module) (k i : ℕ) (x : Port) : Type 0 where
   pub sees : x .traffic ≡ trafficOf (queue m i) (otherQueue k i (channel (m .table) i)) (part m (otherEnd k (channel (m .table) i) - 1))
   pub inside : otherEnd k (channel (m .table) i) - 1 < m .table .size
 
+-- what a call of a partition that has a caller sees
+pub context-of : (m : Module) → SoundModule m → (k : ℕ) → noCaller (part m (k - 1)) ≡ false → SoundContext (contextOf m k) (part m (k - 1))
+context-of m s k calls =
+    let b = release-bounds (m .table) (s .table) (m .t) (s .time) k in
+    let l = window-left (m .table) (s .table) (m .t) in
+    record { time = s .time; frame = s .table .frame; left = (l .some, l .few); ahead = b .0; near = b .1; caller = refl; calls = calls }
+
 module _ (m : Module) (s : SoundModule m) (r : Request) (q : Calls m r) where
   abbrev caller : ℕ
   caller = numberOf (r .partition)
@@ -308,9 +305,7 @@ module _ (m : Module) (s : SoundModule m) (r : Request) (q : Calls m r) where
   place = let some = q .some in omega (arith, current-known (m .table) (s .table) (m .t), q .now)
 
   pub context-sound : SoundContext (contextOf m caller) (part m (caller - 1))
-  context-sound =
-      let b = release-bounds (m .table) (s .table) (m .t) (s .time) caller in
-      record { time = s .time; frame = s .table .frame; ahead = b .0; near = b .1; caller = refl; calls = q .caller }
+  context-sound = context-of m s caller (q .caller)
 
   pub port-sound : SoundPort (m .t) (portOf m caller r)
   port-sound = record {

@@ -24,7 +24,8 @@ use Rattle.machine.specs.TwoRuns.{replies, final}
 use Rattle.machine.specs.Replay.{eventOf, timeNumber, answerNumbers, lineAnswer, lineNext, texts}
 use Rattle.machine.specs.Valid.{NotAfter, AnswerInRange, ValidModule}
 use Rattle.machine.proofs.TextLine.{line-length}
-use Rattle.machine.proofs.Reached.{step-valid, current-known}
+use Rattle.machine.proofs.WindowLeft.{current-known}
+use Rattle.machine.proofs.Reached.{step-valid}
 use Rattle.machine.proofs.Answers.{answer-range}
 
 natural : (n : ℕ) → n ≤ numberLimit → inRange (pos n) ≡ true

@@ -38,7 +38,7 @@ use Rattle.machine.specs.Messages.{sent, received, endsWait}
 use Rattle.machine.specs.Process.{classOf, objectIn, blankProcess, object, onObject, due, ready, waitsForNothing, waitsForNormal, carried, served, handed, woken, ticked, entered, startRule}
 use Rattle.machine.specs.Partition.{within, noBuffer, process, buffer, normalMode, emptyBuffer, movedIn, endedBy, firstWaiter, withMode, stored, storedSemaphore, storedEvent, storedBuffer, storedBlackboard, arrivedLast, waitsOn, waiters, changedAll, each, enteredNormal, tickPartition, applied, nothingCreated, noted}
 use Rattle.machine.specs.Decisions.{checked, changed, blocked, unknown, startMode, dormant, queued, awaiting}
-use Rattle.machine.specs.Calls.{setMode, createProcess, start, stop, stopSelf, suspend, suspendSelf, timedWait, periodicWait, resume, setPriority, getStatus, lockPreemption, unlockPreemption}
+use Rattle.machine.specs.Calls.{setMode, createProcess, start, stop, stopSelf, suspend, suspendSelf, timedWait, periodicWait, resume, setPriority, getStatus, lockPreemption, unlockPreemption, getTicksLeft}
 use Rattle.machine.specs.Objects.{createSemaphore, waitSemaphore, signalled, signal, createEvent, setEvent, resetEvent, waitEvent}
 use Rattle.machine.specs.Buffers.{createBuffer, sendBuffer, receiveBuffer}
 use Rattle.machine.specs.Blackboards.{createBlackboard, show, readBlackboard, clear}
@@ -352,7 +352,7 @@ module _ (kind j : ℕ) (of : OfSenders kind) (low : j ≤ 16) where
 
     pub call-calm : (x : Port) (r : Request) → r .a ≡ f → (kind ≡ 3 → n ≡ 24 → numberOf (r .a) ≡ j → ⊥) → (kind ≡ 3 → n ≡ 25 → numberOf (r .a) ≡ j → ⊥)
         → (kind ≡ 6 → n ≡ 30 → x .exists ≡ true → x .place + 1 ≡ j → ⊥) → IsCalm n f p (callDecision c x n r p)
-    unfolding createProcess stop stopSelf suspend timedWait periodicWait setPriority getStatus createSemaphore createEvent blocked waitSemaphore waitEvent signal setEvent resetEvent write read channelChecks createBuffer sendBuffer receiveBuffer createBlackboard show readBlackboard clear send receive lockPreemption unlockPreemption Passed
+    unfolding createProcess stop stopSelf suspend timedWait periodicWait setPriority getStatus createSemaphore createEvent blocked waitSemaphore waitEvent signal setEvent resetEvent write read channelChecks createBuffer sendBuffer receiveBuffer createBlackboard show readBlackboard clear send receive lockPreemption unlockPreemption getTicksLeft Passed
     call-calm x r is no-send no-receive no-send-channel =
         by-call c x n r p (IsCalm n f p)
         (λ one. rw is (mode-calm one))
@@ -387,6 +387,7 @@ module _ (kind j : ℕ) (of : OfSenders kind) (low : j ≤ 16) where
         (λ e. await-calm _ _ _ _ _ _ (λ h o. let l = ltb-true (x .place) channelLimit (and-right (queuing (x .channel)) _ (not-false _ (h .1 .0))) in of .ends (omega arith)) (λ _. calm tt))
         (λ _. calm-checks _ _ (λ _. calm (tt, tt)))
         (λ _. calm-checks _ _ (λ _. calm (tt, tt)))
+        (calm tt)
         (λ _. calm tt)
       where
         few : p .bufferCount ≤ 8

@@ -1,6 +1,6 @@
--- The search for a window of a partition, the next start, and the release point. Assumes nothing.
+-- The search for a window, the next start, and the release point. Assumes nothing.
 use Prim.Native.Nat.{ℕ, zero, suc, _+_, _-_, _*_, _/_, _%_, _≤_, _<_}
-use mathlib.Core.Bool.{Bool, true, false, not, _||_, true≢false, or-true}
+use mathlib.Core.Bool.{Bool, true, false, true≢false}
 use mathlib.Core.List.{List, [], _∷_}
 use mathlib.Core.Logic.{_⊎_, inl, inr, ⊎-elim}
 use mathlib.Core.Path.{_≡_, refl, ap, sym, subst, _∙_}
@@ -15,8 +15,8 @@ use Rattle.machine.specs.declared.Time.the-variants.{Never, At}
 use Rattle.machine.specs.declared.Window.{Window}
 use Rattle.machine.specs.Limits.{timeLimit, greatestTime}
 use Rattle.machine.specs.Table.{hasFlagged}
-use Rattle.machine.specs.Valid.{Between, AtMost, SoundWindows, SoundTable}
-use Rattle.machine.specs.Windows.{noWindow, windows, flaggedFor, startsFrom, firstStart, aheadOf, nextStart, releaseAfter, releasePoint, WindowAt, NextFlagged, Release}
+use Rattle.machine.specs.Valid.{Between, AtMost, SoundWindow, SoundWindows, SoundTable}
+use Rattle.machine.specs.Windows.{noWindow, windows, ownedBy, flaggedFor, startsFrom, firstStart, aheadOf, nextStart, releaseAfter, releasePoint, WindowAt, NextFlagged, Release}
 use Rattle.machine.proofs.Either.{either}
 use Rattle.machine.proofs.Tests.{by-test, and-left, and-right, not-both}
 
@@ -53,82 +53,94 @@ found-passes f (w ∷ ws) = by-test (Found (Passes f (w ∷ ws))) (f w)
     (λ p. found-so _ _ (λ s h. record { at = suc (h .at); inside = omega (arith, h .inside); passed = h .passed; starts = h .starts }) (firstStart f ws) (found-passes f ws))
 
 -- what a window says that passes
-module _ (k : ℕ) (flagged : Bool) (from : ℕ) (w : Window) (e : startsFrom k flagged from w ≡ true) where
-  pub passes-own : eqb (w .partition) k ≡ true
-  passes-own = and-left _ _ e
-
-  passes-flag : (not flagged || w .flag) ≡ true
-  passes-flag = and-left _ _ (and-right (eqb (w .partition) k) _ e)
+module _ (f : Window → Bool) (from : ℕ) (w : Window) (e : startsFrom f from w ≡ true) where
+  pub passes-test : f w ≡ true
+  passes-test = and-left _ _ e
 
   passes-from : from ≤ w .start
-  passes-from = leb-true _ _ (and-right (not flagged || w .flag) _ (and-right (eqb (w .partition) k) _ e))
+  passes-from = leb-true _ _ (and-right (f w) _ e)
 
   -- it passes from every place up to its start
-  passes-to : (to : ℕ) → to ≤ w .start → startsFrom k flagged to w ≡ true
-  passes-to to h = rw (passes-own, passes-flag, le-leb to (w .start) h)
+  passes-to : (to : ℕ) → to ≤ w .start → startsFrom f to w ≡ true
+  passes-to to h = rw (passes-test, le-leb to (w .start) h)
 
-module _ (k : ℕ) (flagged : Bool) (from : ℕ) where
-  fails-before : (w : Window) → startsFrom k flagged from w ≡ false → startsFrom k flagged 0 w ≡ true → w .start < from
-  fails-before w f e = either (leb from (w .start)) (λ l. not-both _ (passes-to k flagged 0 w e from (leb-true _ _ l)) f) (leb-false _ _)
+module _ (f : Window → Bool) (from : ℕ) where
+  fails-before : (w : Window) → startsFrom f from w ≡ false → startsFrom f 0 w ≡ true → w .start < from
+  fails-before w q e = either (leb from (w .start)) (λ l. not-both _ (passes-to f 0 w e from (leb-true _ _ l)) q) (leb-false _ _)
 
   -- what is found does not start before the place, and is a start of the frame
-  pub found-from : (ws : List Window) → Found (λ s. from ≤ s) (firstStart (startsFrom k flagged from) ws)
-  found-from ws = found-so _ _ (λ s h. omega (arith, passes-from k flagged from (getD ws (h .at) noWindow) (h .passed), h .starts)) (firstStart (startsFrom k flagged from) ws) (found-passes (startsFrom k flagged from) ws)
+  pub found-from : (ws : List Window) → Found (λ s. from ≤ s) (firstStart (startsFrom f from) ws)
+  found-from ws = found-so _ _ (λ s h. omega (arith, passes-from f from (getD ws (h .at) noWindow) (h .passed), h .starts)) (firstStart (startsFrom f from) ws) (found-passes (startsFrom f from) ws)
 
-  found-start : (ws : List Window) → Found (Passes (startsFrom k flagged 0) ws) (firstStart (startsFrom k flagged from) ws)
+  found-start : (ws : List Window) → Found (Passes (startsFrom f 0) ws) (firstStart (startsFrom f from) ws)
   found-start ws = found-so _ _
-      (λ s h. record { at = h .at; inside = h .inside; passed = passes-to k flagged from (getD ws (h .at) noWindow) (h .passed) 0 (omega arith); starts = h .starts })
-      (firstStart (startsFrom k flagged from) ws) (found-passes (startsFrom k flagged from) ws)
+      (λ s h. record { at = h .at; inside = h .inside; passed = passes-to f from (getD ws (h .at) noWindow) (h .passed) 0 (omega arith); starts = h .starts })
+      (firstStart (startsFrom f from) ws) (found-passes (startsFrom f from) ws)
 
   -- where nothing is found, the first start of the frame lies before the place
-  pub found-before : (ws : List Window) → firstStart (startsFrom k flagged from) ws ≡ Never → Found (λ s. s < from) (firstStart (startsFrom k flagged 0) ws)
+  pub found-before : (ws : List Window) → firstStart (startsFrom f from) ws ≡ Never → Found (λ s. s < from) (firstStart (startsFrom f 0) ws)
   unfolding firstStart
   found-before [] e = tt
   found-before (w ∷ ws) e =
-      let none = none-here (startsFrom k flagged from) w ws e in
-      by-test (Found (λ s. s < from)) (startsFrom k flagged 0 w) (fails-before w (none .0)) (λ p. found-before ws (none .1))
+      let none = none-here (startsFrom f from) w ws e in
+      by-test (Found (λ s. s < from)) (startsFrom f 0 w) (fails-before w (none .0)) (λ p. found-before ws (none .1))
 
--- a window with flag 1 passes, whether the flag is asked for or not
-flagged-passes : (k : ℕ) (flagged : Bool) (w : Window) → flaggedFor k w ≡ true → startsFrom k flagged 0 w ≡ true
-flagged-passes k flagged w e = rw (and-right (w .flag) _ e, and-left (w .flag) _ e, or-true (not flagged)) (le-leb 0 (w .start) (omega arith))
+-- windows with flag 1 of partition k pass the test
+abbrev pub PassedBy : ℕ → (Window → Bool) → Type 0
+PassedBy k f = (w : Window) → flaggedFor k w ≡ true → f w ≡ true
+
+pub owned-passes : (k : ℕ) → PassedBy k (ownedBy k)
+owned-passes k w e = and-right (w .flag) _ e
 
 -- a partition that has one has a start
-flagged-found : (k : ℕ) (flagged : Bool) (ws : List Window) → hasFlagged k ws ≡ true → firstStart (startsFrom k flagged 0) ws ≡ Never → ⊥
+flagged-found : (k : ℕ) (f : Window → Bool) → PassedBy k f → (ws : List Window) → hasFlagged k ws ≡ true → firstStart (startsFrom f 0) ws ≡ Never → ⊥
 unfolding hasFlagged
-flagged-found k flagged [] h e = true≢false (sym h)
-flagged-found k flagged (w ∷ ws) h e =
-    let none = none-here (startsFrom k flagged 0) w ws e in
+flagged-found k f by [] h e = true≢false (sym h)
+flagged-found k f by (w ∷ ws) h e =
+    let none = none-here (startsFrom f 0) w ws e in
     either (flaggedFor k w)
-    (λ q. not-both _ (flagged-passes k flagged w q) (none .0))
-    (λ q. flagged-found k flagged ws (rw q at h) (none .1))
+    (λ q. not-both (startsFrom f 0 w) (rw (by w q) (le-leb 0 (w .start) (omega arith))) (none .0))
+    (λ q. flagged-found k f by ws (rw q at h) (none .1))
 
 -- ---------------------------------------------------------------- windows in order
--- each starts after the end of those before, and before the frame ends
-starts-after : (previous frame size : ℕ) (ws : List Window) → SoundWindows previous frame size ws → (i : ℕ) → i < length ws → (previous ≤ getD ws i noWindow .start) × (getD ws i noWindow .start < frame)
+-- each starts after the end of those before, and ends inside the frame
+pub each-window : (previous frame size : ℕ) (ws : List Window) → SoundWindows previous frame size ws → (i : ℕ) → i < length ws → SoundWindow previous frame size (getD ws i noWindow)
 unfolding SoundWindows
-starts-after previous frame size [] h i lo = absurd (omega arith)
-starts-after previous frame size (w ∷ ws) h zero lo = (h .0 .order, omega (arith, h .0 .inside, h .0 .long))
-starts-after previous frame size (w ∷ ws) h (suc i) lo = let r = starts-after (w .start + w .duration) frame size ws (h .1) i (omega arith) in (omega (arith, h .0 .order, r .0), r .1)
+each-window previous frame size [] h i lo = absurd (omega arith)
+each-window previous frame size (w ∷ ws) h zero lo = h .0
+each-window previous frame size (w ∷ ws) h (suc i) lo =
+    let r = each-window (w .start + w .duration) frame size ws (h .1) i (omega arith) in
+    record { order = omega (arith, h .0 .order, r .order); long = r .long; inside = r .inside; owner = r .owner }
 
 -- what is found starts no later than any window that passes
-found-first : (k : ℕ) (flagged : Bool) (from previous frame size : ℕ) (ws : List Window) → SoundWindows previous frame size ws → (i : ℕ) → i < length ws
-    → startsFrom k flagged from (getD ws i noWindow) ≡ true → AtMost (getD ws i noWindow .start) (firstStart (startsFrom k flagged from) ws)
+found-first : (f : Window → Bool) (from previous frame size : ℕ) (ws : List Window) → SoundWindows previous frame size ws → (i : ℕ) → i < length ws
+    → startsFrom f from (getD ws i noWindow) ≡ true → AtMost (getD ws i noWindow .start) (firstStart (startsFrom f from) ws)
 unfolding firstStart SoundWindows
-found-first k flagged from previous frame size [] h i lo e = absurd (omega arith)
-found-first k flagged from previous frame size (w ∷ ws) h zero lo e = rw e (omega arith)
-found-first k flagged from previous frame size (w ∷ ws) h (suc i) lo e =
-    by-test (AtMost (getD ws i noWindow .start)) (startsFrom k flagged from w)
-    (λ p. omega (arith, starts-after (w .start + w .duration) frame size ws (h .1) i (omega arith) .0))
-    (λ p. found-first k flagged from (w .start + w .duration) frame size ws (h .1) i (omega arith) e)
+found-first f from previous frame size [] h i lo e = absurd (omega arith)
+found-first f from previous frame size (w ∷ ws) h zero lo e = rw e (omega arith)
+found-first f from previous frame size (w ∷ ws) h (suc i) lo e =
+    by-test (AtMost (getD ws i noWindow .start)) (startsFrom f from w)
+    (λ p. omega (arith, each-window (w .start + w .duration) frame size ws (h .1) i (omega arith) .order))
+    (λ p. found-first f from (w .start + w .duration) frame size ws (h .1) i (omega arith) e)
+
+-- one that starts before another ends by then
+pub ends-before : (previous frame size : ℕ) (ws : List Window) → SoundWindows previous frame size ws → (i j : ℕ) → i < length ws → j < length ws
+    → getD ws i noWindow .start < getD ws j noWindow .start → getD ws i noWindow .start + getD ws i noWindow .duration ≤ getD ws j noWindow .start
+unfolding SoundWindows
+ends-before previous frame size [] h i j lo ho e = absurd (omega arith)
+ends-before previous frame size (w ∷ ws) h zero zero lo ho e = absurd (omega arith)
+ends-before previous frame size (w ∷ ws) h zero (suc j) lo ho e = each-window (w .start + w .duration) frame size ws (h .1) j (omega arith) .order
+ends-before previous frame size (w ∷ ws) h (suc i) zero lo ho e = absurd (omega (arith, each-window (w .start + w .duration) frame size ws (h .1) i (omega arith) .order))
+ends-before previous frame size (w ∷ ws) h (suc i) (suc j) lo ho e = ends-before (w .start + w .duration) frame size ws (h .1) i j (omega arith) (omega arith) e
 
 -- no two start at one place
-one-start : (previous frame size : ℕ) (ws : List Window) → SoundWindows previous frame size ws → (i j : ℕ) → i < length ws → j < length ws
+pub one-start : (previous frame size : ℕ) (ws : List Window) → SoundWindows previous frame size ws → (i j : ℕ) → i < length ws → j < length ws
     → getD ws i noWindow .start ≡ getD ws j noWindow .start → getD ws i noWindow ≡ getD ws j noWindow
 unfolding SoundWindows
 one-start previous frame size [] h i j lo ho e = absurd (omega arith)
 one-start previous frame size (w ∷ ws) h zero zero lo ho e = refl
-one-start previous frame size (w ∷ ws) h zero (suc j) lo ho e = absurd (omega (arith, h .0 .long, starts-after (w .start + w .duration) frame size ws (h .1) j (omega arith) .0))
-one-start previous frame size (w ∷ ws) h (suc i) zero lo ho e = absurd (omega (arith, h .0 .long, starts-after (w .start + w .duration) frame size ws (h .1) i (omega arith) .0))
+one-start previous frame size (w ∷ ws) h zero (suc j) lo ho e = absurd (omega (arith, h .0 .long, each-window (w .start + w .duration) frame size ws (h .1) j (omega arith) .order))
+one-start previous frame size (w ∷ ws) h (suc i) zero lo ho e = absurd (omega (arith, h .0 .long, each-window (w .start + w .duration) frame size ws (h .1) i (omega arith) .order))
 one-start previous frame size (w ∷ ws) h (suc i) (suc j) lo ho e = one-start (w .start + w .duration) frame size ws (h .1) i j (omega arith) (omega arith) e
 
 -- ---------------------------------------------------------------- the next start
@@ -158,7 +170,7 @@ module _ (frame x : ℕ) (place : x < frame) where
 
 module _ (frame x n y : ℕ) (place : x < frame) (lo : 1 ≤ n) (hi : n ≤ frame) (at : y ≡ (x + n) % frame) where
   -- y lies in this frame or in the next one
-  at-place : (y ≡ x + n) ⊎ (y + frame ≡ x + n)
+  pub at-place : (y ≡ x + n) ⊎ (y + frame ≡ x + n)
   at-place = either (ltb (x + n) frame)
       (λ q. inl (at ∙ mod-eq-of-lt (ltb-true (x + n) frame q)))
       (λ q.
@@ -172,50 +184,65 @@ module _ (frame x n y : ℕ) (place : x < frame) (lo : 1 ≤ n) (hi : n ≤ fram
   ahead-least Never (At s) first inside again = ⊎-elim (λ (e : y ≡ x + n). absurd (first (omega arith))) (λ (e : y + frame ≡ x + n). omega arith) at-place
   ahead-least Never Never first inside again = absurd again
 
-module _ (T : Table) (s : SoundTable T) (t k : ℕ) (flagged : Bool) where
+module _ (T : Table) (s : SoundTable T) (t : ℕ) (f : Window → Bool) where
   place : t % T .frame < T .frame
   place = mod-lt t (omega (arith, s .frame .0))
 
-  inside-frame : (f : Window → Bool) (y : ℕ) → Passes f (windows T) y → y < T .frame
-  inside-frame f y h = omega (arith, starts-after 0 (T .frame) (T .size) (windows T) (s .eachWindow) (h .at) (h .inside) .1, h .starts)
+  inside-frame : (g : Window → Bool) (y : ℕ) → Passes g (windows T) y → y < T .frame
+  inside-frame g y h = let w = each-window 0 (T .frame) (T .size) (windows T) (s .eachWindow) (h .at) (h .inside) in omega (arith, w .long, w .inside, h .starts)
 
-  found-inside : (from : ℕ) → Found (λ y. y < T .frame) (firstStart (startsFrom k flagged from) (windows T))
-  found-inside from = found-so _ _ (inside-frame (startsFrom k flagged 0)) (firstStart (startsFrom k flagged from) (windows T)) (found-start k flagged from (windows T))
+  found-inside : (from : ℕ) → Found (λ y. y < T .frame) (firstStart (startsFrom f from) (windows T))
+  found-inside from = found-so _ _ (inside-frame (startsFrom f 0)) (firstStart (startsFrom f from) (windows T)) (found-start f from (windows T))
 
   -- it is a number of 1..M
-  pub next-bounds : Between 1 (T .frame) (nextStart T t k flagged)
+  pub next-bounds : Between 1 (T .frame) (nextStart T t f)
   unfolding nextStart
   next-bounds =
       let x = t % T .frame in
-      rw (frame-some T s) (ahead-bounds (T .frame) x place _ _ (found-from k flagged _ (windows T)) (found-inside _) (found-before k flagged _ (windows T)))
+      rw (frame-some T s) (ahead-bounds (T .frame) x place _ _ (found-from f _ (windows T)) (found-inside _) (found-before f _ (windows T)))
 
   -- a window that passes starts then
-  pub next-starts : Between 1 (T .size) k → Passes (startsFrom k flagged 0) (windows T) ((t + nextStart T t k flagged) % T .frame)
+  pub next-starts : (k : ℕ) → Between 1 (T .size) k → PassedBy k f → Passes (startsFrom f 0) (windows T) ((t + nextStart T t f) % T .frame)
   unfolding nextStart
-  next-starts own =
+  next-starts k own by =
       let x = t % T .frame in
       let ws = windows T in
-      let ahead : Passes (startsFrom k flagged 0) ws ((x + nextStart T t k flagged) % T .frame) =
-      rw (frame-some T s) (ahead-starts (T .frame) x place (Passes (startsFrom k flagged 0) ws) (inside-frame (startsFrom k flagged 0)) _ _
-      (found-from k flagged _ ws) (found-start k flagged _ ws) (found-before k flagged _ ws) (found-start k flagged _ ws) (flagged-found k flagged ws (s .flagged k own))) in
-      subst (Passes (startsFrom k flagged 0) ws) (mod-add-mod t (T .frame) (nextStart T t k flagged)) ahead
+      let ahead : Passes (startsFrom f 0) ws ((x + nextStart T t f) % T .frame) =
+      rw (frame-some T s) (ahead-starts (T .frame) x place (Passes (startsFrom f 0) ws) (inside-frame (startsFrom f 0)) _ _
+      (found-from f _ ws) (found-start f _ ws) (found-before f _ ws) (found-start f _ ws) (flagged-found k f by ws (s .flagged k own))) in
+      subst (Passes (startsFrom f 0) ws) (mod-add-mod t (T .frame) (nextStart T t f)) ahead
 
   -- and none starts sooner
-  pub next-least : (n : ℕ) → Passes (startsFrom k flagged 0) (windows T) ((t + n) % T .frame) → 1 ≤ n → n ≤ T .frame → nextStart T t k flagged ≤ n
+  pub next-least : (n : ℕ) → Passes (startsFrom f 0) (windows T) ((t + n) % T .frame) → 1 ≤ n → n ≤ T .frame → nextStart T t f ≤ n
   unfolding nextStart
   next-least n p lo hi =
       let x = t % T .frame in
       let w = getD (windows T) (p .at) noWindow in
-      let found : ℕ → Time = λ from. firstStart (startsFrom k flagged from) (windows T) in
-      let first : (from : ℕ) → from ≤ w .start → AtMost (w .start) (found from) = λ from q. found-first k flagged from 0 (T .frame) (T .size) (windows T) (s .eachWindow) (p .at) (p .inside) (passes-to k flagged 0 w (p .passed) from q) in
+      let found : ℕ → Time = λ from. firstStart (startsFrom f from) (windows T) in
+      let first : (from : ℕ) → from ≤ w .start → AtMost (w .start) (found from) = λ from q. found-first f from 0 (T .frame) (T .size) (windows T) (s .eachWindow) (p .at) (p .inside) (passes-to f 0 w (p .passed) from q) in
       rw (frame-some T s) (ahead-least (T .frame) x n (w .start) place lo hi (p .starts ∙ sym (mod-add-mod t (T .frame) n)) (found (x + 1)) (found 0) (first (x + 1)) (found-inside (x + 1)) (first 0 (omega arith)))
+
+-- j ticks later, before it, the next start is j ticks nearer
+pub next-nearer : (T : Table) (s : SoundTable T) (t : ℕ) (f : Window → Bool) (k : ℕ) → Between 1 (T .size) k → PassedBy k f → (j : ℕ) → j < nextStart T t f → nextStart T (t + j) f ≡ nextStart T t f - j
+next-nearer T s t f k own by j h =
+    let n = nextStart T t f in
+    let later = nextStart T (t + j) f in
+    let b = next-bounds T s t f in
+    let bl = next-bounds T s (t + j) f in
+    let same : t + j + (n - j) ≡ t + n = omega arith in
+    let on : t + (j + later) ≡ t + j + later = omega arith in
+    let hi : later ≤ n - j = next-least T s (t + j) f (n - j) (rw same (next-starts T s t f k own by)) (omega arith) (omega (arith, b .1)) in
+    let lo : n ≤ j + later = either (leb (j + later) (T .frame))
+    (λ q. next-least T s t f (j + later) (rw on (next-starts T s (t + j) f k own by)) (omega (arith, bl .0)) (leb-true _ _ q))
+    (λ q. omega (arith, b .1, leb-false (j + later) (T .frame) q)) in
+    omega arith
 
 -- ---------------------------------------------------------------- the release point
 module _ (T : Table) (s : SoundTable T) (t : ℕ) where
   -- it lies ahead, by a frame at most
   release-ahead : (k : ℕ) → (t < releaseAfter T t k) × (releaseAfter T t k ≤ t + T .frame)
   unfolding releaseAfter
-  release-ahead k = from-now _ (next-bounds T s t k _)
+  release-ahead k = from-now _ (next-bounds T s t _)
     where
       from-now : (n : ℕ) → Between 1 (T .frame) n → (t < t + n) × (t + n ≤ t + T .frame)
       from-now n b = (omega (arith, b .0), omega (arith, b .1))
@@ -229,15 +256,16 @@ module _ (T : Table) (s : SoundTable T) (t : ℕ) where
 
 -- two words for a window with flag 1 of the partition
 module _ (T : Table) (k x : ℕ) where
-  start-at : Passes (startsFrom k true 0) (windows T) x → WindowAt T k true x
+  start-at : Passes (startsFrom (flaggedFor k) 0) (windows T) x → WindowAt T k true x
   start-at p =
       let w = getD (windows T) (p .at) noWindow in
-      record { at = p .at; inside = p .inside; owner = eqb-true (w .partition) k (passes-own k true 0 w (p .passed)); flagIs = passes-flag k true 0 w (p .passed); starts = p .starts }
+      let e = passes-test (flaggedFor k) 0 w (p .passed) in
+      record { at = p .at; inside = p .inside; owner = eqb-true (w .partition) k (and-right (w .flag) _ e); flagIs = and-left (w .flag) _ e; starts = p .starts }
 
-  start-passes : WindowAt T k true x → Passes (startsFrom k true 0) (windows T) x
+  start-passes : WindowAt T k true x → Passes (startsFrom (flaggedFor k) 0) (windows T) x
   start-passes f =
       let w = getD (windows T) (f .at) noWindow in
-      record { at = f .at; inside = f .inside; passed = rw (eq-eqb (w .partition) k (f .owner), f .flagIs) (le-leb 0 (w .start) (omega arith)); starts = f .starts }
+      record { at = f .at; inside = f .inside; passed = rw (f .flagIs, eq-eqb (w .partition) k (f .owner)) (le-leb 0 (w .start) (omega arith)); starts = f .starts }
 
 module _ (T : Table) (s : SoundTable T) (t k : ℕ) where
   -- the machine's release point is the earliest start of a window with flag 1, of that partition, strictly after t
@@ -246,12 +274,12 @@ module _ (T : Table) (s : SoundTable T) (t k : ℕ) where
   release-earliest own ends =
       let ahead = release-ahead T s t k in
       rw (release-plain T s t ends k) (record {
-        starts = start-at T k _ (next-starts T s t k _ own);
+        starts = start-at T k _ (next-starts T s t _ k own (λ w e. e));
         after = ahead .0;
         earliest = λ y f late. either (leb (y - t) (T .frame))
             (λ q.
             let e : t + (y - t) ≡ y = omega arith in
-            omega (arith, next-least T s t k true (y - t) (rw e (start-passes T k (y % T .frame) f)) (omega arith) (leb-true _ _ q)))
+            omega (arith, next-least T s t (flaggedFor k) (y - t) (rw e (start-passes T k (y % T .frame) f)) (omega arith) (leb-true _ _ q)))
             (λ q. omega (arith, ahead .1, leb-false (y - t) (T .frame) q));
       })
 
@@ -267,7 +295,7 @@ module _ (T : Table) (s : SoundTable T) (t k : ℕ) where
       (ap (λ (v : Window). v .partition) w ∙ z .owner, ap (λ (v : Window). v .flag) w ∙ z .flagIs)
 
   start-inside : (x : ℕ) → WindowAt T k true x → x < T .frame
-  start-inside x f = inside-frame T s t k true (startsFrom k true 0) x (start-passes T k x f)
+  start-inside x f = inside-frame T s t (flaggedFor k) (startsFrom (flaggedFor k) 0) x (start-passes T k x f)
 
   -- a place of frame q
   at-frame : (q y : ℕ) → y < T .frame → (q * T .frame + y) % T .frame ≡ y
@@ -297,7 +325,7 @@ module _ (T : Table) (s : SoundTable T) (t k : ℕ) where
   release-next x f first past =
       let q = t / T .frame in
       let split : q * T .frame + t % T .frame ≡ t = div-add-mod' t (T .frame) in
-      let here : t % T .frame < T .frame = place T s t k true in
+      let here : t % T .frame < T .frame = place T s t (flaggedFor k) in
       let last = start-inside x f in
       record {
         starts = rw (at-frame (q + 1) x last) f;

@@ -19,11 +19,11 @@ use Rattle.machine.specs.Fields.{field, between, numberOf}
 use Rattle.machine.specs.Limits.{timeLimit}
 use Rattle.machine.specs.Module.{emptyTable, emptyModule}
 use Rattle.machine.specs.Valid.{SoundTable, SoundModule, Reached}
-use Rattle.machine.specs.Windows.{noWindow, windows, startsAt, waitingRefused, waitingOf, WaitingTime}
+use Rattle.machine.specs.Windows.{noWindow, windows, ownedBy, startsAt, waitingRefused, waitingOf, WaitingTime}
 use Rattle.machine.proofs.Either.{either}
 use Rattle.machine.proofs.Fields.{in-limits}
 use Rattle.machine.proofs.Reached.{reached-valid}
-use Rattle.machine.proofs.Starts.{passes-own, next-bounds, next-starts}
+use Rattle.machine.proofs.Starts.{passes-test, owned-passes, next-bounds, next-starts}
 use Rattle.machine.proofs.Tests.{or-right, not-both}
 
 -- a window of the partition starts at the place where one of them does
@@ -42,9 +42,9 @@ waiting-time T s t k = record {
       let own = in-limits 1 (T .size) (field k) (not-false _ (or-right (not (between 0 timeLimit (field t))) _ e)) in
       let x = numberOf (field t) in
       let j = numberOf (field k) in
-      let b = next-bounds T s x j false in
-      let next = next-starts T s x j false own in
-      rw e (refl, b .0, b .1, starts-at j _ (windows T) (next .at) (next .inside) (passes-own j false 0 (getD (windows T) (next .at) noWindow) (next .passed)) (next .starts));
+      let b = next-bounds T s x (ownedBy j) in
+      let next = next-starts T s x (ownedBy j) j own (owned-passes j) in
+      rw e (refl, b .0, b .1, starts-at j _ (windows T) (next .at) (next .inside) (passes-test (ownedBy j) 0 (getD (windows T) (next .at) noWindow) (next .passed)) (next .starts));
 }
 
 none-between : (f : Field) → between 1 0 f ≡ false

@@ -1,4 +1,4 @@
--- Calls 1 to 13, 32 and 33: functions of what the call sees (Context), of the request's fields and of the partition's own record. The checks
+-- Calls 1 to 13 and 32 to 34: functions of what the call sees (Context), of the request's fields and of the partition's own record. The checks
 -- stand in the order of documents 01 and 02, then what an accepted call does. Defined for every record.
 use Prim.Native.Nat.{ℕ, _+_, _-_, _%_}
 use mathlib.Core.Bool.{Bool, true, false, cond, not, _&&_, _||_}
@@ -190,3 +190,7 @@ unlockPreemption p =
     ∷ (not (locked (p .level)), 1)
     ∷ [])
     (changed (LevelSet (p .level - 1) (cond (locked (p .level - 1)) (p .holder) 0)))
+
+-- 34 GET_TICKS_LEFT. Value the ticks left in the window; in every mode.
+unfoldable pub getTicksLeft : Context → Decision
+getTicksLeft c = Unchanged (c .left) (At 0)

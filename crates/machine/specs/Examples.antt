@@ -1,4 +1,4 @@
--- The worked example of document 01 and its continuation, and two of document 02: what is put in and what is printed, in columns.
+-- The worked example of document 01 and its continuation, and three of document 02: what is put in and what is printed, in columns.
 use Prim.Native.Nat.{ℕ}
 use Prim.Native.String.{String}
 use Prim.Native.Char.{code}
@@ -137,3 +137,49 @@ lockedAnswers =
     "         0         0         0         1         1         1" ∷
     "         0         0         0         1         1         2" ∷
     "         1         0         0         1         1         2" ∷ []
+
+-- ---------------------------------------------------------------- ticks left in the window (document 02, f)
+-- one partition, two windows without a gap between them, and a gap at the frame's end
+unfoldable pub adjacentWindows : List String
+adjacentWindows =
+    "        10         1         2         0         0         0" ∷
+    "         0         3         1         1         0         0" ∷
+    "         3         4         1         0         0         0" ∷ []
+
+-- GET_TICKS_LEFT at t = 0, 2, 3, 7 and 10, in COLD_START
+unfoldable pub askedLeft : List String
+askedLeft =
+    "         1        34         0         0         0         0" ∷
+    "         0         0         0         0         0         0" ∷
+    "         0         0         0         0         0         0" ∷
+    "         1        34         0         0         0         0" ∷
+    "         0         0         0         0         0         0" ∷
+    "         1        34         0         0         0         0" ∷
+    "         0         0         0         0         0         0" ∷
+    "         0         0         0         0         0         0" ∷
+    "         0         0         0         0         0         0" ∷
+    "         0         0         0         0         0         0" ∷
+    "         1        34         0         0         0         0" ∷
+    "         0         0         0         0         0         0" ∷
+    "         0         0         0         0         0         0" ∷
+    "         0         0         0         0         0         0" ∷
+    "         1        34         0         0         0         0" ∷ []
+
+-- 3, then 1 at the first window's last tick, 4 in the second, 8 in the gap, and 3 in the next frame
+unfoldable pub leftAnswers : List String
+leftAnswers =
+    "         0         3         0         0         1         0" ∷
+    "         0         0         0         1         1         0" ∷
+    "         0         0         0         2         1         0" ∷
+    "         0         1         0         2         1         0" ∷
+    "         0         0         0         3         1         0" ∷
+    "         0         4         0         3         1         0" ∷
+    "         0         0         0         4         1         0" ∷
+    "         0         0         0         5         1         0" ∷
+    "         0         0         0         6         1         0" ∷
+    "         0         0         0         7         0         0" ∷
+    "         8         0         0         7         0         0" ∷
+    "         0         0         0         8         0         0" ∷
+    "         0         0         0         9         0         0" ∷
+    "         0         0         0        10         1         0" ∷
+    "         0         3         0        10         1         0" ∷ []

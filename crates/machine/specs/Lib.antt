@@ -28,4 +28,5 @@ pub mod Starred
 pub mod Releases
 pub mod Queues
 pub mod Locks
+pub mod TicksLeft
 pub mod Account

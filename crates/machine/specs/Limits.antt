@@ -43,7 +43,7 @@ modeLimit = 3
 
 -- Module::CALL
 abbrev pub callLimit : ℕ
-callLimit = 33
+callLimit = 34
 
 -- Module::LEVEL
 abbrev pub levelLimit : ℕ

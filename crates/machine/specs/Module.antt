@@ -14,6 +14,7 @@ use Rattle.machine.specs.declared.Queue.{Queue}
 use Rattle.machine.specs.declared.Module.{Module}
 use Rattle.machine.specs.Messages.{noQueue}
 use Rattle.machine.specs.Decisions.{noMessage}
+use Rattle.machine.specs.declared.Lookup.{Lookup}
 use Rattle.machine.specs.Windows.{noWindow, lookup}
 
 abbrev pub noChannel : Channel
@@ -72,8 +73,15 @@ message m i = getD (m .messages) i noMessage
 abbrev pub queue : Module → ℕ → Queue
 queue m i = getD (m .queues) i noQueue
 
+-- the window lookup at t: the current partition, and the ticks left
+abbrev pub window : Module → Lookup
+window m = lookup (m .table) (m .t)
+
 abbrev pub current : Module → ℕ
-current m = lookup (m .table) (m .t) .partition
+current m = window m .partition
+
+abbrev pub ticksLeft : Module → ℕ
+ticksLeft m = window m .left
 
 abbrev pub runningIn : ℕ → Module → ℕ
 runningIn k m = cond (eqb k 0) 0 (running (part m (k - 1)))

@@ -24,7 +24,7 @@ strayField used r =
 abbrev pub oneZero : Request → Bool
 oneZero r = cond (isNumber 0 (r .partition)) (not (isNumber 0 (r .call))) (isNumber 0 (r .call))
 
--- 13: record empty (even a tick), partition not 0..P, call not 0..33, just one of these two 0, an unused field not 0
+-- 13: record empty (even a tick), partition not 0..P, call not 0..34, just one of these two 0, an unused field not 0
 abbrev pub malformed : Table → Request → Bool
 malformed T r =
     eqb (T .size) 0

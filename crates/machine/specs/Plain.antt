@@ -31,6 +31,7 @@ use Rattle.machine.specs.declared.Event.{Event as EventT}
 use Rattle.machine.specs.declared.Request.{Request}
 use Rattle.machine.specs.declared.Module.{Module}
 use Rattle.machine.specs.declared.Table.{Table}
+use Rattle.machine.specs.declared.Window.{Window}
 use Rattle.machine.specs.declared.Stepped.{Stepped}
 use Rattle.machine.specs.Limits.{levelLimit, channelLimit, greatestTime, greatestValue}
 use Rattle.machine.specs.Fields.{field, requestOf, isNumber, between, isMinusOne, numberOf}
@@ -40,7 +41,7 @@ use Rattle.machine.specs.Process.{blankProcess, later, carried, ready, o
 use Rattle.machine.specs.Partition.{normalMode, nothingCreated, noSemaphore, noEvent, noBuffer, noBlackboard, process, semaphore, event, buffer, blackboard, emptyBuffer, withMode, withLock, withProcesses, withSemaphores, withEvents, withBuffers, withBlackboards, waiters, noted}
 use Rattle.machine.specs.Decisions.{replyOf, unknown}
 use Rattle.machine.specs.Objects.{oneMore}
-use Rattle.machine.specs.Windows.{windows, owner, lookup, releasePoint, startsFrom, firstStart, aheadOf, nextStart}
+use Rattle.machine.specs.Windows.{windows, anyWindow, flaggedFor, startsFrom, firstStart, aheadOf, nextStart, covering, lookup, releasePoint}
 use Rattle.machine.specs.Table.{hasFlagged}
 use Rattle.machine.specs.Module.{emptyModule, channel, part, queue, withPart, withMessage, withQueue}
 use Rattle.machine.specs.Ticks.{partitionCount}
@@ -289,18 +290,18 @@ pub record PlainNumbers (p : Partition) : Type 0 where
   pub values : (k : ℕ) → Between 1 (p .semaphoreCount) k → semaphore k p .value < greatestValue
   pub level : leb levelLimit (p .level) ≡ eqb (p .level) levelLimit
 
--- M is not 0: the current partition and the next start of a window are the plain ones at every time; P is at most 8, there are at most 16 channels, and a
+-- M is not 0: the window lookup and the next start of a window are the plain ones at every time; P is at most 8, there are at most 16 channels, and a
 -- channel is queuing by its size alone; every partition has a window with flag 1, and its release point is the next start of one, from t on
 pub record PlainTable (T : Table) (t : ℕ) : Type 0 where
   pub frame : 1 ≤ T .frame
-  pub current : (t : ℕ) → lookup T t .partition ≡ owner (windows T) (t % T .frame)
-  pub starts : (t k : ℕ) (flagged : Bool) → let x = t % T .frame in
-      nextStart T t k flagged ≡ aheadOf (T .frame) x (firstStart (startsFrom k flagged (x + 1)) (windows T)) (firstStart (startsFrom k flagged 0) (windows T))
+  pub current : (t : ℕ) → lookup T t ≡ covering (windows T) (t % T .frame) (nextStart T t anyWindow)
+  pub starts : (t : ℕ) (f : Window → Bool) → let x = t % T .frame in
+      nextStart T t f ≡ aheadOf (T .frame) x (firstStart (startsFrom f (x + 1)) (windows T)) (firstStart (startsFrom f 0) (windows T))
   pub count : partitionCount T ≡ T .size
   pub queuing : (i : ℕ) → i < T .channelCount → queuing (channel T i) ≡ ltb 0 (channel T i .size)
   pub channels : T .channelCount ≤ channelLimit
   pub flagged : (k : ℕ) → Between 1 (T .size) k → hasFlagged k (windows T) ≡ true
-  pub release : (k : ℕ) → releasePoint T t k ≡ t + nextStart T t k true
+  pub release : (k : ℕ) → releasePoint T t k ≡ t + nextStart T t (flaggedFor k)
 
 -- a cap that acts is seen: a sum of times is the plain one or the greatest time, also where one more is added to it, and one more than a
 -- semaphore's value is the plain one or not below the greatest

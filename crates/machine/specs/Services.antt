@@ -1,4 +1,4 @@
--- Calls 1 to 33 by number: for each how many of the fields a, b, c, e it uses, and what it decides.
+-- Calls 1 to 34 by number: for each how many of the fields a, b, c, e it uses, and what it decides.
 use Prim.Native.Nat.{ℕ, _-_}
 use mathlib.Core.Bool.{cond}
 use mathlib.Core.List.{List, [], _∷_}
@@ -13,7 +13,7 @@ use Rattle.machine.specs.declared.Request.{Request}
 use Rattle.machine.specs.declared.Field.the-variants.{Number}
 use Rattle.machine.specs.Fields.{numberOf}
 use Rattle.machine.specs.Decisions.{checked, noCallerAs}
-use Rattle.machine.specs.Calls.{setMode, createProcess, start, stop, stopSelf, suspend, suspendSelf, timedWait, periodicWait, resume, setPriority, getStatus, lockPreemption, unlockPreemption}
+use Rattle.machine.specs.Calls.{setMode, createProcess, start, stop, stopSelf, suspend, suspendSelf, timedWait, periodicWait, resume, setPriority, getStatus, lockPreemption, unlockPreemption, getTicksLeft}
 use Rattle.machine.specs.Objects.{createSemaphore, createEvent, waitSemaphore, waitEvent, signal, setEvent, resetEvent}
 use Rattle.machine.specs.Channels.{write, read, send, receive}
 use Rattle.machine.specs.Buffers.{createBuffer, sendBuffer, receiveBuffer}
@@ -63,6 +63,7 @@ services =
     ∷ service 2 (λ c x r p. receive c x (r .b) p)
     ∷ service 0 (λ c x r p. lockPreemption c p)
     ∷ service 0 (λ c x r p. unlockPreemption p)
+    ∷ service 0 (λ c x r p. getTicksLeft c)
     ∷ []
 
 -- another number, which 13 refuses before, decides nothing

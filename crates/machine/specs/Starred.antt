@@ -1,7 +1,7 @@
 -- The cases of document 01 marked with a star, and its mistakes to shut out, with what document 02 adds, as one list of claims about
 -- `step`: each for every reached record, table and event to which it applies, with what the answer and the record then hold; the worked
--- example, its continuation and the examples of releases inside a frame and of the preemption lock as computed runs from bytes. The
--- premises speak of an event's numbers, the table, the record, the current partition and the running process.
+-- example, its continuation and the examples of releases inside a frame, of the preemption lock and of ticks left as computed runs from
+-- bytes. The premises speak of an event's numbers, the table, the record, the current partition and the running process.
 use Prim.Native.Nat.{ℕ, suc, _+_, _-_, _*_, _/_, _%_, _≤_, _<_}
 use mathlib.Core.Path.{_≡_}
 use mathlib.Core.Bool.{Bool, true, false, cond, _||_}
@@ -28,7 +28,7 @@ use Rattle.machine.specs.Step.{step}
 use Rattle.machine.specs.Valid.{Between, SoundPeriod, SoundCapacity, Reached, contains, plainLater}
 use Rattle.machine.specs.Plain.{plainBetween, plainMinusOne}
 use Rattle.machine.specs.Replay.{replayed, replayedRecord, timeNumber}
-use Rattle.machine.specs.Examples.{text, table, events, printed, toFour, tickLine, printedAfter, twoWindows, startedInFirst, releasedInSecond, oneWindow, lockedUpdate, lockedAnswers}
+use Rattle.machine.specs.Examples.{text, table, events, printed, toFour, tickLine, printedAfter, twoWindows, startedInFirst, releasedInSecond, oneWindow, lockedUpdate, lockedAnswers, adjacentWindows, askedLeft, leftAnswers}
 
 -- the worked example prints its six lines; continued, t = 4 runs 1, t = 5 sets missed, t = 6 current 2
 pub record Worked : Type 0 where
@@ -40,6 +40,8 @@ pub record Worked : Type 0 where
   pub released : replayed (text (twoWindows ++ startedInFirst)) ≡ text releasedInSecond
   -- preemption is locked: a process of greater priority becomes READY, and runs after the unlock
   pub locked : replayed (text (oneWindow ++ lockedUpdate)) ≡ text lockedAnswers
+  -- ticks left: adjacent windows of one partition are not joined
+  pub left : replayed (text (adjacentWindows ++ askedLeft)) ≡ text leftAnswers
 
 -- ---------------------------------------------------------------- events, and what they give
 -- partition k's record

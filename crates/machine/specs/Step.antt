@@ -17,7 +17,7 @@ use Rattle.machine.specs.Fields.{requestOf, isNumber, numberOf}
 use Rattle.machine.specs.Partition.{running, partitionAfter}
 use Rattle.machine.specs.Decisions.{checked, replyOf}
 use Rattle.machine.specs.Windows.{releasePoint}
-use Rattle.machine.specs.Module.{part, current, runningIn, withPart, withMessage}
+use Rattle.machine.specs.Module.{part, current, ticksLeft, runningIn, withPart, withMessage}
 use Rattle.machine.specs.Ticks.{tickModule}
 use Rattle.machine.specs.Channels.{portOf, passed, erasedTo, refilledTo}
 use Rattle.machine.specs.Services.{called}
@@ -25,7 +25,7 @@ use Rattle.machine.specs.Places.{ticks, firstChecks}
 
 -- The NORMAL partition's caller is its running process; in start modes it is the main program, which is no process: 0.
 abbrev pub contextOf : Module → ℕ → Context
-contextOf m k = record { time = m .t; frame = m .table .frame; release = releasePoint (m .table) (m .t) k; caller = running (part m (k - 1)) }
+contextOf m k = record { time = m .t; frame = m .table .frame; left = ticksLeft m; release = releasePoint (m .table) (m .t) k; caller = running (part m (k - 1)) }
 
 -- Numbers by place of check: 13 first; a tick 10; a call 8, then 9, then its body. A call is by the partition that it names.
 unfoldable pub decision : Module → Request → Decision

@@ -312,6 +312,7 @@ pub record Valid (frame t : ℕ) (p : Partition) : Type 0 where
 pub record SoundContext (c : Context) (p : Partition) : Type 0 where
   pub time : c .time ≤ timeLimit
   pub frame : Between 1 frameLimit (c .frame)
+  pub left : Between 1 (c .frame) (c .left)
   pub ahead : c .time < c .release
   pub near : c .release ≤ c .time + c .frame
   pub caller : c .caller ≡ running p

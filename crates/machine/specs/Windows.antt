@@ -1,4 +1,4 @@
--- The windows of a table: the current partition, the next start of a window, the release point and the waiting time.
+-- The windows of a table: the next start of a window, the current partition with the ticks left, the release point and the waiting time.
 use Prim.Native.Nat.{ℕ, _+_, _-_, _%_, _≤_, _<_}
 use mathlib.Core.Bool.{Bool, true, false, cond, not, _&&_, _||_}
 use mathlib.Core.List.{List, [], _∷_}
@@ -13,6 +13,7 @@ use Rattle.machine.specs.declared.Time.the-variants.{Never, At}
 use Rattle.machine.specs.declared.Window.{Window}
 use Rattle.machine.specs.declared.Table.{Table}
 use Rattle.machine.specs.declared.Lookup.{Lookup}
+use mathlib.Core.Logic.{_⊎_}
 use mathlib.Core.Path.{_≡_}
 use lib.IntN.{ℤ}
 use Rattle.machine.specs.declared.Waiting.{Waiting}
@@ -27,22 +28,22 @@ windows T = take (T .windowCount) (T .windows)
 abbrev pub covers : Window → ℕ → Bool
 covers w x = leb (w .start) x && ltb x (w .start + w .duration)
 
-unfoldable pub owner : List Window → ℕ → ℕ
-owner [] x = 0
-owner (w ∷ ws) x = cond (covers w x) (w .partition) (owner ws x)
+-- any window
+abbrev pub anyWindow : Window → Bool
+anyWindow w = true
 
--- The current partition owns the window with start ≤ t mod M < start + duration; 0 if none. Bound: 0 where M is 0.
-unfoldable pub lookup : Table → ℕ → Lookup
-lookup T t = record { partition = cond (eqb (T .frame) 0) 0 (owner (windows T) (t % T .frame)) }
+-- a window of the partition
+abbrev pub ownedBy : ℕ → Window → Bool
+ownedBy k w = eqb (w .partition) k
 
 -- a window of the partition with flag 1
 abbrev pub flaggedFor : ℕ → Window → Bool
 flaggedFor k w = w .flag && eqb (w .partition) k
 
 -- ---------------------------------------------------------------- the next start
--- a window of partition k, with flag 1 where it is asked for, that does not start before this place of the frame
-abbrev pub startsFrom : ℕ → Bool → ℕ → Window → Bool
-startsFrom k flagged from w = eqb (w .partition) k && ((not flagged || w .flag) && leb from (w .start))
+-- a window that passes a test and does not start before this place of the frame
+abbrev pub startsFrom : (Window → Bool) → ℕ → Window → Bool
+startsFrom f from w = f w && leb from (w .start)
 
 -- the start of the first window that passes a test; −1 where none does
 unfoldable pub firstStart : (Window → Bool) → List Window → Time
@@ -55,17 +56,56 @@ aheadOf frame x (At s) next = s - x
 aheadOf frame x Never (At s) = s + frame - x
 aheadOf frame x Never Never = frame
 
--- the next start after t of a window of partition k, with flag 1 where it is asked for, as a number of ticks. Bound: 0 where M is 0
-unfoldable pub nextStart : Table → ℕ → ℕ → Bool → ℕ
-nextStart T t k flagged =
+-- the next start after t of a window that passes a test, as a number of ticks. Bound: 0 where M is 0
+unfoldable pub nextStart : Table → ℕ → (Window → Bool) → ℕ
+nextStart T t f =
     let x = t % T .frame in
     cond (eqb (T .frame) 0) 0
-    (aheadOf (T .frame) x (firstStart (startsFrom k flagged (x + 1)) (windows T)) (firstStart (startsFrom k flagged 0) (windows T)))
+    (aheadOf (T .frame) x (firstStart (startsFrom f (x + 1)) (windows T)) (firstStart (startsFrom f 0) (windows T)))
+
+-- ---------------------------------------------------------------- the window lookup
+-- The current partition owns the window with start ≤ x < start + duration, 0 if none; with it the ticks until that window ends, or the
+-- given ones where there is none.
+unfoldable pub covering : List Window → ℕ → ℕ → Lookup
+covering [] x gap = record { partition = 0; left = gap }
+covering (w ∷ ws) x gap = cond (covers w x) (record { partition = w .partition; left = w .start + w .duration - x }) (covering ws x gap)
+
+-- The window lookup at t: x is t mod M, and where there is no window the ticks are those until the next start of any window, counting into the
+-- next frame. Bound: 0 and 0 where M is 0.
+unfoldable pub lookup : Table → ℕ → Lookup
+lookup T t = cond (eqb (T .frame) 0) (record { partition = 0; left = 0 }) (covering (windows T) (t % T .frame) (nextStart T t anyWindow))
+
+-- a window starts at place x of the frame
+pub record StartAt (T : Table) (x : ℕ) : Type 0 where
+  pub at : ℕ
+  pub inside : at < length (windows T)
+  pub starts : getD (windows T) at noWindow .start ≡ x
+
+-- no window covers place x of the frame
+abbrev pub Uncovered : Table → ℕ → Type 0
+Uncovered T x = (i : ℕ) → i < length (windows T) → covers (getD (windows T) i noWindow) x ≡ false
+
+-- what the lookup gives at t, without a search, with n ticks left
+pub record WindowLeft (T : Table) (t n : ℕ) : Type 0 where
+  -- 1 ≤ n ≤ M
+  pub some : 1 ≤ n
+  pub few : n ≤ T .frame
+  -- in a window: its partition, and its end minus t mod M
+  pub window : (i : ℕ) → let w = getD (windows T) i noWindow in
+      let x = t % T .frame in
+      i < length (windows T) → covers w x ≡ true → (lookup T t .partition ≡ w .partition) × (x + n ≡ w .start + w .duration)
+  -- without one: no partition, and until a window starts
+  pub gap : Uncovered T (t % T .frame) → (lookup T t .partition ≡ 0) × StartAt T ((t + n) % T .frame)
+  -- for j < n the lookup at t + j gives the same partition and n − j; no window starts in between, so that adjacent ones are not joined
+  pub lasts : (j : ℕ) → j < n → lookup T (t + j) ≡ record { partition = lookup T t .partition; left = n - j }
+  pub between : (j : ℕ) → 1 ≤ j → j < n → StartAt T ((t + j) % T .frame) → ⊥
+  -- at t + n a window starts, or none covers it
+  pub ends : StartAt T ((t + n) % T .frame) ⊎ Uncovered T ((t + n) % T .frame)
 
 -- ---------------------------------------------------------------- the release point
 -- the earliest start of a window with flag 1, of that partition, strictly after t
 unfoldable pub releaseAfter : Table → ℕ → ℕ → ℕ
-releaseAfter T t k = t + nextStart T t k true
+releaseAfter T t k = t + nextStart T t (flaggedFor k)
 
 -- bound: no time is past the greatest
 unfoldable pub releasePoint : Table → ℕ → ℕ → ℕ
@@ -101,7 +141,7 @@ waitingRefused T t k = not (between 0 timeLimit t) || not (between 1 (T .size) k
 
 -- the waiting time that is given: to the next start
 unfoldable pub waitingOf : Table → ℤ → ℤ → Waiting
-waitingOf T t k = cond (waitingRefused T (field t) (field k)) (record { code = 13; n = 0 }) (record { code = 0; n = nextStart T (numberOf (field t)) (numberOf (field k)) false })
+waitingOf T t k = cond (waitingRefused T (field t) (field k)) (record { code = 13; n = 0 }) (record { code = 0; n = nextStart T (numberOf (field t)) (ownedBy (numberOf (field k))) })
 
 -- given t and a partition, a number n in 1..M such that a window of it starts at (t + n) mod M
 pub record WaitingTime (T : Table) (t k : ℤ) (w : Waiting) : Type 0 where

@@ -230,15 +230,18 @@ pub struct EventRecord {
     pub answer: Answer,
 }
 
-// What the window lookup gives: the current partition, 0 if none.
+// What the window lookup gives: the current partition, 0 if none, and the ticks until its window ends, or until the next start.
 pub struct Lookup {
     pub partition: u8,
+    pub left: u32,
 }
 
-// What a call sees besides its partition's record: time, M, the next release point of the partition, and the caller.
+// What a call sees besides its partition's record: time, M, the ticks left in the window, the next release point of the partition, and
+// the caller.
 pub struct Context {
     pub time: u32,
     pub frame: u16,
+    pub left: u32,
     pub release: u32,
     pub caller: u8,
 }
@@ -358,7 +361,7 @@ impl Module {
     // Modes are 0 to this.
     pub const MODE: u32 = 3;
     // Calls are 1 to this.
-    pub const CALL: u32 = 33;
+    pub const CALL: u32 = 34;
     // Levels of a preemption lock are 0 to this.
     pub const LEVEL: u8 = 16;
     // D: 0 to this.

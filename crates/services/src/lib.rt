@@ -1,4 +1,4 @@
-// Calls 1 to 33 by number: the fields that each uses, and what it decides.
+// Calls 1 to 34 by number: the fields that each uses, and what it decides.
 ghost use mathlib.Core.Path.{_≡_};
 ghost use Rattle.machine.specs.Services.{serviceOf, called};
 use machine::Context;
@@ -46,6 +46,7 @@ pub fn fields_of(n: u32) -> u8
         31 => queuing::RECEIVE_FIELDS,
         32 => calls::LOCK_PREEMPTION_FIELDS,
         33 => calls::UNLOCK_PREEMPTION_FIELDS,
+        34 => calls::GET_TICKS_LEFT_FIELDS,
         _ => 0,
     }
 }
@@ -95,6 +96,7 @@ pub fn call(p: Partition, c: Context, x: Port, n: u32, r: Request) -> Decision
         31 => queuing::receive_channel(p, c, x, b),
         32 => calls::lock_preemption(p, c),
         33 => calls::unlock_preemption(p),
+        34 => calls::get_ticks_left(c),
         _ => Decision::Refused(13),
     }
 }

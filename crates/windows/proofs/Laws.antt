@@ -1,5 +1,5 @@
 -- Loops over the windows of a table: what is left from window i on. Assumes nothing.
-use Prim.Native.Nat.{ℕ, _+_, _%_, _≤_, _<_}
+use Prim.Native.Nat.{ℕ, _+_, _-_, _%_, _≤_, _<_}
 use mathlib.Core.Bool.{Bool, true, false, not}
 use mathlib.Core.List.{[], _∷_}
 use mathlib.Core.Path.{_≡_, sym}
@@ -10,7 +10,7 @@ use lib.ListN.{length, getD, drop}
 use borrow.Author.Tests.{ne-eqb, not-true, not-false}
 use Rattle.machine.specs.Fields.{field, between, numberOf}
 use Rattle.machine.specs.Limits.{timeLimit}
-use Rattle.machine.specs.Windows.{noWindow, windows, covers, owner, startsFrom, firstStart, aheadOf, nextStart, waitingOf}
+use Rattle.machine.specs.Windows.{noWindow, windows, covers, ownedBy, startsFrom, firstStart, aheadOf, nextStart, covering, waitingOf}
 use Rattle.machine.specs.declared.Field.{Field}
 use Rattle.machine.specs.declared.Table.{Table}
 use Rattle.machine.specs.declared.Time.{Time}
@@ -26,19 +26,20 @@ module _ (T : Table) (i : ℕ) where
   no-window : length (windows T) ≤ i → drop i (windows T) ≡ []
   no-window = taken-done (T .windows) (T .windowCount) i noWindow
 
-  -- it owns place x, or the later ones decide, or none is left
-  module _ (x : ℕ) where
-    pub owner-here : i < length (windows T) → covers (getD (T .windows) i noWindow) x ≡ true → owner (drop i (windows T)) x ≡ getD (T .windows) i noWindow .partition
-    unfolding owner
-    owner-here h e = rw (next-window h, owner, e)
+  -- it covers place x, or the later ones decide, or none is left
+  module _ (x gap : ℕ) where
+    pub covering-here : i < length (windows T) → let w = getD (T .windows) i noWindow in
+        covers w x ≡ true → covering (drop i (windows T)) x gap ≡ record { partition = w .partition; left = w .start + w .duration - x }
+    unfolding covering
+    covering-here h e = rw (next-window h, covering, e)
 
-    pub owner-more : i < length (windows T) → covers (getD (T .windows) i noWindow) x ≡ false → owner (drop i (windows T)) x ≡ owner (drop (i + 1) (windows T)) x
-    unfolding owner
-    owner-more h e = rw (next-window h, owner, e)
+    pub covering-more : i < length (windows T) → covers (getD (T .windows) i noWindow) x ≡ false → covering (drop i (windows T)) x gap ≡ covering (drop (i + 1) (windows T)) x gap
+    unfolding covering
+    covering-more h e = rw (next-window h, covering, e)
 
-    pub owner-done : length (windows T) ≤ i → owner (drop i (windows T)) x ≡ 0
-    unfolding owner
-    owner-done h = rw (no-window h)
+    pub covering-done : length (windows T) ≤ i → covering (drop i (windows T)) x gap ≡ record { partition = 0; left = gap }
+    unfolding covering
+    covering-done h = rw (no-window h)
 
   -- it is the first that passes a test, or the later ones decide, or none is left
   module _ (f : Window → Bool) where
@@ -58,16 +59,16 @@ module _ (T : Table) (i : ℕ) where
 pub place : (T : Table) (t : ℕ) → (T .frame ≡ 0 → ⊥) → t % T .frame < T .frame
 place T t some = mod-lt t (omega arith)
 
-module _ (T : Table) (t k : ℕ) (flagged : Bool) where
+module _ (T : Table) (t : ℕ) (f : Window → Bool) where
   -- a start that is found in this frame lies ahead, and one that is found in the next frame only does not
-  pub start-ahead : (s : ℕ) → At s ≡ firstStart (startsFrom k flagged (t % T .frame + 1)) (windows T) → t % T .frame ≤ s
-  start-ahead s e = let h : t % T .frame + 1 ≤ s = rw (← e) at (found-from k flagged (t % T .frame + 1) (windows T)) in omega arith
+  pub start-ahead : (s : ℕ) → At s ≡ firstStart (startsFrom f (t % T .frame + 1)) (windows T) → t % T .frame ≤ s
+  start-ahead s e = let h : t % T .frame + 1 ≤ s = rw (← e) at (found-from f (t % T .frame + 1) (windows T)) in omega arith
 
-  pub start-behind : (s : ℕ) → Never ≡ firstStart (startsFrom k flagged (t % T .frame + 1)) (windows T) → At s ≡ firstStart (startsFrom k flagged 0) (windows T) → s ≤ t % T .frame
-  start-behind s n e = let h : s < t % T .frame + 1 = rw (← e) at (found-before k flagged (t % T .frame + 1) (windows T) (sym n)) in omega arith
+  pub start-behind : (s : ℕ) → Never ≡ firstStart (startsFrom f (t % T .frame + 1)) (windows T) → At s ≡ firstStart (startsFrom f 0) (windows T) → s ≤ t % T .frame
+  start-behind s n e = let h : s < t % T .frame + 1 = rw (← e) at (found-before f (t % T .frame + 1) (windows T) (sym n)) in omega arith
 
-  pub next-found : (T .frame ≡ 0 → ⊥) → (r r′ : Time) → r ≡ firstStart (startsFrom k flagged (t % T .frame + 1)) (windows T) → r′ ≡ firstStart (startsFrom k flagged 0) (windows T)
-      → aheadOf (T .frame) (t % T .frame) r r′ ≡ nextStart T t k flagged
+  pub next-found : (T .frame ≡ 0 → ⊥) → (r r′ : Time) → r ≡ firstStart (startsFrom f (t % T .frame + 1)) (windows T) → r′ ≡ firstStart (startsFrom f 0) (windows T)
+      → aheadOf (T .frame) (t % T .frame) r r′ ≡ nextStart T t f
   unfolding nextStart
   next-found some r r′ e e′ = rw (e, e′, ne-eqb (T .frame) 0 some)
 
@@ -82,6 +83,6 @@ module _ (T : Table) (t k : ℤ) (f g : Field) (b b′ : Bool) (at : f ≡ field
   unfolding waitingOf
   waiting-stranger e e′ = rw (← at, ← own, ← first, ← second, not-false b e, not-true b′ e′)
 
-  pub waiting-given : (x y n : ℕ) → x ≡ numberOf f → y ≡ numberOf g → n ≡ nextStart T x y false → not b ≡ false → not b′ ≡ false → record { code = 0; n = n } ≡ waitingOf T t k
+  pub waiting-given : (x y n : ℕ) → x ≡ numberOf f → y ≡ numberOf g → n ≡ nextStart T x (ownedBy y) → not b ≡ false → not b′ ≡ false → record { code = 0; n = n } ≡ waitingOf T t k
   unfolding waitingOf
   waiting-given x y n p q r e e′ = rw (r, p, q, ← at, ← own, ← first, ← second, not-false b e, not-false b′ e′)

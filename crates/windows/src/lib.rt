@@ -1,15 +1,23 @@
-// The windows of a table: the current partition, the next start of a window, the release point and the waiting time.
+// The windows of a table: the next start of a window, the current partition with the ticks left, the release point and the waiting time.
 ghost use mathlib.Core.Path.{_≡_};
 ghost use Prim.Native.Nat.{_≤_};
 ghost use lib.ListN.{length};
 ghost use Rattle.machine.specs.Limits.{windowLimit};
-ghost use Rattle.machine.specs.Windows.{windows, covers, owner, lookup, flaggedFor, releasePoint, startsFrom, firstStart, nextStart, waitingOf};
+ghost use Rattle.machine.specs.Windows.{windows, covers, flaggedFor, startsFrom, firstStart, nextStart, lookup, releasePoint, waitingOf};
+ghost use Rattle.windows.specs.Sought.{sought};
 use machine::Lookup;
 use machine::Module;
 use machine::Table;
 use machine::Time;
 use machine::Waiting;
 use machine::Window;
+
+// Which windows a search for a start goes by: any, those of a partition, those of a partition with flag 1.
+pub enum Sought {
+    AnyWindow,
+    OwnedBy(u32),
+    FlaggedFor(u32),
+}
 
 // How many windows a table has, the array's length at most.
 pub fn count(table: Table) -> usize
@@ -35,35 +43,6 @@ fn does_cover(w: Window, x: u32) -> bool
     }
 }
 
-// The owner of the window at a place of the frame.
-fn owner_at(table: Table, x: u32) -> u8
-    ensures { λ r. ⌜ r ≡ owner (windows table) x ⌝ }
-{
-    let n = count(table);
-    let mut i: usize = 0;
-    while i < n {
-        let w = table.windows[i];
-        if does_cover(w, x) {
-            return w.partition;
-        }
-        i = i + 1;
-    }
-    0
-}
-
-// The current partition at t.
-pub fn lookup_at(table: Table, t: u32) -> Lookup
-    ensures { λ r. ⌜ r ≡ lookup table t ⌝ }
-{
-    let frame = table.frame as u32;
-    if frame == 0 {
-        return Lookup { partition: 0 };
-    }
-    Lookup {
-        partition: owner_at(table, t % frame),
-    }
-}
-
 // Whether the window has flag 1 and is the partition's.
 pub fn is_flagged(w: Window, k: u32) -> bool
     ensures { λ r. ⌜ r ≡ flaggedFor k w ⌝ }
@@ -75,28 +54,37 @@ pub fn is_flagged(w: Window, k: u32) -> bool
     }
 }
 
-// Whether the window is the partition's, with flag 1 where it is asked for, and does not start before a place of the frame.
-fn does_start_from(w: Window, k: u32, flagged: bool, from: u32) -> bool
-    ensures { λ r. ⌜ r ≡ startsFrom k flagged from w ⌝ }
+// Whether a search goes by the window.
+fn is_sought(w: Window, which: Sought) -> bool
+    ensures { λ r. ⌜ r ≡ sought which w ⌝ }
 {
-    if w.partition as u32 != k {
-        return false;
+    match which {
+        Sought::AnyWindow => true,
+        Sought::OwnedBy(k) => w.partition as u32 == k,
+        Sought::FlaggedFor(k) => is_flagged(w, k),
     }
-    if flagged && !w.flag {
-        return false;
+}
+
+// Whether it goes by the window, which does not start before a place of the frame.
+fn does_start_from(w: Window, which: Sought, from: u32) -> bool
+    ensures { λ r. ⌜ r ≡ startsFrom (sought which) from w ⌝ }
+{
+    if is_sought(w, which) {
+        from <= w.start as u32
+    } else {
+        false
     }
-    from <= w.start as u32
 }
 
 // The start of the first such window.
-fn first_start(table: Table, k: u32, flagged: bool, from: u32) -> Time
-    ensures { λ r. ⌜ r ≡ firstStart (startsFrom k flagged from) (windows table) ⌝ }
+fn first_start(table: Table, which: Sought, from: u32) -> Time
+    ensures { λ r. ⌜ r ≡ firstStart (startsFrom (sought which) from) (windows table) ⌝ }
 {
     let n = count(table);
     let mut i: usize = 0;
     while i < n {
         let w = table.windows[i];
-        if does_start_from(w, k, flagged, from) {
+        if does_start_from(w, which, from) {
             return Time::At(w.start as u32);
         }
         i = i + 1;
@@ -104,21 +92,51 @@ fn first_start(table: Table, k: u32, flagged: bool, from: u32) -> Time
     Time::Never
 }
 
-// The next start after t of a window of partition k, as a number of ticks.
-pub fn next_start(table: Table, t: u32, k: u32, flagged: bool) -> u32
-    ensures { λ r. ⌜ r ≡ nextStart table t k flagged ⌝ }
+// The next start after t of a window that the search goes by, as a number of ticks.
+pub fn next_start(table: Table, t: u32, which: Sought) -> u32
+    ensures { λ r. ⌜ r ≡ nextStart table t (sought which) ⌝ }
 {
     let frame = table.frame as u32;
     if frame == 0 {
         return 0;
     }
     let x = t % frame;
-    match first_start(table, k, flagged, x + 1) {
+    match first_start(table, which, x + 1) {
         Time::At(s) => s - x,
-        Time::Never => match first_start(table, k, flagged, 0) {
+        Time::Never => match first_start(table, which, 0) {
             Time::At(s) => s + frame - x,
             Time::Never => frame,
         },
+    }
+}
+
+// The current partition at t with the ticks until its window ends; without a window, until the next start of any.
+pub fn lookup_at(table: Table, t: u32) -> Lookup
+    ensures { λ r. ⌜ r ≡ lookup table t ⌝ }
+{
+    let frame = table.frame as u32;
+    if frame == 0 {
+        return Lookup {
+            partition: 0,
+            left: 0,
+        };
+    }
+    let x = t % frame;
+    let n = count(table);
+    let mut i: usize = 0;
+    while i < n {
+        let w = table.windows[i];
+        if does_cover(w, x) {
+            return Lookup {
+                partition: w.partition,
+                left: w.start as u32 + w.duration as u32 - x,
+            };
+        }
+        i = i + 1;
+    }
+    Lookup {
+        partition: 0,
+        left: next_start(table, t, Sought::AnyWindow),
     }
 }
 
@@ -126,7 +144,7 @@ pub fn next_start(table: Table, t: u32, k: u32, flagged: bool) -> u32
 pub fn release_point(table: Table, t: u32, k: u32) -> u32
     ensures { λ r. ⌜ r ≡ releasePoint table t k ⌝ }
 {
-    let ahead = next_start(table, t, k, true);
+    let ahead = next_start(table, t, Sought::FlaggedFor(k));
     process::capped_time(t as u64 + ahead as u64)
 }
 
@@ -144,6 +162,6 @@ pub fn waiting_time(table: Table, t: i64, k: i64) -> Waiting
     }
     Waiting {
         code: 0,
-        n: next_start(table, fields::number_of(at), fields::number_of(own), false),
+        n: next_start(table, fields::number_of(at), Sought::OwnedBy(fields::number_of(own))),
     }
 }

@@ -142,8 +142,12 @@ unfolding checked callDecision services
 returns-34 c = rw (← c .before .before .before .before .has-no-caller .ensures, c .before .before .before .if1 .left, c .before .match .keys33, c .unlock-preemption .ensures)
 
 returns-35 : tie.Need-returns-35
+unfolding checked callDecision services
+returns-35 c = rw (← c .before .before .before .before .has-no-caller .ensures, c .before .before .before .if1 .left, c .before .match .keys34, c .get-ticks-left .ensures)
+
+returns-36 : tie.Need-returns-36
 unfolding checked callDecision NoneTo
-returns-35 c = rw (← c .before .before .before .has-no-caller .ensures, c .before .before .if1 .left, callDecision, none-left (c .before .before .before .before .args .n) (c .match .rest))
+returns-36 c = rw (← c .before .before .before .has-no-caller .ensures, c .before .before .if1 .left, callDecision, none-left (c .before .before .before .before .args .n) (c .match .rest))
 
 pub call-spec : {M : Type 1} → statement M
 call-spec =
@@ -151,6 +155,7 @@ call-spec =
     (tie.spec
     (λ c κs. search needs)
     returns
+    (λ c κs. search needs)
     (λ c κs. search needs)
     (λ c κs. search needs)
     (λ c κs. search needs)
@@ -218,4 +223,5 @@ call-spec =
     returns-32
     returns-33
     returns-34
-    returns-35)
+    returns-35
+    returns-36)

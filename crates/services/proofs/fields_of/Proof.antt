@@ -136,8 +136,12 @@ unfolding services
 returns-33 c = rw (c .match .keys33)
 
 returns-34 : tie.Need-returns-34
+unfolding services
+returns-34 c = rw (c .match .keys34)
+
+returns-35 : tie.Need-returns-35
 unfolding NoneTo
-returns-34 c = rw (none-left (c .before .args .n) (c .match .rest))
+returns-35 c = rw (none-left (c .before .args .n) (c .match .rest))
 
 pub fields-of-spec : {M : Type 1} → statement M
 fields-of-spec =
@@ -176,4 +180,5 @@ fields-of-spec =
     returns-31
     returns-32
     returns-33
-    returns-34)
+    returns-34
+    returns-35)

@@ -1,0 +1,113 @@
+-- Ticks left in the window, proved. Assumes nothing.
+use Prim.Native.Nat.{ℕ, _+_, _-_, _%_, _≤_, _<_}
+use mathlib.Core.Path.{_≡_, refl, sym, ap, ap₂, _∙_}
+use mathlib.Core.Bool.{Bool, true, false}
+use mathlib.Core.List.{List, [], _∷_}
+use mathlib.Core.Logic.{_⊎_, inl, inr, ⊎-elim}
+use native.Mathlib.Omega.{arith}
+use lib.IntN.{pos}
+use Rattle.machine.specs.declared.Event.{Event as EventT}
+use Rattle.machine.specs.declared.Lookup.{Lookup}
+use Rattle.machine.specs.declared.Module.{Module}
+use Rattle.machine.specs.declared.Table.{Table}
+use Rattle.machine.specs.declared.Time.the-variants.{At}
+use Rattle.machine.specs.declared.Decision.the-variants.{Unchanged}
+use Rattle.machine.specs.Calls as C
+use Rattle.machine.specs.Windows.{windows, lookup, StartAt, Uncovered, WindowLeft}
+use Rattle.machine.specs.Module.{emptyTable, emptyModule, window, current, ticksLeft}
+use Rattle.machine.specs.Services.{callDecision, services}
+use Rattle.machine.specs.Places.{strayField}
+use Rattle.machine.specs.Step.{step}
+use Rattle.machine.specs.LeftRight.{after}
+use Rattle.machine.specs.Valid.{SoundTable, SoundModule, Reached}
+use Rattle.machine.specs.Starred.{Gives, Calling}
+use Rattle.machine.specs.TicksLeft.{getLeft, EndsIn, LeftCall, TicksLeft}
+use Rattle.machine.proofs.WindowLeft.{Covered, covered-or-none, window-left}
+use Rattle.machine.proofs.Reached.{reached-valid}
+use Rattle.machine.proofs.Answers.{step-table}
+use Rattle.machine.proofs.Calling.{calling-sound, gives}
+use Rattle.machine.proofs.Isolation.{left-right}
+
+-- ---------------------------------------------------------------- the table
+-- no event changes it
+after-table : (m : Module) (es : List EventT) → after m es .table ≡ m .table
+after-table m [] = refl
+after-table m (e ∷ es) = after-table (step m e .state) es ∙ step-table m e
+
+empty-window : (t : ℕ) → lookup (emptyModule .table) t ≡ record { partition = 0; left = 0 }
+unfolding lookup emptyModule emptyTable
+empty-window t = refl
+
+empty-frame : emptyModule .table .frame ≡ 0
+unfolding emptyModule emptyTable
+empty-frame = refl
+
+-- a reached record with M above 0 has a sound table; one with M = 0 is the empty one
+module _ (m : Module) (h : Reached m) where
+  frame-of : m ≡ emptyModule → m .table .frame ≡ 0
+  frame-of e = ap (λ (v : Module). v .table .frame) e ∙ empty-frame
+
+  sound-table : 0 < m .table .frame → SoundTable (m .table)
+  sound-table some = ⊎-elim (λ (e : m ≡ emptyModule). absurd (omega (arith, frame-of e))) (λ (s : SoundModule m). s .table) (reached-valid m h)
+
+  empty-table : m .table .frame ≡ 0 → (t : ℕ) → lookup (m .table) t ≡ record { partition = 0; left = 0 }
+  empty-table none t = ⊎-elim (λ (e : m ≡ emptyModule). ap (λ (v : Module). lookup (v .table) t) e ∙ empty-window t) (λ (s : SoundModule m). absurd (omega (arith, s .table .frame .0))) (reached-valid m h)
+
+  -- where ticks are left M is above 0
+  frame-left : 0 < ticksLeft m → 0 < m .table .frame
+  frame-left some = ⊎-elim (λ (e : m ≡ emptyModule). absurd (omega (arith, ap (λ (v : Lookup). v .left) (empty-table (frame-of e) (m .t))))) (λ (s : SoundModule m). s .table .frame .0) (reached-valid m h)
+
+  -- ---------------------------------------------------------------- over lists
+  module _ (es : List EventT) where
+    window-after : (t : ℕ) → after m es .t ≡ t → window (after m es) ≡ lookup (m .table) t
+    window-after t e = ap₂ lookup (after-table m es) e
+
+    lasts : (j : ℕ) → after m es .t ≡ m .t + j → j < ticksLeft m → (current (after m es) ≡ current m) × (ticksLeft (after m es) ≡ ticksLeft m - j)
+    lasts j e l =
+        let v = window-after (m .t + j) e ∙ window-left (m .table) (sound-table (frame-left (omega arith))) (m .t) .lasts j l in
+        (ap (λ (v : Lookup). v .partition) v, ap (λ (v : Lookup). v .left) v)
+
+    ends : 0 < m .table .frame → after m es .t ≡ m .t + ticksLeft m → StartAt (m .table) (after m es .t % m .table .frame) ⊎ (current (after m es) ≡ 0)
+    ends some e =
+        let s = sound-table some in
+        rw e (⊎-elim
+        (λ (q : StartAt (m .table) ((m .t + ticksLeft m) % m .table .frame)). inl q)
+        (λ (f : Uncovered (m .table) ((m .t + ticksLeft m) % m .table .frame)). inr (ap (λ (v : Lookup). v .partition) (window-after (m .t + ticksLeft m) e) ∙ window-left (m .table) s (m .t + ticksLeft m) .gap f .0))
+        (window-left (m .table) s (m .t) .ends))
+
+-- ---------------------------------------------------------------- the call
+module _ (m : Module) (k : ℕ) (h : Calling m k) where
+  left-given : Gives m (getLeft k) 0 (ticksLeft m) (At 0) m
+  unfolding callDecision services strayField C.getTicksLeft
+  left-given = gives m k (calling-sound m k h) h 34 (pos 0) (pos 0) (pos 0) (pos 0) (omega arith) (omega arith) refl (Unchanged (ticksLeft m) (At 0)) refl
+
+  left-call : LeftCall m k
+  left-call =
+      let x = m .t % m .table .frame in
+      let l = window-left (m .table) (calling-sound m k h .table) (m .t) in
+      record {
+        given = left-given;
+        window = ⊎-elim
+            (λ (c : Covered (windows (m .table)) x).
+            let e = l .window (c .at) (c .inside) (c .covered) in
+            record { at = c .at; inside = c .inside; owner = sym (e .0) ∙ h .now; covered = c .covered; ends = ap (λ (n : ℕ). x + n) (left-given .valueIs) ∙ e .1 })
+            (λ (f : Uncovered (m .table) x). absurd (omega (arith, l .gap f .0, h .now, h .some)))
+            (covered-or-none x (windows (m .table)));
+      }
+
+-- Law. Ticks left in the window.
+pub ticks-left : TicksLeft
+ticks-left = record {
+  reached = λ m h some. let l = window-left (m .table) (sound-table m h some) (m .t) in (l .some, l .few);
+  windowLeft = λ m h some. window-left (m .table) (sound-table m h some);
+  empty = empty-table;
+  calls = left-call;
+  lasts = lasts;
+  ends = λ m h some es. ends m h es some;
+  again = λ m k h es j g e l.
+      let n = left-given m k h .valueIs in
+      left-given (after m es) k g .valueIs ∙ lasts m (h .reached) es j e (omega (arith, n)) .1 ∙ ap (λ (u : ℕ). u - j) (sym n);
+  apart = λ m S within closed left right q.
+      let e = left-right m S within closed left right q .1 in
+      ap₂ lookup (after-table m left ∙ sym (after-table m right)) (e .time);
+}

@@ -1,15 +1,14 @@
 -- Every record that a run reaches is valid, and a tick that passes over partitions is the plain one there. Assumes nothing.
-use Prim.Native.Nat.{ℕ, zero, suc, _+_, _-_, _%_, _≤_, _<_}
+use Prim.Native.Nat.{ℕ, zero, suc, _+_, _-_, _≤_, _<_}
 use mathlib.Core.Path.{_≡_, refl, ap, sym, _∙_}
 use mathlib.Core.Bool.{true, false, not, _&&_, and-true, and-false}
-use mathlib.Core.List.{List, [], _∷_, map}
+use mathlib.Core.List.{List, [], map}
 use mathlib.Core.Logic.{_⊎_, ⊎-elim, inl, inr}
 use native.Mathlib.Omega.{arith}
 use lib.ListN.{length, getD, set, take, length-set, getD-replicate}
 use lib.Seq.{getD-set-same, getD-set-other}
 use lib.Dec.{eqb, ltb}
 use borrow.Author.Tests.{le-leb, lt-ltb, ltb-true, eq-eqb, ne-eqb, eqb-true, eqb-false}
-use Rattle.machine.specs.declared.Window.{Window}
 use Rattle.machine.specs.declared.Table.{Table}
 use Rattle.machine.specs.declared.Message.{Message}
 use Rattle.machine.specs.declared.Queue.{Queue}
@@ -38,7 +37,7 @@ use Rattle.machine.specs.Places.{noCaller}
 use Rattle.machine.specs.Step.{contextOf, decision, moduleAfter, step}
 use Rattle.machine.specs.Table.{readTable}
 use Rattle.machine.specs.Valid.Reached.{stepped}
-use Rattle.machine.specs.Valid.{Between, Valid, SoundQueue, SoundMove, SoundEnd, AllMessages, SoundContext, SoundDecision, SoundWindows, SoundTable, SoundMessage, Noted, SoundModule, ValidModule, Reached, plainTickTo, plainTick}
+use Rattle.machine.specs.Valid.{Between, Valid, SoundQueue, SoundMove, SoundEnd, AllMessages, SoundContext, SoundDecision, SoundTable, SoundMessage, Noted, SoundModule, ValidModule, Reached, plainTickTo, plainTick}
 use Rattle.machine.proofs.Tests.{by-test, and-left, and-right}
 use Rattle.machine.proofs.Fields.{in-limits}
 use Rattle.machine.proofs.Bounds.{same-or-not, within-in, getD-replicate-any}

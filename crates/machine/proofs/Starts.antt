@@ -29,7 +29,7 @@ none-here f w ws e = either (f w)
     (λ p. (p, rw p at e))
 
 -- something holds of a start that was found
-abbrev pub Found : (ℕ → Type 0) → Time → Type 0
+abbrev Found : (ℕ → Type 0) → Time → Type 0
 Found P Never = Unit {0}
 Found P (At s) = P s
 
@@ -69,7 +69,7 @@ module _ (f : Window → Bool) (from : ℕ) where
   fails-before w q e = either (leb from (w .start)) (λ l. not-both _ (passes-to f 0 w e from (leb-true _ _ l)) q) (leb-false _ _)
 
   -- what is found does not start before the place, and is a start of the frame
-  pub found-from : (ws : List Window) → Found (λ s. from ≤ s) (firstStart (startsFrom f from) ws)
+  found-from : (ws : List Window) → Found (λ s. from ≤ s) (firstStart (startsFrom f from) ws)
   found-from ws = found-so _ _ (λ s h. omega (arith, passes-from f from (getD ws (h .at) noWindow) (h .passed), h .starts)) (firstStart (startsFrom f from) ws) (found-passes (startsFrom f from) ws)
 
   found-start : (ws : List Window) → Found (Passes (startsFrom f 0) ws) (firstStart (startsFrom f from) ws)
@@ -78,7 +78,7 @@ module _ (f : Window → Bool) (from : ℕ) where
       (firstStart (startsFrom f from) ws) (found-passes (startsFrom f from) ws)
 
   -- where nothing is found, the first start of the frame lies before the place
-  pub found-before : (ws : List Window) → firstStart (startsFrom f from) ws ≡ Never → Found (λ s. s < from) (firstStart (startsFrom f 0) ws)
+  found-before : (ws : List Window) → firstStart (startsFrom f from) ws ≡ Never → Found (λ s. s < from) (firstStart (startsFrom f 0) ws)
   unfolding firstStart
   found-before [] e = tt
   found-before (w ∷ ws) e =

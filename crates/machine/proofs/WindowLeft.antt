@@ -15,7 +15,7 @@ use Rattle.machine.specs.declared.Window.{Window}
 use Rattle.machine.specs.Valid.{Between, SoundWindow, SoundWindows, SoundTable}
 use Rattle.machine.specs.Windows.{noWindow, windows, covers, anyWindow, nextStart, covering, lookup, StartAt, Uncovered, WindowLeft}
 use Rattle.machine.proofs.Either.{either}
-use Rattle.machine.proofs.Starts.{Passes, each-window, ends-before, one-start, frame-some, at-place, next-bounds, next-starts, next-least, next-nearer}
+use Rattle.machine.proofs.Starts.{each-window, ends-before, one-start, frame-some, at-place, next-bounds, next-starts, next-least, next-nearer}
 use Rattle.machine.proofs.Tests.{and-left, and-right, not-both}
 
 -- ---------------------------------------------------------------- one window
@@ -85,11 +85,11 @@ module _ (T : Table) (s : SoundTable T) where
 
   in-window : (t i : ℕ) → i < length (windows T) → covers (at i) (place t) ≡ true → lookup T t ≡ record { partition = at i .partition; left = at i .start + at i .duration - place t }
   unfolding lookup
-  in-window t i h e = rw (frame-some T s) (covering-is (place t) (nextStart T t anyWindow) 0 (T .frame) (T .size) (windows T) (s .eachWindow) i h e)
+  in-window t i h e = rw (frame-some T s) (covering-is (place t) _ 0 (T .frame) (T .size) (windows T) (s .eachWindow) i h e)
 
   in-gap : (t : ℕ) → Uncovered T (place t) → lookup T t ≡ record { partition = 0; left = nextStart T t anyWindow }
   unfolding lookup
-  in-gap t f = rw (frame-some T s) (covering-none (place t) (nextStart T t anyWindow) (windows T) f)
+  in-gap t f = rw (frame-some T s) (covering-none (place t) _ (windows T) f)
 
   -- the current partition is 0 or one of the table's
   pub current-known : (t : ℕ) → lookup T t .partition ≤ T .size

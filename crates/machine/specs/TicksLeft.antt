@@ -6,7 +6,7 @@ use mathlib.Core.Path.{_≡_}
 use mathlib.Core.Bool.{Bool, true}
 use mathlib.Core.List.{List}
 use mathlib.Core.Logic.{_⊎_}
-use lib.IntN.{pos}
+use lib.IntN.{ℤ, pos}
 use lib.ListN.{length, getD}
 use Rattle.machine.specs.declared.Event.{Event as EventT}
 use Rattle.machine.specs.declared.Module.{Module}
@@ -18,7 +18,7 @@ use Rattle.machine.specs.Step.{step}
 use Rattle.machine.specs.TwoRuns.{keep}
 use Rattle.machine.specs.LeftRight.{common, after, Within, Closed}
 use Rattle.machine.specs.Valid.{Between, Reached}
-use Rattle.machine.specs.Starred.{callBy, Gives, Calling}
+use Rattle.machine.specs.Starred.{callBy, Gives, Refuses, Calling}
 
 -- ---------------------------------------------------------------- the call
 -- 34 GET_TICKS_LEFT of partition k
@@ -36,6 +36,8 @@ pub record EndsIn (T : Table) (x k n : ℕ) : Type 0 where
 pub record LeftCall (m : Module) (k : ℕ) : Type 0 where
   -- in every mode: code 0, value the ticks left, extra 0; the whole record stays
   pub given : Gives m (getLeft k) 0 (ticksLeft m) (At 0) m
+  -- without fields: with one that is not 0 it is 13
+  pub stray : (a b c e : ℤ) → ((a ≡ pos 0) × (b ≡ pos 0) × (c ≡ pos 0) × (e ≡ pos 0) → ⊥) → Refuses m (callBy k 34 a b c e) 13
   -- the value is the end of the partition's own window minus t mod M
   pub window : EndsIn (m .table) (m .t % m .table .frame) k (step m (getLeft k) .answer .value)
 

@@ -1,5 +1,4 @@
 -- Which windows a search for a start goes by.
-use Prim.Native.Nat.{ℕ}
 use mathlib.Core.Bool.{Bool}
 use Rattle.machine.specs.declared.Window.{Window}
 use Rattle.machine.specs.Windows.{anyWindow, ownedBy, flaggedFor}

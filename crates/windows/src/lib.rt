@@ -3,12 +3,11 @@ ghost use mathlib.Core.Path.{_≡_};
 ghost use Prim.Native.Nat.{_≤_};
 ghost use lib.ListN.{length};
 ghost use Rattle.machine.specs.Limits.{windowLimit};
-ghost use Rattle.machine.specs.Windows.{windows, covers, flaggedFor, startsFrom, firstStart, nextStart, lookup, releasePoint, waitingOf};
+ghost use Rattle.machine.specs.Windows.{windows, covers, flaggedFor, nextStart, lookup, releasePoint, waitingOf};
 ghost use Rattle.windows.specs.Sought.{sought};
 use machine::Lookup;
 use machine::Module;
 use machine::Table;
-use machine::Time;
 use machine::Waiting;
 use machine::Window;
 
@@ -65,34 +64,7 @@ fn is_sought(w: Window, which: Sought) -> bool
     }
 }
 
-// Whether it goes by the window, which does not start before a place of the frame.
-fn does_start_from(w: Window, which: Sought, from: u32) -> bool
-    ensures { λ r. ⌜ r ≡ startsFrom (sought which) from w ⌝ }
-{
-    if is_sought(w, which) {
-        from <= w.start as u32
-    } else {
-        false
-    }
-}
-
-// The start of the first such window.
-fn first_start(table: Table, which: Sought, from: u32) -> Time
-    ensures { λ r. ⌜ r ≡ firstStart (startsFrom (sought which) from) (windows table) ⌝ }
-{
-    let n = count(table);
-    let mut i: usize = 0;
-    while i < n {
-        let w = table.windows[i];
-        if does_start_from(w, which, from) {
-            return Time::At(w.start as u32);
-        }
-        i = i + 1;
-    }
-    Time::Never
-}
-
-// The next start after t of a window that the search goes by, as a number of ticks.
+// The next start after t of a window that the search goes by, as a number of ticks: the first in this frame, else the first in the next one.
 pub fn next_start(table: Table, t: u32, which: Sought) -> u32
     ensures { λ r. ⌜ r ≡ nextStart table t (sought which) ⌝ }
 {
@@ -101,13 +73,25 @@ pub fn next_start(table: Table, t: u32, which: Sought) -> u32
         return 0;
     }
     let x = t % frame;
-    match first_start(table, which, x + 1) {
-        Time::At(s) => s - x,
-        Time::Never => match first_start(table, which, 0) {
-            Time::At(s) => s + frame - x,
-            Time::Never => frame,
-        },
+    let n = count(table);
+    let mut ahead = frame;
+    let mut found = false;
+    let mut i: usize = 0;
+    while i < n {
+        let w = table.windows[i];
+        if is_sought(w, which) {
+            let start = w.start as u32;
+            if x < start {
+                return start - x;
+            }
+            if !found {
+                ahead = start + frame - x;
+                found = true;
+            }
+        }
+        i = i + 1;
     }
+    ahead
 }
 
 // The current partition at t with the ticks until its window ends; without a window, until the next start of any.
@@ -162,6 +146,10 @@ pub fn waiting_time(table: Table, t: i64, k: i64) -> Waiting
     }
     Waiting {
         code: 0,
-        n: next_start(table, fields::number_of(at), Sought::OwnedBy(fields::number_of(own))),
+        n: next_start(
+            table,
+            fields::number_of(at),
+            Sought::OwnedBy(fields::number_of(own)),
+        ),
     }
 }

@@ -1,60 +1,83 @@
-use mathlib.Core.Path.{refl, sym, _∙_}
+use Prim.Native.Nat.{_-_, _≤_}
+use mathlib.Core.Logic.{⊎-elim}
+use mathlib.Core.Path.{sym, _∙_}
 use native.Mathlib.Omega.{arith}
 use borrow.Author.Needs.{needs}
-use borrow.Author.Tests.{eq-eqb}
+use borrow.Author.Tests.{eq-eqb, not-true, not-false}
 use Rattle.machine.specs.Windows.{nextStart}
 use Rattle.windows.specs.Sought.{sought}
-use Rattle.windows.proofs.Laws.{place, start-ahead, start-behind, next-found}
+use Rattle.windows.proofs.Laws.{place, Searched, search-begins, search-found, search-more, search-first, search-kept, search-ends}
 use Rattle.windows.proofs.next_start.Statement.{statement}
 use Rattle.windows.proofs.next_start.Tie as tie
 
-returns : tie.Need-returns
+abbrev Inv-loop : tie.InvT-loop
+Inv-loop t which table frame x n ahead₀ found₀ i₀ ahead found i = (i ≤ n) × Searched table t (sought which) ahead found i
+
+abbrev μ-loop : tie.MeasureT-loop
+μ-loop t which table frame x n ahead₀ found₀ i₀ ahead found i = n - i
+
+returns : tie.Need-returns Inv-loop μ-loop
 unfolding nextStart
 returns c = rw (eq-eqb _ _ (c .if1 .taken))
 
-add-first-start : tie.Need-add-first-start
-add-first-start c = let a = c .before .before .args in record { fits = omega (arith, place (a .table) (a .t) (c .if1 .left)) }
+loop-holds : tie.Need-loop-holds Inv-loop μ-loop
+loop-holds c = (omega arith, search-begins _ _ _)
 
-sub-result : tie.Need-sub-result
-sub-result c =
-    let a = c .before .before .before .before .before .before .args in
-    start-ahead (a .table) (a .t) (sought (a .which)) _ (sym (c .before .s .given .1) ∙ c .before .before .before .first-start .ensures)
+mul-w : tie.Need-mul-w Inv-loop μ-loop
+mul-w c = omega (arith, c .before .before .count .ensures .1)
 
-add-result : tie.Need-add-result
-add-result c =
-    let a = c .before .before .before .before .before .before .before .before .before .args in
-    let left = c .before .before .before .before .before .before .before .if1 .left in
-    record { fits = omega (arith, start-behind (a .table) (a .t) (sought (a .which)) (c .before .s2 .given .0 .0) (sym (c .before .before .before .before .enum-told .given .1) ∙ c .before .before .before .before .before .before .first-start .ensures) (sym (c .before .s2 .given .1) ∙ c .before .before .before .first-start2 .ensures), place (a .table) (a .t) left) }
+element-copy-out-w : tie.Need-element-copy-out-w Inv-loop μ-loop
+element-copy-out-w c = omega (arith, c .before .before .count .ensures .1)
 
-sub-result-2 : tie.Need-sub-result-2
-sub-result-2 c = let a = c .before .before .before .before .before .before .before .before .before .args in omega (arith, place (a .table) (a .t) (c .before .before .before .before .before .before .before .if1 .left))
+returns-2 : tie.Need-returns-2 Inv-loop μ-loop
+returns-2 c =
+    let l = c .before .before .before .before .before .before .loop in
+    search-found _ _ _ _ _ (l .i) (l .inv .1) (c .before .before .before .before .before .before .before .before .if1 .left) (omega (arith, c .before .before .before .before .before .before .before .count .ensures .0)) (sym (c .before .before .before .is-sought .ensures) ∙ c .before .before .if2 .taken) (c .if3 .taken)
 
-returns-2 : tie.Need-returns-2
-returns-2 c = next-found _ _ _ (c .before .before .before .before .if1 .left) _ _ (sym (c .before .s .given .1) ∙ c .before .before .before .first-start .ensures) refl
+sub-ahead : tie.Need-sub-ahead Inv-loop μ-loop
+sub-ahead c =
+    let a = c .before .before .before .before .before .before .before .before .before .before .args in
+    omega (arith, place (a .t1) (a .t) (c .before .before .before .before .before .before .before .before .before .if1 .left))
 
-returns-3 : tie.Need-returns-3
-returns-3 c = next-found _ _ _ (c .before .before .before .before .before .before .before .if1 .left) _ _ (sym (c .before .before .before .before .enum-told .given .1) ∙ c .before .before .before .before .before .before .first-start .ensures) (sym (c .before .s2 .given .1) ∙ c .before .before .before .first-start2 .ensures)
+add-i : tie.Need-add-i Inv-loop μ-loop
+add-i c = omega (arith, c .before .before .before .before .before .count .ensures .1)
 
-returns-4 : tie.Need-returns-4
-returns-4 c = next-found _ _ _ (c .before .before .before .before .before .before .if1 .left) _ _ (sym (c .before .before .before .enum-told .given .1) ∙ c .before .before .before .before .before .first-start .ensures) (sym (c .enum-told2 .given .1) ∙ c .before .before .first-start2 .ensures)
+loop-again : tie.Need-loop-again Inv-loop μ-loop
+loop-again c =
+    let l = c .before .before .before .before .loop in
+    let is = c .before .is-sought .ensures in (
+      omega arith,
+      ⊎-elim
+          (λ w. rw (w .4, w .5) (search-first _ _ _ _ _ (l .i) (l .inv .1) (omega (arith, c .before .before .before .before .before .count .ensures .0)) (sym is ∙ w .0 .taken) (w .2 .left) (not-true _ (w .3 .taken))))
+          (⊎-elim
+          (λ w. rw (w .4, w .5) (search-kept _ _ _ _ _ (l .i) (l .inv .1) (omega (arith, c .before .before .before .before .before .count .ensures .0)) (sym is ∙ w .0 .taken) (w .2 .left) (not-false _ (w .3 .left))))
+          (λ w. rw (w .1, w .2) (search-more _ _ _ _ _ (l .i) (l .inv .1) (omega (arith, c .before .before .before .before .before .count .ensures .0)) (sym is ∙ w .0 .left))))
+          (c .if2 .came),
+    )
+
+returns-3 : tie.Need-returns-3 Inv-loop μ-loop
+returns-3 c = search-ends _ _ _ _ _ (c .before .loop .i) (c .before .loop .inv .1) (c .before .before .before .if1 .left) (omega (arith, c .before .before .count .ensures .0))
 
 pub next-start-spec : {M : Type 1} → statement M
 next-start-spec =
     tie.close
     (tie.spec
+    Inv-loop
+    μ-loop
     (λ c. search needs)
     returns
     (λ c. search needs)
-    add-first-start
+    (λ _ _. tt)
+    loop-holds
+    mul-w
+    element-copy-out-w
     (λ _ _. tt)
     (λ c. search needs)
-    sub-result
-    (λ c. search needs)
-    (λ _ _. tt)
-    (λ c. search needs)
-    add-result
-    sub-result-2
     (λ c. search needs)
     returns-2
-    returns-3
-    returns-4)
+    (λ c. search needs)
+    sub-ahead
+    add-i
+    (λ c. omega arith)
+    loop-again
+    returns-3)

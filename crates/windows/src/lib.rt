@@ -111,9 +111,10 @@ pub fn lookup_at(table: Table, t: u32) -> Lookup
     while i < n {
         let w = table.windows[i];
         if does_cover(w, x) {
+            let start = w.start as u32;
             return Lookup {
                 partition: w.partition,
-                left: w.start as u32 + w.duration as u32 - x,
+                left: start + w.duration as u32 - x,
             };
         }
         i = i + 1;

@@ -1,5 +1,5 @@
-//! The bodies of calls 1 to 33 ("Calls" of document 01; 23 to 33 of document
-//! 02, a, b and e). Checks run in the order written.
+//! The bodies of calls 1 to 34 ("Calls" of document 01; 23 to 34 of document
+//! 02, a, b, e and f). Checks run in the order written.
 
 mod channel;
 mod lock;
@@ -141,8 +141,14 @@ impl Module {
             25 => outcome(self.receive_buffer(own, caller, a, b)),
             30 => outcome(self.send(own, caller, a, b, c)),
             31 => outcome(self.receive(own, caller, a, b)),
+            34 => self.get_ticks_left(),
             _ => self.partition_body(own, caller, event),
         }
+    }
+
+    /// 34 GET_TICKS_LEFT. Who comes as far as its body has a window.
+    fn get_ticks_left(&self) -> Outcome {
+        Outcome::value(self.ticks_left, 0)
     }
 
     /// The bodies that see nothing but their partition, t and M.

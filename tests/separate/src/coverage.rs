@@ -1,10 +1,13 @@
-//! Counts what made-up inputs reach: answers, waits, reasons, corners, locks.
+//! Counts what made-up inputs reach: answers, waits, reasons, corners, locks,
+//! ticks left.
 
+mod left;
 mod locks;
 mod messages;
 mod queuing;
 mod releases;
 
+pub use left::{ASKED, MODES};
 pub use locks::{LOCKED, LOCKS};
 pub use releases::{RELEASES, STARTS};
 
@@ -17,7 +20,7 @@ use crate::record::{Channel, Mode, Module, Partition, Process, QueueId, Wait};
 use crate::replay::{read_table, Lines};
 use std::io::{self, Write};
 
-const CALLS: usize = 34;
+const CALLS: usize = 35;
 const CODES: usize = 14;
 
 /// The codes that the documents allow for a tick (0) and for each call, but
@@ -57,6 +60,7 @@ pub const ALLOWED: [&[usize]; CALLS] = [
     &[0, 2, 3, 5, 7, 8, 9, 13],
     &[0, 1, 4, 8, 9, 13],
     &[0, 1, 8, 9, 13],
+    &[0, 8, 9, 13],
 ];
 
 const NAMES: [&str; CALLS] = [
@@ -94,6 +98,7 @@ const NAMES: [&str; CALLS] = [
     "RECEIVE",
     "LOCK_PREEMPTION",
     "UNLOCK_PREEMPTION",
+    "GET_TICKS_LEFT",
 ];
 
 /// The kinds of wait, and the suspended mark of a process without wait.
@@ -162,7 +167,7 @@ pub const REASONS: [&str; 11] = [
     "partition below 0",
     "partition above P",
     "call below 0",
-    "call above 33",
+    "call above 34",
     "partition 0 with a call",
     "a partition with call 0",
     "unused a not 0",
@@ -300,6 +305,8 @@ pub struct Coverage {
     /// What calls that can wait got from the holder of a lock.
     pub locked: [[u64; LOCKED.len()]; WAITING.len()],
     pub locks: [u64; LOCKS.len()],
+    /// What GET_TICKS_LEFT got, by the mode of the partition that asked.
+    pub asked: [[u64; ASKED.len()]; MODES.len()],
     pub shapes: [u64; SHAPES.len()],
     pub tables: [u64; TABLES.len()],
     pub events: u64,
@@ -315,6 +322,7 @@ impl Coverage {
             releases: [[0; RELEASES.len()]; STARTS.len()],
             locked: [[0; LOCKED.len()]; WAITING.len()],
             locks: [0; LOCKS.len()],
+            asked: [[0; ASKED.len()]; MODES.len()],
             shapes: [0; SHAPES.len()],
             tables: [0; TABLES.len()],
             events: 0,
@@ -339,6 +347,11 @@ impl Coverage {
     /// The same for the events that mostly lock.
     pub fn of_locks(from: u64, to: u64, count: u64) -> Coverage {
         Coverage::of_events(from, to, count, |seed| Events::of_locks(seed).1)
+    }
+
+    /// The same for the events that mostly ask for the ticks left.
+    pub fn of_ticks_left(from: u64, to: u64, count: u64) -> Coverage {
+        Coverage::of_events(from, to, count, |seed| Events::of_ticks_left(seed).1)
     }
 
     fn of_events(from: u64, to: u64, count: u64, events: fn(u64) -> Events) -> Coverage {
@@ -375,6 +388,7 @@ impl Coverage {
         }
         self.take_corners(before, event, answer, after);
         self.take_locks(before, event, answer, after);
+        self.take_asked(before, event, answer);
     }
 
     fn take_partition(&mut self, event: &Event, old: &Partition, new: &Partition) {
@@ -613,35 +627,34 @@ impl Coverage {
         self.print_releases(out)?;
         self.print_locked(out)?;
         print_list(out, "locks", &LOCKS, &self.locks)?;
+        self.print_asked(out)?;
         print_list(out, "channels", &SHAPES, &self.shapes)?;
         print_list(out, "tables", &TABLES, &self.tables)?;
+        self.print_unreached(out)
+    }
+
+    /// What can be reached and was not, and what was reached and cannot be.
+    fn print_unreached(&self, out: &mut impl Write) -> io::Result<()> {
         print_pairs(out, "allowed and not reached", &self.missing())?;
         print_pairs(out, "reached and not allowed", &self.unforeseen())?;
-        print_named(
-            out,
-            "waits: possible and not reached",
-            &self.missing_waits(),
-        )?;
-        print_named(
-            out,
-            "waits: reached and not possible",
-            &self.unforeseen_waits(),
-        )?;
-        print_named(
-            out,
-            "releases: possible and not reached",
-            &self.missing_releases(),
-        )?;
-        print_named(
-            out,
-            "locks: possible and not reached",
-            &self.missing_locks(),
-        )?;
-        print_named(
-            out,
-            "locks: reached and not possible",
-            &self.unforeseen_locks(),
-        )
+        let named = [
+            ("waits: possible and not reached", self.missing_waits()),
+            ("waits: reached and not possible", self.unforeseen_waits()),
+            (
+                "releases: possible and not reached",
+                self.missing_releases(),
+            ),
+            ("locks: possible and not reached", self.missing_locks()),
+            ("locks: reached and not possible", self.unforeseen_locks()),
+            ("ticks left: possible and not reached", self.missing_asked()),
+            (
+                "ticks left: reached and not possible",
+                self.unforeseen_asked(),
+            ),
+        ];
+        named
+            .iter()
+            .try_for_each(|(title, pairs)| print_named(out, title, pairs))
     }
 
     fn print_answers(&self, out: &mut impl Write) -> io::Result<()> {
@@ -718,7 +731,7 @@ fn reason(module: &Module, event: &Event) -> usize {
         (event.partition < 0, "partition below 0"),
         (event.partition > partitions, "partition above P"),
         (event.call < 0, "call below 0"),
-        (event.call > LAST_CALL, "call above 33"),
+        (event.call > LAST_CALL, "call above 34"),
         (
             event.partition == 0 && event.call != 0,
             "partition 0 with a call",

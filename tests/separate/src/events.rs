@@ -34,6 +34,8 @@ enum Mostly {
     Starting,
     /// Locks preemption, and calls with and without the lock.
     Locking,
+    /// Asks for the ticks left in the window.
+    Asking,
 }
 
 /// Tells of a message queue and of how many wait to send and to receive.
@@ -45,13 +47,13 @@ type Weights = [usize; USED.len()];
 /// How often each call is made by a partition's main program: tick, 1, 2, ...
 const START_WEIGHTS: Weights = [
     8, 5, 26, 13, 11, 2, 1, 4, 1, 1, 1, 4, 3, 3, 11, 1, 4, 10, 2, 2, 1, 4, 4, 12, 1, 1, 10, 4, 1,
-    2, 1, 1, 1, 1,
+    2, 1, 1, 1, 1, 2,
 ];
 
 /// How often each call is made by a running process.
 const NORMAL_WEIGHTS: Weights = [
     24, 1, 2, 8, 7, 3, 1, 6, 4, 6, 4, 8, 6, 6, 2, 11, 8, 2, 5, 5, 8, 7, 7, 2, 14, 11, 2, 6, 9, 5,
-    1, 1, 3, 1,
+    1, 1, 3, 1, 3,
 ];
 
 impl Events {
@@ -73,6 +75,12 @@ impl Events {
     /// preemption again and again.
     pub fn of_locks(seed: u64) -> (Vec<line::Six>, Events) {
         Events::mostly(seed, tables::close_partitions, Mostly::Locking)
+    }
+
+    /// The same where windows follow one another at once and after gaps, and
+    /// partitions mostly ask for the ticks left.
+    pub fn of_ticks_left(seed: u64) -> (Vec<line::Six>, Events) {
+        Events::mostly(seed, tables::windows_and_gaps, Mostly::Asking)
     }
 
     /// A table of this sort and events that mostly do this.
@@ -132,8 +140,9 @@ impl Events {
             return self.malformed();
         }
         let own = self.module.current();
-        if own == 0 || self.rng.percent(2) {
-            return if self.rng.percent(30) {
+        let asking = self.mostly == Mostly::Asking;
+        if own == 0 || self.rng.percent(if asking { 10 } else { 2 }) {
+            return if self.rng.percent(if asking { 60 } else { 30 }) {
                 self.call_by_other(own)
             } else {
                 self.ticks()
@@ -186,6 +195,7 @@ impl Events {
             Mostly::Queuing => self.weigh_channels(own, &mut weights),
             Mostly::Starting => weigh_starts(&mut weights),
             Mostly::Locking => self.weigh_locking(own, &mut weights),
+            Mostly::Asking => weigh_asking(&mut weights),
         }
         if partition.locked() {
             // One call in seven or so.
@@ -275,7 +285,7 @@ impl Events {
         }
         let processes = &self.module.partition(own).processes;
         let few = processes.iter().filter(|it| it.started).count() < 5;
-        if self.mostly == Mostly::Locking {
+        if matches!(self.mostly, Mostly::Locking | Mostly::Asking) {
             weights[1] = if few { 1 } else { 15 };
         }
         if self.mostly == Mostly::Queuing {
@@ -289,7 +299,10 @@ impl Events {
         if self.mostly == Mostly::Starting {
             weigh_starts(&mut weights);
             weights[1] = 12;
-            weights[2] = 40;
+            weights[2] = 44;
+        }
+        if self.mostly == Mostly::Asking {
+            weights[34] = 80;
         }
         weights
     }
@@ -334,27 +347,36 @@ impl Events {
 
     fn call_by_other(&mut self, own: Id) -> Event {
         let other = 1 + self.rng.below(self.module.partitions.len());
-        let call = self.rng.range(1, LAST_CALL);
+        let call = self.any_call();
         if other == own {
             return self.ticks();
         }
         self.call(other, call)
     }
 
+    /// Any call; mostly 34 where partitions mostly ask.
+    fn any_call(&mut self) -> i64 {
+        if self.mostly == Mostly::Asking && self.rng.percent(60) {
+            return 34;
+        }
+        self.rng.range(1, LAST_CALL)
+    }
+
     fn call_that_gets_9(&mut self, own: Id) -> Event {
-        if self.rng.percent(85) {
+        let asking = self.mostly == Mostly::Asking;
+        if self.rng.percent(if asking { 60 } else { 85 }) {
             return self.ticks();
         }
-        let call = self.rng.range(1, LAST_CALL);
+        let call = self.any_call();
         self.call(own, call)
     }
 
     /// An event for 13, by each of its reasons.
     fn malformed(&mut self) -> Event {
+        let call = self.any_call();
         let rng = &mut self.rng;
         let partitions = self.module.partitions.len() as i64;
         let own = self.module.current().max(1) as i64;
-        let call = rng.range(1, LAST_CALL);
         let zeros = [0; 4];
         match rng.below(6) {
             0 => {
@@ -497,6 +519,7 @@ impl Events {
         let weights = match partition.mode {
             // 0, 1, 2, 3, out of range
             Mode::Normal if partition.locked() => [6, 20, 24, 25, 25],
+            Mode::Normal if self.mostly == Mostly::Asking => [2, 25, 40, 16, 17],
             Mode::Normal if waits || self.mostly == Mostly::Starting => [1, 25, 35, 20, 19],
             Mode::Normal => [1, 8, 10, 50, 31],
             _ if self.awaiting(own) > 0 => [3, 20, 25, 40, 12],
@@ -857,6 +880,15 @@ fn weigh_starts(weights: &mut Weights) {
     }
     weights[..6].copy_from_slice(&[20, 4, 1, 20, 20, 20]);
     weights[10] = 6;
+}
+
+/// Mostly ticks and GET_TICKS_LEFT, with mode changes between them.
+fn weigh_asking(weights: &mut Weights) {
+    for weight in weights[2..].iter_mut() {
+        *weight = weight.div_ceil(4);
+    }
+    weights[..2].copy_from_slice(&[20, 5]);
+    weights[34] = 80;
 }
 
 /// The number of an item of the wanted sort for the most part, else of any

@@ -1,6 +1,7 @@
 //! The partition executive of document 01, with the buffers and blackboards of
 //! document 02, a), the queuing channels of b), the releases inside a frame of
-//! d) and the preemption lock of e), written from these papers alone.
+//! d), the preemption lock of e) and the ticks left in the window of f), written
+//! from these papers alone.
 //!
 //! It serves as a judge: another program that claims to be the same machine
 //! can be run beside it on the same input, answer by answer (`replay`) and

@@ -5,12 +5,12 @@ use crate::line::Six;
 use crate::record::{Id, Mode, Module, Partition, Process, Wait, LAST_TIME};
 
 /// The last call; calls are numbered from 1.
-pub const LAST_CALL: i64 = 33;
+pub const LAST_CALL: i64 = 34;
 
 /// How many of a, b, c, e each call uses, the tick (0) first.
-pub const USED: [usize; 34] = [
+pub const USED: [usize; 35] = [
     0, 1, 4, 1, 2, 1, 0, 1, 1, 1, 0, 1, 2, 1, 3, 2, 1, 1, 1, 1, 2, 2, 1, 2, 3, 2, 1, 2, 2, 1, 3, 2,
-    0, 0,
+    0, 0, 0,
 ];
 
 /// Partition, call, a, b, c, e. Each is any number.
@@ -155,7 +155,7 @@ impl Module {
         }
     }
 
-    /// False is 13: record empty, partition not 0..P, call not 0..33, just
+    /// False is 13: record empty, partition not 0..P, call not 0..34, just
     /// one of these two 0, an unused field not 0.
     fn well_formed(&self, event: &Event) -> bool {
         !self.is_empty()
@@ -188,7 +188,7 @@ impl Module {
             return Outcome::code(10);
         }
         self.t += 1;
-        self.current = self.owner(self.t);
+        (self.current, self.ticks_left) = self.window_lookup(self.t);
         for partition in &mut self.partitions {
             if partition.mode == Mode::Normal {
                 partition.pass_time(self.t);

@@ -1,5 +1,6 @@
 //! The module record ("Module record" of document 01; buffers, blackboards,
-//! queuing channels and the preemption lock of document 02, a, b and e).
+//! queuing channels, the preemption lock and the ticks left in a window of
+//! document 02, a, b, e and f).
 
 use std::collections::VecDeque;
 
@@ -414,6 +415,13 @@ pub struct Window {
     pub flag: bool,
 }
 
+impl Window {
+    /// The tick of the frame before which it ends.
+    pub fn end(&self) -> i64 {
+        self.start + self.duration
+    }
+}
+
 #[derive(Clone, Copy, Debug, PartialEq, Eq)]
 pub struct Message {
     pub value: i64,
@@ -464,8 +472,9 @@ pub struct Module {
     pub(crate) windows: Vec<Window>,
     pub(crate) channels: Vec<Channel>,
     pub(crate) partitions: Vec<Partition>,
-    /// The current partition at t; it changes with t only.
+    /// What the window lookup yields at t.
     pub(crate) current: Id,
+    pub(crate) ticks_left: i64,
 }
 
 impl Module {
@@ -478,6 +487,7 @@ impl Module {
             channels: Vec::new(),
             partitions: Vec::new(),
             current: 0,
+            ticks_left: 0,
         }
     }
 
@@ -496,8 +506,9 @@ impl Module {
             partitions: (0..partitions).map(fresh).collect(),
             channels,
             current: 0,
+            ticks_left: 0,
         };
-        module.current = module.owner(0);
+        (module.current, module.ticks_left) = module.window_lookup(0);
         module
     }
 
@@ -534,14 +545,29 @@ impl Module {
         self.current
     }
 
-    /// The partition that owns the window with
-    /// start <= t mod M < start + duration; 0 if none.
-    pub(crate) fn owner(&self, t: i64) -> Id {
+    /// The ticks until the current window ends, or until the next start where
+    /// there is none.
+    pub fn ticks_left(&self) -> i64 {
+        self.ticks_left
+    }
+
+    /// The window lookup (document 02, f): the partition that owns the window
+    /// with start <= t mod M < start + duration, and the ticks until this
+    /// window ends, whatever follows it; where there is none, 0 and the ticks
+    /// until the next start of any window, in this frame or in the next one.
+    /// The empty record gives 0 and 0.
+    pub fn window_lookup(&self, t: i64) -> (Id, i64) {
+        let Some(first) = self.windows.first() else {
+            return (0, 0);
+        };
         let place = t % self.frame;
-        self.windows
-            .iter()
-            .find(|window| window.start <= place && place < window.start + window.duration)
-            .map_or(0, |window| window.partition)
+        // A table has its windows in order of time.
+        let mut windows = self.windows.iter();
+        match windows.find(|window| place < window.end()) {
+            Some(window) if window.start <= place => (window.partition, window.end() - place),
+            Some(window) => (0, window.start - place),
+            None => (0, self.frame + first.start - place),
+        }
     }
 
     /// The running process of the current partition, 0 if none.

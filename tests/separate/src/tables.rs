@@ -45,6 +45,24 @@ pub fn close_partitions(rng: &mut Rng) -> Vec<Six> {
     few_partitions(rng, partitions, windows, channels)
 }
 
+/// An accepted table without channels in which windows follow one another at
+/// once and after gaps, often up to the frame's end; in some a single window
+/// fills the frame.
+pub fn windows_and_gaps(rng: &mut Rng) -> Vec<Six> {
+    let partitions = rng.pick(&[1, 1, 2, 2, 3]);
+    let windows = match partitions {
+        1 => rng.pick(&[1, 1, 2, 4]),
+        _ => rng.range(2, 4),
+    };
+    let mut lines = few_partitions(rng, partitions, windows, 0);
+    if rng.percent(40) {
+        let frame = lines[0][0];
+        let last = lines.last_mut().expect("a window");
+        last[1] = frame - last[0];
+    }
+    lines
+}
+
 /// Partitions with so many windows each in the mean, a short major frame, and
 /// channels.
 fn few_partitions(rng: &mut Rng, partitions: i64, windows: i64, channels: i64) -> Vec<Six> {

@@ -1,5 +1,6 @@
 //! Calls 1 to 22: every rule, and the order of the checks. Calls 23 to 29 are
-//! in `messages.rs`, 30 and 31 in `queuing.rs`, 32 and 33 in `locks.rs`.
+//! in `messages.rs`, 30 and 31 in `queuing.rs`, 32 and 33 in `locks.rs`, 34 in
+//! `ticks_left.rs`.
 
 mod common;
 

@@ -201,7 +201,7 @@ fn a_neighbours_running_process_never_shows_in_8_or_13() {
     assert_eq!(world.event([2, 13, 1, 0, 0, 0]), [8, 0, 0, 0, 1, 0]);
     assert_eq!(world.event([2, 13, 1, 1, 0, 0]), [13, 0, 0, 0, 1, 0]);
     assert_eq!(world.event([2, 0, 0, 0, 0, 0]), [13, 0, 0, 0, 1, 0]);
-    assert_eq!(world.event([2, 34, 0, 0, 0, 0]), [13, 0, 0, 0, 1, 0]);
+    assert_eq!(world.event([2, 35, 0, 0, 0, 0]), [13, 0, 0, 0, 1, 0]);
 }
 
 #[test]

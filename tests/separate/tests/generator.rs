@@ -3,7 +3,7 @@
 use separate::calls::WAITING;
 use separate::coverage::WAITS;
 use separate::coverage::{Coverage, CHANGES, CORNERS, REASONS, RELEASES, SHAPES, STARTS, TABLES};
-use separate::coverage::{LOCKED, LOCKS};
+use separate::coverage::{ASKED, LOCKED, LOCKS, MODES};
 use separate::generate::{generate, Kind};
 use separate::line::{self, Line};
 use separate::replay::{final_record, read_table, replay, Lines};
@@ -135,7 +135,8 @@ fn everything_that_can_happen_under_a_lock_is_reached() {
 #[test]
 fn where_partitions_mostly_lock_each_of_it_is_reached_several_times() {
     let mut coverage = Coverage::of_locks(3401, 3460, 1000);
-    let of_locks = |&(call, _): &(usize, usize)| call >= 32 || WAITING.contains(&(call as i64));
+    let of_locks =
+        |&(call, _): &(usize, usize)| [32, 33].contains(&call) || WAITING.contains(&(call as i64));
     assert_eq!(coverage.missing().into_iter().find(of_locks), None);
     assert_eq!(coverage.unforeseen(), []);
     assert_eq!(coverage.unforeseen_waits(), []);
@@ -160,12 +161,52 @@ fn a_run_of_nothing_names_everything_under_a_lock_as_missing() {
 }
 
 #[test]
+fn everything_that_asking_for_the_ticks_left_gets_is_reached() {
+    let mut coverage = Coverage::of_ticks_left(3501, 3540, 1000);
+    let of_asking = |&(call, _): &(usize, usize)| call == 34;
+    assert_eq!(coverage.missing().into_iter().find(of_asking), None);
+    assert_eq!(coverage.unforeseen(), []);
+    assert_eq!(coverage.unforeseen_asked(), []);
+    // Several times each.
+    for count in coverage.asked.iter_mut().flatten() {
+        *count = count.saturating_sub(3);
+    }
+    assert_eq!(coverage.missing_asked(), []);
+}
+
+#[test]
+fn where_partitions_do_anything_they_ask_for_the_ticks_left_in_every_mode() {
+    let coverage = Coverage::of_seeds(1, 200, 1000);
+    assert_eq!(coverage.unforeseen_asked(), []);
+    let missing = coverage.missing_asked();
+    assert!(!missing.contains(&("IDLE", "9")));
+    // Few tables of this kind have a window that fills the frame.
+    for value in [ASKED[0], ASKED[1], ASKED[3]] {
+        for mode in &MODES[1..] {
+            assert!(!missing.contains(&(mode, value)), "{mode}: {value}");
+        }
+    }
+}
+
+#[test]
+fn a_run_of_nothing_names_everything_that_asking_gets_as_missing() {
+    let missing = Coverage::new().missing_asked();
+    // IDLE gets no value, start modes no 9.
+    assert_eq!(missing.len(), ASKED.len() * MODES.len() - 12 - 2);
+    assert!(missing.contains(&("IDLE", "9")));
+    assert!(missing.contains(&("NORMAL", "M, of a window that fills the frame")));
+    assert!(!missing.contains(&("IDLE", "in between")));
+    assert!(!missing.contains(&("WARM_START", "9")));
+}
+
+#[test]
 fn one_seed_gives_one_input() {
     for kind in [
         Kind::Table,
         Kind::Events,
         Kind::Releases,
         Kind::Locks,
+        Kind::Left,
         Kind::Busy,
         Kind::Passing,
         Kind::Queuing,
@@ -179,7 +220,7 @@ fn one_seed_gives_one_input() {
 
 #[test]
 fn events_print_an_accepted_table_and_count_good_lines() {
-    let kinds = [Kind::Events, Kind::Releases, Kind::Locks];
+    let kinds = [Kind::Events, Kind::Releases, Kind::Locks, Kind::Left];
     for (seed, kind) in (0..50).flat_map(|seed| kinds.map(|kind| (seed, kind))) {
         let bytes = input(seed, kind, 100);
         let mut lines = Lines::new(bytes.as_slice());
@@ -211,6 +252,8 @@ fn sum(bytes: &[u8]) -> u64 {
 fn the_inputs_for_timing_stay_the_same_from_version_to_version() {
     assert_eq!(sum(&input(1, Kind::Busy, 20_000)), 0xB496_D446_653C_9947);
     assert_eq!(sum(&input(2, Kind::Ticks, 20_000)), 0x4EE9_173D_D80D_2EAE);
+    assert_eq!(sum(&input(3, Kind::Passing, 20_000)), 0x9B57_FB32_EE54_A6A2);
+    assert_eq!(sum(&input(4, Kind::Queuing, 20_000)), 0x1103_8D93_1EA3_D613);
 }
 
 /// Every line is accepted, most are of these calls, and many wait.

@@ -207,13 +207,16 @@ fn check(module: &Module) {
             vec![module.current()]
         }
     );
+    let pair = (module.current(), module.ticks_left());
+    assert_eq!(module.window_lookup(module.t()), pair);
 }
 
-/// Generated events of two kinds in turn, each with its answer and the records
-/// before and after it.
+/// Generated events of three kinds in turn, each with its answer and the
+/// records before and after it.
 fn run(seed: u64, count: usize, mut take: impl FnMut(&Event, &Answer, &Module, &Module)) {
-    let (_, mut events) = match seed % 4 {
-        0 => Events::of_locks(seed),
+    let (_, mut events) = match seed % 8 {
+        0 | 4 => Events::of_locks(seed),
+        1 => Events::of_ticks_left(seed),
         _ => Events::with_table(seed),
     };
     let mut before = events.module.clone();

@@ -74,6 +74,8 @@ struct Done {
     queuing: [usize; 2],
     /// Calls 32 and 33 likewise.
     locks: [usize; 2],
+    /// Call 34 likewise.
+    asked: [usize; 2],
 }
 
 fn is_accepted(answer: &Answer) -> bool {
@@ -86,10 +88,14 @@ impl Done {
         let place = usize::from(common(set, event));
         self.free[0] += 1 - place;
         let all = !set[1..].contains(&false);
-        let (queuing, lock) = ((30..=31).contains(&event.call), event.call >= 32);
-        self.messages[place] += usize::from(event.call >= 23 && !lock);
-        self.queuing[place] += usize::from(queuing && !all);
-        self.locks[place] += usize::from(lock && !all);
+        self.messages[place] += usize::from((23..=31).contains(&event.call));
+        let counts = match event.call {
+            30 | 31 => &mut self.queuing,
+            32 | 33 => &mut self.locks,
+            34 => &mut self.asked,
+            _ => return,
+        };
+        counts[place] += usize::from(!all);
     }
 }
 
@@ -197,5 +203,15 @@ fn they_do_so_where_partitions_mostly_lock() {
         compare(Events::of_locks, seed, 900, &mut done);
     }
     assert!(done.locks.iter().all(|&calls| calls > 2_000));
+    assert!(done.free.iter().all(|&free| free > 5_000));
+}
+
+#[test]
+fn they_do_so_where_partitions_mostly_ask_for_the_ticks_left() {
+    let mut done = Done::default();
+    for seed in 0..300 {
+        compare(Events::of_ticks_left, seed, 900, &mut done);
+    }
+    assert!(done.asked.iter().all(|&calls| calls > 2_000));
     assert!(done.free.iter().all(|&free| free > 5_000));
 }

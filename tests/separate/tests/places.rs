@@ -35,16 +35,16 @@ fn the_empty_record_answers_13_to_everything() {
 fn a_partition_not_0_to_p_is_13() {
     let mut world = running();
     for partition in [-1, 3, 9, i64::MIN, i64::MAX] {
-        for call in [0, 1, 33] {
+        for call in [0, 1, 34] {
             world.refused_event(13, line(partition, call, &[]));
         }
     }
 }
 
 #[test]
-fn a_call_not_0_to_33_is_13() {
+fn a_call_not_0_to_34_is_13() {
     let mut world = running();
-    for call in [-1, 34, i64::MIN, i64::MAX] {
+    for call in [-1, 35, i64::MIN, i64::MAX] {
         for partition in [0, 1, 2] {
             world.refused_event(13, line(partition, call, &[]));
         }
@@ -54,7 +54,7 @@ fn a_call_not_0_to_33_is_13() {
 #[test]
 fn just_one_of_partition_and_call_0_is_13() {
     let mut world = running();
-    for call in 1..=33 {
+    for call in 1..=34 {
         world.refused_event(13, line(0, call, &[]));
     }
     world.refused_event(13, line(1, 0, &[]));
@@ -65,7 +65,7 @@ fn just_one_of_partition_and_call_0_is_13() {
 fn an_unused_field_not_0_is_13() {
     let used = [
         0, 1, 4, 1, 2, 1, 0, 1, 1, 1, 0, 1, 2, 1, 3, 2, 1, 1, 1, 1, 2, 2, 1, 2, 3, 2, 1, 2, 2, 1,
-        3, 2, 0, 0,
+        3, 2, 0, 0, 0,
     ];
     assert_eq!(USED, used);
     let mut world = running();
@@ -118,7 +118,7 @@ fn place_8_comes_before_9_and_the_body() {
 fn place_9_comes_before_the_body() {
     let mut world = World::one();
     world.done(1, &[0]);
-    for call in 1..=33 {
+    for call in 1..=34 {
         world.refused(9, call, &[]);
     }
     world.refused(9, 1, &[9]);
@@ -130,7 +130,7 @@ fn normal_with_nothing_running_is_9() {
     let mut world = World::one();
     world.create(5, -1, -1);
     world.normal();
-    for call in 1..=33 {
+    for call in 1..=34 {
         world.refused(9, call, &[]);
     }
     world.ticks(25);
@@ -183,7 +183,7 @@ fn running_shows_where_the_events_partition_is_0_or_current() {
     assert_eq!(world.event([1, 1, 3, 0, 0, 0]), [1, 0, 0, 0, 1, 1]);
     assert_eq!(world.event([1, 10, 1, 0, 0, 0]), [13, 0, 0, 0, 1, 1]);
     assert_eq!(world.event([1, 0, 0, 0, 0, 0]), [13, 0, 0, 0, 1, 1]);
-    assert_eq!(world.event([1, 34, 0, 0, 0, 0]), [13, 0, 0, 0, 1, 1]);
+    assert_eq!(world.event([1, 35, 0, 0, 0, 0]), [13, 0, 0, 0, 1, 1]);
     // Partition 0 shows it whatever the code.
     assert_eq!(world.event([0, 5, 0, 0, 0, 0]), [13, 0, 0, 0, 1, 1]);
     assert_eq!(world.event([0, 0, 0, 0, 0, 7]), [13, 0, 0, 0, 1, 1]);
@@ -331,7 +331,7 @@ fn numbers_that_no_line_holds_are_judged_by_the_same_rules() {
     }
     let mut world = World::new(&table);
     world.one_of_each();
-    for call in 1..=33i64 {
+    for call in 1..=34i64 {
         for field in 0..USED[call as usize] {
             for value in [
                 i64::MIN,

@@ -276,6 +276,7 @@ fn generate_prints_what_the_library_makes() {
     for (name, kind) in [
         ("events", Kind::Events),
         ("locks", Kind::Locks),
+        ("left", Kind::Left),
         ("damaged", Kind::Damaged),
         ("passing", Kind::Passing),
         ("queuing", Kind::Queuing),
@@ -322,4 +323,6 @@ fn coverage_names_what_was_not_reached() {
     assert!(printed.contains("  call 32 LOCK_PREEMPTION code 4\n"));
     assert!(printed.contains("  PERIODIC_WAIT: 5 by the lock\n"));
     assert!(printed.contains("  lock: ended by mode 2\n"));
+    assert!(printed.contains("  call 34 GET_TICKS_LEFT code 9\n"));
+    assert!(printed.contains("  WARM_START: then a gap\n"));
 }

@@ -1,5 +1,5 @@
 //! coverage FROM TO COUNT [KIND]: what the generator reaches over seeds FROM to
-//! TO with COUNT events each, of the kind events, releases or locks.
+//! TO with COUNT events each, of the kind events, releases, locks or left.
 
 use separate::coverage::Coverage;
 use std::io;
@@ -13,6 +13,7 @@ fn main() -> ExitCode {
         [kind] if kind == "events" => Coverage::of_seeds,
         [kind] if kind == "releases" => Coverage::of_starts,
         [kind] if kind == "locks" => Coverage::of_locks,
+        [kind] if kind == "left" => Coverage::of_ticks_left,
         _ => return usage(),
     };
     let numbers = numbers.iter().map(|number| number.parse().ok());
@@ -27,6 +28,6 @@ fn main() -> ExitCode {
 }
 
 fn usage() -> ExitCode {
-    eprintln!("coverage FROM TO COUNT [events|releases|locks]");
+    eprintln!("coverage FROM TO COUNT [events|releases|locks|left]");
     ExitCode::FAILURE
 }

@@ -20,6 +20,8 @@ fn main() -> ExitCode {
 }
 
 fn usage() -> ExitCode {
-    eprintln!("generate SEED table|events|releases|locks|busy|passing|queuing|ticks|damaged COUNT");
+    eprintln!(
+        "generate SEED table|events|releases|locks|left|busy|passing|queuing|ticks|damaged COUNT"
+    );
     ExitCode::FAILURE
 }

@@ -39,8 +39,8 @@ pub struct Opening {
 
 // ---------------------------------------------------------------- what an event does, before its partition is looked at
 // The code of the places that need no partition, the time, the current partition and the ticks left after the event, how many
-// partitions are ticked, and where these lie: the channel that a call may name, the current partition, the one that makes a call, the one whose
-// running process is shown; past the last for none.
+// partitions are ticked, and where these lie: the channel that a call may name, the current partition, the one that makes a call,
+// the one whose running process is shown; past the last for none.
 struct Plan {
     request: Request,
     own: u32,

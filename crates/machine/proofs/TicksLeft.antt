@@ -81,7 +81,7 @@ module _ (m : Module) (h : Reached m) where
         let s = sound-table some in
         rw e (⊎-elim
         (λ (q : StartAt (m .table) ((m .t + ticksLeft m) % m .table .frame)). inl q)
-        (λ (f : Uncovered (m .table) ((m .t + ticksLeft m) % m .table .frame)). inr (ap (λ (v : Lookup). v .partition) (window-after (m .t + ticksLeft m) e) ∙ window-left (m .table) s (m .t + ticksLeft m) .gap f .0))
+        (λ (f : Uncovered (windows (m .table)) ((m .t + ticksLeft m) % m .table .frame)). inr (ap (λ (v : Lookup). v .partition) (window-after (m .t + ticksLeft m) e) ∙ window-left (m .table) s (m .t + ticksLeft m) .gap f .0))
         (window-left (m .table) s (m .t) .ends))
 
 -- ---------------------------------------------------------------- the call
@@ -128,7 +128,7 @@ module _ (m : Module) (k : ℕ) (h : Calling m k) where
             (λ (c : Covered (windows (m .table)) x).
             let e = l .window (c .at) (c .inside) (c .covered) in
             record { at = c .at; inside = c .inside; owner = sym (e .0) ∙ h .now; covered = c .covered; ends = ap (λ (n : ℕ). x + n) (left-given .valueIs) ∙ e .1 })
-            (λ (f : Uncovered (m .table) x). absurd (omega (arith, l .gap f .0, h .now, h .some)))
+            (λ (f : Uncovered (windows (m .table)) x). absurd (omega (arith, l .gap f .0, h .now, h .some)))
             (covered-or-none x (windows (m .table)));
       }
 

@@ -35,20 +35,17 @@ pub record Covered (ws : List Window) (x : ℕ) : Type 0 where
   pub inside : at < length ws
   pub covered : covers (getD ws at noWindow) x ≡ true
 
-abbrev pub NoneCovers : List Window → ℕ → Type 0
-NoneCovers ws x = (i : ℕ) → i < length ws → covers (getD ws i noWindow) x ≡ false
-
-none-more : (x : ℕ) (w : Window) (ws : List Window) → covers w x ≡ false → NoneCovers ws x → NoneCovers (w ∷ ws) x
+none-more : (x : ℕ) (w : Window) (ws : List Window) → covers w x ≡ false → Uncovered ws x → Uncovered (w ∷ ws) x
 none-more x w ws e f zero h = e
 none-more x w ws e f (suc i) h = f i (omega arith)
 
-pub covered-or-none : (x : ℕ) (ws : List Window) → Covered ws x ⊎ NoneCovers ws x
+pub covered-or-none : (x : ℕ) (ws : List Window) → Covered ws x ⊎ Uncovered ws x
 covered-or-none x [] = inr (λ i h. absurd (omega arith))
 covered-or-none x (w ∷ ws) = either (covers w x)
     (λ e. inl (record { at = 0; inside = omega arith; covered = e }))
     (λ e. ⊎-elim
     (λ (c : Covered ws x). inl (record { at = suc (c .at); inside = omega (arith, c .inside); covered = c .covered }))
-    (λ (f : NoneCovers ws x). inr (none-more x w ws e f))
+    (λ (f : Uncovered ws x). inr (none-more x w ws e f))
     (covered-or-none x ws))
 
 -- what is found of windows in order
@@ -61,7 +58,7 @@ covering-is x gap previous frame size (w ∷ ws) s (suc i) h e =
     let later = each-window (w .start + w .duration) frame size ws (s .1) i (omega arith) .order in
     rw (covers-past w x (omega (arith, later, covers-from (getD ws i noWindow) x e .0))) (covering-is x gap (w .start + w .duration) frame size ws (s .1) i (omega arith) e)
 
-covering-none : (x gap : ℕ) (ws : List Window) → NoneCovers ws x → covering ws x gap ≡ record { partition = 0; left = gap }
+covering-none : (x gap : ℕ) (ws : List Window) → Uncovered ws x → covering ws x gap ≡ record { partition = 0; left = gap }
 unfolding covering
 covering-none x gap [] f = refl
 covering-none x gap (w ∷ ws) f = rw (f 0 (omega arith)) (covering-none x gap ws (λ i h. f (suc i) (omega arith)))
@@ -87,7 +84,7 @@ module _ (T : Table) (s : SoundTable T) where
   unfolding lookup
   in-window t i h e = rw (frame-some T s) (covering-is (place t) _ 0 (T .frame) (T .size) (windows T) (s .eachWindow) i h e)
 
-  in-gap : (t : ℕ) → Uncovered T (place t) → lookup T t ≡ record { partition = 0; left = nextStart T t anyWindow }
+  in-gap : (t : ℕ) → Uncovered (windows T) (place t) → lookup T t ≡ record { partition = 0; left = nextStart T t anyWindow }
   unfolding lookup
   in-gap t f = rw (frame-some T s) (covering-none (place t) _ (windows T) f)
 
@@ -95,7 +92,7 @@ module _ (T : Table) (s : SoundTable T) where
   pub current-known : (t : ℕ) → lookup T t .partition ≤ T .size
   current-known t = ⊎-elim
       (λ (c : Covered (windows T) (place t)). omega (arith, ap (λ (v : Lookup). v .partition) (in-window t (c .at) (c .inside) (c .covered)), window-at (c .at) (c .inside) .owner .1))
-      (λ (f : Uncovered T (place t)). omega (arith, ap (λ (v : Lookup). v .partition) (in-gap t f)))
+      (λ (f : Uncovered (windows T) (place t)). omega (arith, ap (λ (v : Lookup). v .partition) (in-gap t f)))
       (covered-or-none (place t) (windows T))
 
   module _ (t : ℕ) where
@@ -163,12 +160,12 @@ module _ (T : Table) (s : SoundTable T) where
             between = window-between;
             ends = ⊎-elim
                 (λ (c : Covered (windows T) (place (t + n))). inl (record { at = c .at; inside = c .inside; starts = next-window some (place (t + n)) refl c }))
-                (λ (f : Uncovered T (place (t + n))). inr f)
+                (λ (f : Uncovered (windows T) (place (t + n))). inr f)
                 (covered-or-none (place (t + n)) (windows T));
           }
 
     -- -------------------------------------------------------- without one
-    module _ (none : Uncovered T (place t)) where
+    module _ (none : Uncovered (windows T) (place t)) where
       left-is : n ≡ nextStart T t anyWindow
       left-is = ap (λ (v : Lookup). v .left) (in-gap t none)
 
@@ -183,7 +180,7 @@ module _ (T : Table) (s : SoundTable T) where
           let b = next-bounds T s t anyWindow in
           omega (arith, left-is, next-least T s t anyWindow j (record { at = q .at; inside = q .inside; passed = le-leb 0 (at (q .at) .start) (omega arith); starts = q .starts }) some (omega (arith, left-is, b .1)))
 
-      gap-stays : (j : ℕ) → j < n → Uncovered T (place (t + j))
+      gap-stays : (j : ℕ) → j < n → Uncovered (windows T) (place (t + j))
       gap-stays zero l i h = let z : t + 0 ≡ t = omega arith in rw z (none i h)
       gap-stays (suc j) l i h =
           let y = place (t + suc j) in
@@ -222,5 +219,5 @@ module _ (T : Table) (s : SoundTable T) where
     pub window-left : WindowLeft T t n
     window-left = ⊎-elim
         (λ (c : Covered (windows T) (place t)). window-left-in (c .at) (c .inside) (c .covered))
-        (λ (f : Uncovered T (place t)). window-left-out f)
+        (λ (f : Uncovered (windows T) (place t)). window-left-out f)
         (covered-or-none (place t) (windows T))

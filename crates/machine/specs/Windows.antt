@@ -81,9 +81,9 @@ pub record StartAt (T : Table) (x : ℕ) : Type 0 where
   pub inside : at < length (windows T)
   pub starts : getD (windows T) at noWindow .start ≡ x
 
--- no window covers place x of the frame
-abbrev pub Uncovered : Table → ℕ → Type 0
-Uncovered T x = (i : ℕ) → i < length (windows T) → covers (getD (windows T) i noWindow) x ≡ false
+-- none of the windows covers place x of the frame
+abbrev pub Uncovered : List Window → ℕ → Type 0
+Uncovered ws x = (i : ℕ) → i < length ws → covers (getD ws i noWindow) x ≡ false
 
 -- what the lookup gives at t, without a search, with n ticks left
 pub record WindowLeft (T : Table) (t n : ℕ) : Type 0 where
@@ -95,12 +95,12 @@ pub record WindowLeft (T : Table) (t n : ℕ) : Type 0 where
       let x = t % T .frame in
       i < length (windows T) → covers w x ≡ true → (lookup T t .partition ≡ w .partition) × (x + n ≡ w .start + w .duration)
   -- without one: no partition, and until a window starts
-  pub gap : Uncovered T (t % T .frame) → (lookup T t .partition ≡ 0) × StartAt T ((t + n) % T .frame)
+  pub gap : Uncovered (windows T) (t % T .frame) → (lookup T t .partition ≡ 0) × StartAt T ((t + n) % T .frame)
   -- for j < n the lookup at t + j gives the same partition and n − j; no window starts in between, so that adjacent ones are not joined
   pub lasts : (j : ℕ) → j < n → lookup T (t + j) ≡ record { partition = lookup T t .partition; left = n - j }
   pub between : (j : ℕ) → 1 ≤ j → j < n → StartAt T ((t + j) % T .frame) → ⊥
   -- at t + n a window starts, or none covers it
-  pub ends : StartAt T ((t + n) % T .frame) ⊎ Uncovered T ((t + n) % T .frame)
+  pub ends : StartAt T ((t + n) % T .frame) ⊎ Uncovered (windows T) ((t + n) % T .frame)
 
 -- ---------------------------------------------------------------- the release point
 -- the earliest start of a window with flag 1, of that partition, strictly after t

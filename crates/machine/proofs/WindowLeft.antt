@@ -85,7 +85,7 @@ module _ (T : Table) (s : SoundTable T) where
   in-window t i h e = rw (frame-some T s) (covering-is (place t) _ 0 (T .frame) (T .size) (windows T) (s .eachWindow) i h e)
 
   in-gap : (t : ℕ) → Uncovered (windows T) (place t) → lookup T t ≡ record { partition = 0; left = nextStart T t anyWindow }
-  unfolding lookup
+  unfolding lookup nextStart
   in-gap t f = rw (frame-some T s) (covering-none (place t) _ (windows T) f)
 
   -- the current partition is 0 or one of the table's

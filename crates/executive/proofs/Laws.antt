@@ -23,8 +23,7 @@ use Rattle.machine.specs.Places.{noCaller, ticks, eventChecks, firstChecks}
 use Rattle.machine.specs.Services.{called}
 use Rattle.machine.specs.Step.{contextOf, decision, moduleAfter, sees, answerTo, stepped, step}
 use Rattle.machine.specs.Ticks.{dueAt, tickAt, tickTo, partitionCount, tickModule}
-use Rattle.machine.specs.Valid.{Reached}
-use Rattle.machine.specs.Windows.{lookup, releasePoint, waitingOf, WaitingTime}
+use Rattle.machine.specs.Windows.{lookup, releasePoint, waitingOf}
 use Rattle.machine.specs.declared.Answer.{Answer}
 use Rattle.machine.specs.declared.Decision.{Decision}
 use Rattle.machine.specs.declared.Decision.the-variants.{Refused, Ticked}
@@ -47,11 +46,10 @@ use Rattle.machine.proofs.Bounds.{within-out}
 use Rattle.machine.proofs.Either.{either}
 use Rattle.machine.proofs.Dispatch.{release-unseen}
 use Rattle.machine.proofs.Folds.{tick-to-none}
-use Rattle.machine.proofs.Waits.{waiting-time, reached-waiting}
 use Rattle.machine.proofs.Tests.{by-test, codesIn, Passed, code-refuses, code-passes, and-left, and-right, or-left, or-right}
 use Rattle.places.specs.Placed.{placedAt}
 use Rattle.queuing.proofs.Laws.{placed}
-use Rattle.executive.specs.Executive.{turned, answerOf, Awaited}
+use Rattle.executive.specs.Executive.{turned, answerOf}
 use Rattle.executive.specs.Lists.{callChecks, tickCount, slotOf, callSlot, takesStartRule, releaseFor, shownSlot, planOf}
 use Rattle.executive.specs.declared.Plan.{Plan}
 
@@ -485,10 +483,5 @@ module _ {m : Module} {e : Event} {T : Table} {x : Plan} (f : Planned m e T x) w
 
 -- ---------------------------------------------------------------- the waiting time
 -- the two numbers are passed on by their bits
-pub awaited : (T : Table) (t k : ℤ) (w : Waiting) → SFits w64 t → SFits w64 k → w ≡ waitingOf T (toZ w64 (ofZ w64 t)) (toZ w64 (ofZ w64 k)) → Awaited T t k w
-unfolding waitingOf
-awaited T t k w f g e = rw (rw (toZ-ofZ w64 t f, toZ-ofZ w64 k g) at e) (record { refused = λ h. rw h; accepted = λ h. rw h; given = λ s. waiting-time T s t k })
-
--- of every record that a run reaches the waiting time is as document 01 says
-pub reached-awaited : (m : Module) → Reached m → (t k : ℤ) (w : Waiting) → Awaited (m .table) t k w → WaitingTime (m .table) t k w
-reached-awaited m h t k w a = reached-waiting m h t k w (a .refused) (a .given)
+pub awaited : (T : Table) (t k : ℤ) (w : Waiting) → SFits w64 t → SFits w64 k → w ≡ waitingOf T (toZ w64 (ofZ w64 t)) (toZ w64 (ofZ w64 k)) → w ≡ waitingOf T t k
+awaited T t k w f g e = rw (toZ-ofZ w64 t f, toZ-ofZ w64 k g) at e

@@ -6,7 +6,8 @@ ghost use lib.Seq.{sets};
 ghost use Rattle.machine.specs.Step.{sees, step};
 ghost use Rattle.machine.specs.Replay.{timeNumber, answerNumbers, unread};
 ghost use Rattle.machine.specs.Table.{readTable};
-ghost use Rattle.executive.specs.Executive.{turned, opened, noAnswer, answerOf, Awaited};
+ghost use Rattle.machine.specs.Windows.{waitingOf};
+ghost use Rattle.executive.specs.Executive.{turned, opened, noAnswer, answerOf};
 ghost use Rattle.executive.specs.Lists.{six, eventAt, placeCode, tickCount, slotOf, callSlot, takesStartRule, releaseFor, shownSlot, planOf, afterList, answeredList, lastAnswer, eventsIn};
 use channels::Messages;
 use machine::Answer;
@@ -413,7 +414,7 @@ impl Executive {
 
     // The waiting time from t on of a partition.
     pub fn waiting_time(self, t: i64, k: i64) -> Waiting
-        ensures { λ w. ⌜ Awaited (self .inner .table) t k w ⌝ }
+        ensures { λ w. ⌜ w ≡ waitingOf (self .inner .table) t k ⌝ }
     {
         let m = self.inner;
         let table = m.table;

@@ -39,7 +39,7 @@ use Rattle.machine.proofs.Isolation.{left-right}
 
 -- ---------------------------------------------------------------- the table
 -- no event changes it
-after-table : (m : Module) (es : List EventT) → after m es .table ≡ m .table
+pub after-table : (m : Module) (es : List EventT) → after m es .table ≡ m .table
 after-table m [] = refl
 after-table m (e ∷ es) = after-table (step m e .state) es ∙ step-table m e
 

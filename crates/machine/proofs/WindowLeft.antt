@@ -1,6 +1,6 @@
 -- The window lookup: the current partition, and what the ticks left are. Assumes nothing.
 use Prim.Native.Nat.{ℕ, zero, suc, _+_, _-_, _%_, _≤_, _<_}
-use mathlib.Core.Bool.{true, false, and-false}
+use mathlib.Core.Bool.{Bool, true, false, and-false}
 use mathlib.Core.List.{List, [], _∷_}
 use mathlib.Core.Logic.{_⊎_, inl, inr, ⊎-elim}
 use mathlib.Core.Path.{_≡_, refl, ap, sym, _∙_}
@@ -23,7 +23,7 @@ module _ (w : Window) (x : ℕ) where
   pub covers-from : covers w x ≡ true → (w .start ≤ x) × (x < w .start + w .duration)
   covers-from e = (leb-true _ _ (and-left _ _ e), ltb-true _ _ (and-right (leb (w .start) x) _ e))
 
-  covers-in : w .start ≤ x → x < w .start + w .duration → covers w x ≡ true
+  pub covers-in : w .start ≤ x → x < w .start + w .duration → covers w x ≡ true
   covers-in lo hi = rw (le-leb _ _ lo) (lt-ltb _ _ hi)
 
   covers-past : w .start + w .duration ≤ x → covers w x ≡ false
@@ -34,6 +34,10 @@ pub record Covered (ws : List Window) (x : ℕ) : Type 0 where
   pub at : ℕ
   pub inside : at < length ws
   pub covered : covers (getD ws at noWindow) x ≡ true
+
+-- none of those that pass a test covers the place
+abbrev pub UncoveredBy : (Window → Bool) → List Window → ℕ → Type 0
+UncoveredBy f ws x = (i : ℕ) → i < length ws → f (getD ws i noWindow) ≡ true → covers (getD ws i noWindow) x ≡ false
 
 none-more : (x : ℕ) (w : Window) (ws : List Window) → covers w x ≡ false → Uncovered ws x → Uncovered (w ∷ ws) x
 none-more x w ws e f zero h = e
@@ -94,6 +98,26 @@ module _ (T : Table) (s : SoundTable T) where
       (λ (c : Covered (windows T) (place t)). omega (arith, ap (λ (v : Lookup). v .partition) (in-window t (c .at) (c .inside) (c .covered)), window-at (c .at) (c .inside) .owner .1))
       (λ (f : Uncovered (windows T) (place t)). omega (arith, ap (λ (v : Lookup). v .partition) (in-gap t f)))
       (covered-or-none (place t) (windows T))
+
+  -- where none of those that pass a test covers the place, none does until the next of them starts
+  pub stays-out : (t : ℕ) (f : Window → Bool) → UncoveredBy f (windows T) (place t) → (j : ℕ) → j < nextStart T t f → UncoveredBy f (windows T) (place (t + j))
+  stays-out t f none zero l i h p = let z : t + 0 ≡ t = omega arith in rw z (none i h p)
+  stays-out t f none (suc j) l i h p =
+      let y = place (t + suc j) in
+      let x = place (t + j) in
+      let on : t + j + 1 ≡ t + suc j = omega arith in
+      either (covers (at i) y)
+      (λ e.
+      let d = covers-from (at i) y e in
+      absurd (either (eqb (at i .start) y)
+      (λ q. omega (arith, l, next-least T s t f (suc j) (record { at = i; inside = h; passed = rw p (le-leb 0 (at i .start) (omega arith)); starts = eqb-true _ _ q }) (omega arith) (omega (arith, l, next-bounds T s t f .1))))
+      (λ q.
+      let ne = eqb-false (at i .start) y q in
+      ⊎-elim
+      (λ (g : y ≡ x + 1). not-both _ (covers-in (at i) x (omega (arith, d .0, ne)) (omega (arith, d .1))) (stays-out t f none j (omega arith) i h p))
+      (λ (g : y + T .frame ≡ x + 1). omega (arith, place-low (t + j), d .0, ne))
+      (at-place (T .frame) x 1 y (place-low (t + j)) (omega arith) (s .frame .0) (ap (λ (u : ℕ). u % T .frame) (sym on) ∙ sym (mod-add-mod (t + j) (T .frame) 1))))))
+      (λ e. e)
 
   module _ (t : ℕ) where
     abbrev n : ℕ
@@ -181,23 +205,7 @@ module _ (T : Table) (s : SoundTable T) where
           omega (arith, left-is, next-least T s t anyWindow j (record { at = q .at; inside = q .inside; passed = le-leb 0 (at (q .at) .start) (omega arith); starts = q .starts }) some (omega (arith, left-is, b .1)))
 
       gap-stays : (j : ℕ) → j < n → Uncovered (windows T) (place (t + j))
-      gap-stays zero l i h = let z : t + 0 ≡ t = omega arith in rw z (none i h)
-      gap-stays (suc j) l i h =
-          let y = place (t + suc j) in
-          let x = place (t + j) in
-          let on : t + j + 1 ≡ t + suc j = omega arith in
-          either (covers (at i) y)
-          (λ e.
-          let d = covers-from (at i) y e in
-          absurd (either (eqb (at i .start) y)
-          (λ q. gap-between (suc j) (omega arith) l (record { at = i; inside = h; starts = eqb-true _ _ q }))
-          (λ q.
-          let ne = eqb-false (at i .start) y q in
-          ⊎-elim
-          (λ (g : y ≡ x + 1). not-both _ (covers-in (at i) x (omega (arith, d .0, ne)) (omega (arith, d .1))) (gap-stays j (omega arith) i h))
-          (λ (g : y + T .frame ≡ x + 1). omega (arith, place-low (t + j), d .0, ne))
-          (at-place (T .frame) x 1 y (place-low (t + j)) (omega arith) (s .frame .0) (ap (λ (u : ℕ). u % T .frame) (sym on) ∙ sym (mod-add-mod (t + j) (T .frame) 1))))))
-          (λ e. e)
+      gap-stays j l i h = stays-out t anyWindow (λ i h _. none i h) j (rw left-is at l) i h refl
 
       gap-lasts : (j : ℕ) → j < n → lookup T (t + j) ≡ record { partition = lookup T t .partition; left = n - j }
       gap-lasts j l = in-gap (t + j) (gap-stays j l) ∙ pair (sym (ap (λ (v : Lookup). v .partition) (in-gap t none))) (next-nearer T s t anyWindow 1 one (λ w q. refl) j (rw left-is at l) ∙ ap (λ (u : ℕ). u - j) (sym left-is))

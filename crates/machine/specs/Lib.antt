@@ -29,4 +29,5 @@ pub mod Releases
 pub mod Queues
 pub mod Locks
 pub mod TicksLeft
+pub mod Waits
 pub mod Account

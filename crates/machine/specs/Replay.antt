@@ -77,10 +77,14 @@ replayedRecord input =
     let r = readTable input in
     cond (eqb (r .code) 0) (final lineNext lineAnswer (r .state) (eventLines r input)) (r .state)
 
--- The replay of an input into an output: 0, or 11 where there is too little room
-abbrev pub replayCode : List ℕ → ℕ → ℕ
-replayCode input room = cond (leb (length (replayed input)) room) 0 lineRefusal
+-- A text into an output: 0, or 11 where there is too little room
+abbrev pub textCode : List ℕ → ℕ → ℕ
+textCode text room = cond (leb (length text) room) 0 lineRefusal
 
--- the output after: what is printed and what stood past it, or all as it was
+-- the output after: the text and what stood past it, or all as it was
+abbrev pub textInto : List ℕ → List ℕ → List ℕ
+textInto text out = cond (leb (length text) (length out)) (text ++ drop (length text) out) out
+
+-- the replay of an input into an output
 abbrev pub replayedInto : List ℕ → List ℕ → List ℕ
-replayedInto input out = cond (leb (length (replayed input)) (length out)) (replayed input ++ drop (length (replayed input)) out) out
+replayedInto input out = textInto (replayed input) out

@@ -130,21 +130,22 @@ pub record Release (T : Table) (k t r : ℕ) : Type 0 where
   pub earliest : (s : ℕ) → WindowAt T k true (s % T .frame) → t < s → r ≤ s
 
 -- ---------------------------------------------------------------- the waiting time
+-- 13, with n 0, for t or partition out of range (in the empty record there is no partition)
+abbrev pub waitingRefused : Table → Field → Field → Bool
+waitingRefused T t k = not (between 0 timeLimit t) || not (between 1 (T .size) k)
+
+-- The waiting time, given t and a partition: exactly the least n in 1..M such that a window of it, of either flag, starts at (t + n) mod M.
+unfoldable pub waitingOf : Table → ℤ → ℤ → Waiting
+waitingOf T t k = cond (waitingRefused T (field t) (field k)) (record { code = 13; n = 0 }) (record { code = 0; n = nextStart T (numberOf (field t)) (ownedBy (numberOf (field k))) })
+
 -- a window of partition k starts at x
 unfoldable pub startsAt : ℕ → ℕ → List Window → Bool
 startsAt k x [] = false
 startsAt k x (w ∷ ws) = (eqb (w .partition) k && eqb (w .start) x) || startsAt k x ws
 
--- 13, with n 0, for t or partition out of range (in the empty record there is no partition)
-abbrev pub waitingRefused : Table → Field → Field → Bool
-waitingRefused T t k = not (between 0 timeLimit t) || not (between 1 (T .size) k)
-
--- the waiting time that is given: to the next start
-unfoldable pub waitingOf : Table → ℤ → ℤ → Waiting
-waitingOf T t k = cond (waitingRefused T (field t) (field k)) (record { code = 13; n = 0 }) (record { code = 0; n = nextStart T (numberOf (field t)) (ownedBy (numberOf (field k))) })
-
--- given t and a partition, a number n in 1..M such that a window of it starts at (t + n) mod M
-pub record WaitingTime (T : Table) (t k : ℤ) (w : Waiting) : Type 0 where
-  pub refused : waitingRefused T (field t) (field k) ≡ true → w ≡ record { code = 13; n = 0 }
-  pub given : waitingRefused T (field t) (field k) ≡ false
-      → (w .code ≡ 0) × (1 ≤ w .n) × (w .n ≤ T .frame) × (startsAt (numberOf (field k)) ((numberOf (field t) + w .n) % T .frame) (windows T) ≡ true)
+-- n is the least of 1..M such that a window of partition k starts at (t + n) mod M
+pub record WaitingTime (T : Table) (k t n : ℕ) : Type 0 where
+  pub some : 1 ≤ n
+  pub few : n ≤ T .frame
+  pub starts : startsAt k ((t + n) % T .frame) (windows T) ≡ true
+  pub least : (j : ℕ) → 1 ≤ j → j < n → startsAt k ((t + j) % T .frame) (windows T) ≡ false

@@ -1,13 +1,13 @@
 -- What the loops over the lines of an input keep, and what a replay gives back. Assumes nothing.
 use Prim.Native.Nat.{ℕ, zero, suc, _+_, _-_, _*_, _/_, _≤_, _<_, min}
 use mathlib.Core.Path.{_≡_, refl, sym, ap, _∙_}
-use mathlib.Core.Bool.{true}
+use mathlib.Core.Bool.{true, false}
 use mathlib.Core.List.{List, [], _∷_, _++_, append-assoc, append-nil}
 use native.Mathlib.Omega.{arith}
 use native.Mathlib.Nat.{add-zero}
 use lib.ListN.{length, take, drop, length-append, length-drop, length-map, take-append-drop}
 use lib.Seq.{drop-drop, length-take-le}
-use lib.Dec.{leb}
+use lib.Dec.{leb, eqb}
 use lib.IntN.{ℤ}
 use borrow.Author.Tests.{eq-eqb, ne-eqb, le-leb, lt-leb, leb-true}
 use Rattle.machine.specs.declared.Module.{Module}
@@ -21,7 +21,7 @@ use Rattle.machine.specs.Limits.{lineLength}
 use Rattle.machine.specs.Line.{lineText, readLine, lines, lineEnd, readAt, allInRange, canWrite, writeCode, written, writtenAt}
 use Rattle.machine.specs.Table.{readTable}
 use Rattle.machine.specs.TwoRuns.{replies}
-use Rattle.machine.specs.Replay.{eventOf, answerNumbers, lineAnswer, lineNext, texts, refusalNumbers, badTableLine, replayed, replayedInto}
+use Rattle.machine.specs.Replay.{eventOf, answerNumbers, lineAnswer, lineNext, texts, refusalNumbers, badTableLine, eventLines, replayed, textInto}
 use Rattle.machine.specs.Valid.{ValidModule, Reached}
 use Rattle.machine.proofs.Bounds.{and-true-parts}
 use Rattle.machine.proofs.Either.{either}
@@ -38,7 +38,7 @@ use Rattle.event_lines.proofs.Blocks.{over-length, over-take, over-drop, over-m
 use Rattle.table.proofs.Laws.{linesFrom, none-left, one-left}
 use Rattle.table.proofs.Ends.{table-end}
 use Rattle.whole_input.specs.declared.Printed.{Printed}
-use Rattle.whole_input.specs.WholeInput.{done, noRoom, refusalPrinted, Counts, shownLength, shownInto, printed}
+use Rattle.whole_input.specs.WholeInput.{done, noRoom, refusalPrinted, Counts, shownLength, shownInto, printedText}
 
 -- ---------------------------------------------------------------- the lines from a position on
 -- how many they are
@@ -79,25 +79,59 @@ pub line-written : (out : List ℕ) (to : ℕ) (ns : List ℤ) → allInRange ns
 unfolding written
 line-written out to ns range fits = rw (le-leb (length (lineText ns)) (length (drop to out)) (omega (arith, length-drop to out)), range)
 
+-- ---------------------------------------------------------------- a text into an output
+-- so many bytes of a text are printed, and this is left of it
+pub record Printing (out₀ text left : List ℕ) (to : ℕ) (out : List ℕ) : Type 0 where
+  pub room : length text ≤ length out₀
+  pub size : length out ≡ length out₀
+  pub inside : to ≤ length out
+  pub front : take to out ++ left ≡ text
+  pub back : drop to out ≡ drop to out₀
+
+-- what is given back
+abbrev pub Gives : List ℕ → List ℕ → Printed → List ℕ → Type 0
+Gives text out r after = (r ≡ printedText text (length out)) × (after ≡ textInto text out)
+
+module _ (text out : List ℕ) where
+  gives-all : length text ≤ length out → Gives text out (done (length text)) (text ++ drop (length text) out)
+  gives-all h = rw (le-leb (length text) (length out) h) (refl, refl)
+
+  gives-none : length out < length text → Gives text out noRoom out
+  gives-none h = rw (lt-leb (length text) (length out) h) (refl, refl)
+
+  -- by how many lines it is
+  module _ (n : ℕ) (long : length text ≡ lineLength * n) where
+    pub lines-too-many : length out / lineLength < n → Gives text out noRoom out
+    lines-too-many h = gives-none (omega (arith, long))
+
+    pub prints-first : (left : List ℕ) → text ≡ left → n ≤ length out / lineLength → Printing out text left 0 out
+    prints-first left e h = record { room = omega (arith, long); size = refl; inside = omega arith; front = sym e; back = refl }
+
+module _ (out₀ text : List ℕ) (to : ℕ) (out : List ℕ) where
+  pub prints-last : Printing out₀ text [] to out → Gives text out₀ (done to) out
+  prints-last k =
+      let all : take to out ≡ text = sym (append-nil (take to out)) ∙ k .front in
+      let long : to ≡ length text = sym (length-take-le to out (k .inside)) ∙ ap length all in
+      rw (← take-append-drop to out, all, k .back, long) (gives-all text out₀ (k .room))
+
+  -- one more line
+  module _ (line rest : List ℕ) (k : Printing out₀ text (line ++ rest) to out) where
+    pub text-fits : to + length line ≤ length out
+    text-fits = omega (arith, ap length (k .front), length-append (take to out) (line ++ rest), length-append line rest, length-take-le to out (k .inside), k .room, k .size)
+
+    pub prints-more : Printing out₀ text rest (to + length line) (overAt to line out)
+    prints-more = record {
+      room = k .room;
+      size = over-length out to line text-fits ∙ k .size;
+      inside = omega (arith, over-length out to line text-fits, text-fits);
+      front = rw (over-take out to line text-fits) (append-assoc (take to out) line rest ∙ k .front);
+      back = over-drop out to line text-fits ∙ ap (drop (length line)) (k .back) ∙ drop-drop (length line) to out₀;
+    }
+
 -- the lines before a position are answered, and so many bytes are printed
 pub record Replaying (input out₀ : List ℕ) (m : Module) (at to : ℕ) (out : List ℕ) : Type 0 where
   pub valid : ValidModule m
-  pub room : length (replayed input) ≤ length out₀
-  pub size : length out ≡ length out₀
-  pub inside : to ≤ length out
-  pub front : take to out ++ answersFrom input m at ≡ replayed input
-  pub back : drop to out ≡ drop to out₀
-
--- ---------------------------------------------------------------- what is given back
-abbrev pub Gives : List ℕ → List ℕ → Printed → List ℕ → Type 0
-Gives input out r after = (r ≡ printed input (length out)) × (after ≡ replayedInto input out)
-
-module _ (input out : List ℕ) where
-  gives-all : length (replayed input) ≤ length out → Gives input out (done (length (replayed input))) (replayed input ++ drop (length (replayed input)) out)
-  gives-all h = rw (le-leb (length (replayed input)) (length out) h) (refl, refl)
-
-  gives-none : length out < length (replayed input) → Gives input out noRoom out
-  gives-none h = rw (lt-leb (length (replayed input)) (length out) h) (refl, refl)
+  pub prints : Printing out₀ (replayed input) (answersFrom input m at) to out
 
 -- the code of the line writer
 module _ (room code value w : ℕ) (e : w ≡ writeCode room (refusalNumbers code value)) where
@@ -135,52 +169,53 @@ module _ (out : List ℕ) (r : Printed) where
 
 -- by what table reading gives
 module _ (input out : List ℕ) (o : Opening) (e : o ≡ opened (readTable input)) where
-  same-code : readTable input .code ≡ o .code
+  pub same-code : readTable input .code ≡ o .code
   same-code = sym (ap (λ (x : Opening). x .code) e)
 
+  -- a bad table's line
   module _ (bad : o .code ≡ 0 → ⊥) where
-    refused-text : replayed input ≡ badTableLine (readTable input)
-    unfolding replayed
-    refused-text = rw (ne-eqb (readTable input .code) 0 (λ z. bad (sym same-code ∙ z)))
+    pub not-accepted : eqb (readTable input .code) 0 ≡ false
+    not-accepted = ne-eqb (readTable input .code) 0 (λ z. bad (sym same-code ∙ z))
 
-    pub refusal-gives : (r : Printed) (after : List ℕ) → r ≡ refusalPrinted (length out) (o .code) (o .value) → after ≡ written out (refusalNumbers (o .code) (o .value)) → Gives input out r after
-    unfolding written
-    refusal-gives r after p q =
-        rw (p, q, e, refusal-in-range input, refused-text, line-length (refusalNumbers (readTable input .code) (readTable input .value)))
-        (either (leb lineLength (length out)) (λ t. rw t (refl, refl)) (λ t. rw t (refl, refl)))
+    module _ (r : Printed) (after : List ℕ) (p : r ≡ refusalPrinted (length out) (o .code) (o .value)) (q : after ≡ written out (refusalNumbers (o .code) (o .value))) where
+      pub line-gives : (text : List ℕ) → text ≡ badTableLine (readTable input) → Gives text out r after
+      unfolding written
+      line-gives text is =
+          rw (p, q, e, refusal-in-range input, is, line-length (refusalNumbers (readTable input .code) (readTable input .value)))
+          (either (leb lineLength (length out)) (λ t. rw t (refl, refl)) (λ t. rw t (refl, refl)))
+
+      pub refusal-gives : Gives (replayed input) out r after
+      unfolding replayed
+      refusal-gives = line-gives (replayed input) (rw not-accepted)
 
   module _ (good : o .code ≡ 0) where
+    pub accepted : readTable input .code ≡ 0
+    accepted = same-code ∙ good
+
+    -- the lines after the table
+    pub lines-after : eventLines (readTable input) input ≡ linesFrom input (o .lines * lineLength)
+    lines-after = table-end input accepted .events ∙ ap (λ (x : Opening). linesFrom input (x .lines * lineLength)) (sym e)
+
     accepted-text : replayed input ≡ answersFrom input (o .executive .inner) (o .lines * lineLength)
     unfolding replayed
-    accepted-text = rw (eq-eqb (readTable input .code) 0 (same-code ∙ good), table-end input (same-code ∙ good) .events, e)
-
-    accepted-length : length (replayed input) ≡ lineLength * countFrom input (o .lines * lineLength)
-    accepted-length = ap length accepted-text ∙ answers-length input (o .executive .inner) (o .lines * lineLength)
+    accepted-text = rw (eq-eqb (readTable input .code) 0 accepted, lines-after, e)
 
     module _ (n : ℕ) (counted : n ≡ countFrom input (o .lines * lineLength)) where
-      pub too-many : length out / lineLength < n → Gives input out noRoom out
-      too-many h = gives-none input out (omega (arith, accepted-length))
+      accepted-length : length (replayed input) ≡ lineLength * n
+      accepted-length = ap length accepted-text ∙ answers-length input (o .executive .inner) (o .lines * lineLength) ∙ ap (_*_ lineLength) (sym counted)
+
+      pub too-many : length out / lineLength < n → Gives (replayed input) out noRoom out
+      too-many = lines-too-many (replayed input) out n accepted-length
 
       pub begins : n ≤ length out / lineLength → Replaying input out (o .executive .inner) (o .lines * lineLength) 0 out
       begins h = record {
         valid = rw e (reached-valid (readTable input .state) (Reached.read input));
-        room = omega (arith, accepted-length);
-        size = refl;
-        inside = omega arith;
-        front = sym accepted-text;
-        back = refl;
+        prints = prints-first (replayed input) out n accepted-length (answersFrom input (o .executive .inner) (o .lines * lineLength)) accepted-text h;
       }
 
 module _ (input out₀ : List ℕ) (m : Module) (at to : ℕ) (out : List ℕ) (k : Replaying input out₀ m at to out) where
-  printed-length : to + length (answersFrom input m at) ≡ length (replayed input)
-  printed-length = omega (arith, ap length (k .front), length-append (take to out) (answersFrom input m at), length-take-le to out (k .inside))
-
-  pub ends : length input ≤ at → Gives input out₀ (done to) out
-  ends h =
-      let none = no-answer input m at h in
-      let all : take to out ≡ replayed input = sym (append-nil (take to out)) ∙ (rw none at (k .front)) in
-      let long : to ≡ length (replayed input) = omega (arith, printed-length, ap length none) in
-      rw (← take-append-drop to out, all, k .back, long) (gives-all input out₀ (k .room))
+  pub ends : length input ≤ at → Gives (replayed input) out₀ (done to) out
+  ends h = prints-last out₀ (replayed input) to out (rw (no-answer input m at h) at (k .prints))
 
   -- one more line
   module _ (more : at < length input) where
@@ -193,21 +228,17 @@ module _ (input out₀ : List ℕ) (m : Module) (at to : ℕ) (out : List ℕ) (
     abbrev rest : List ℕ
     rest = answersFrom input (lineNext m l) (lineEnd input at)
 
+    prints-answer : Printing out₀ (replayed input) (text ++ rest) to out
+    prints-answer = rw (one-answer input m at more) at (k .prints)
+
     answer-fits : to + length text ≤ length out
-    answer-fits = omega (arith, printed-length, ap length (one-answer input m at more), length-append text rest, k .room, k .size)
+    answer-fits = text-fits out₀ (replayed input) to out text rest prints-answer
 
     pub line-fits : to + lineLength ≤ length out₀
-    line-fits = omega (arith, answer-fits, answer-length m l, k .size)
+    line-fits = omega (arith, answer-fits, answer-length m l, k .prints .size)
 
     next : Replaying input out₀ (lineNext m l) (lineEnd input at) (to + length text) (overAt to text out)
-    next = record {
-      valid = line-valid m l (k .valid);
-      room = k .room;
-      size = over-length out to text answer-fits ∙ k .size;
-      inside = omega (arith, over-length out to text answer-fits, answer-fits);
-      front = rw (over-take out to text answer-fits) (append-assoc (take to out) text rest ∙ ap (λ (x : List ℕ). take to out ++ x) (sym (one-answer input m at more)) ∙ k .front);
-      back = over-drop out to text answer-fits ∙ ap (drop (length text)) (k .back) ∙ drop-drop (length text) to out₀;
-    }
+    next = record { valid = line-valid m l (k .valid); prints = prints-more out₀ (replayed input) to out text rest prints-answer }
 
     pub goes-on : (m′ : Module) → m′ ≡ lineNext m l → (out′ : List ℕ) → out′ ≡ writtenAt to out (lineAnswer m l) → (at′ : ℕ) → at′ ≡ lineEnd input at → Replaying input out₀ m′ at′ (to + lineLength) out′
     goes-on m′ e out′ f at′ g =
@@ -255,14 +286,14 @@ module _ (input out₀ : List ℕ) where
           let r = event-next input out₀ m at to out k q e in
           rw (drop-drop lineLength at input)
           (block-more m at to out q (goodEvents n (drop (at + lineLength) input)) k
-          (omega (arith, r .inside, r .size, k .size), f (x .state) (to + length t) (overAt to t out) r))
+          (omega (arith, r .prints .inside, r .prints .size, k .prints .size), f (x .state) (to + length t) (overAt to t out) r))
 
 module _ (input out₀ : List ℕ) (m : Module) (at to : ℕ) (out : List ℕ) (k : Replaying input out₀ m at to out) (r : Block) (did : r ≡ blockOf m (blockEvents input at out to)) where
   pub block-inside : at ≤ length input → at + r .lines * lineLength ≤ length input
   block-inside h = omega (arith, ap (λ (b : Block). b .lines) did, good-inside (lineCount (length out - to)) (drop at input), length-drop at input)
 
   pub block-room : to + r .printed ≤ length out
-  block-room = omega (arith, ap (λ (b : Block). b .printed) did, block-fits m input out at to (k .inside))
+  block-room = omega (arith, ap (λ (b : Block). b .printed) did, block-fits m input out at to (k .prints .inside))
 
   pub block-goes-on : (out′ : List ℕ) → out′ ≡ overAt to (blockText m (blockEvents input at out to)) out → Replaying input out₀ (r .executive .inner) (at + r .lines * lineLength) (to + r .printed) out′
   block-goes-on out′ e = rw (e, did) (block-done input out₀ (lineCount (length out - to)) m at to out k)

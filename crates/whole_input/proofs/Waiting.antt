@@ -1,189 +1,132 @@
 -- What the loop over lines that ask for waiting times keeps. Assumes nothing.
 use Prim.Native.Nat.{ℕ, _+_, _*_, _/_, _≤_, _<_}
 use mathlib.Core.Path.{_≡_, refl, sym, ap, _∙_}
-use mathlib.Core.Bool.{Bool, true, false, cond, and-true}
-use mathlib.Core.List.{List, [], _∷_, _++_, append-assoc, append-nil}
+use mathlib.Core.Bool.{Bool, true, false}
+use mathlib.Core.List.{List, [], _∷_, _++_, map}
 use native.Mathlib.Omega.{arith}
-use lib.ListN.{length, take, drop, length-append, length-map, take-append-drop}
-use lib.Seq.{drop-drop, length-take-le}
-use lib.Dec.{leb, eqb}
+use lib.ListN.{length, drop, length-append, length-map}
 use lib.IntN.{ℤ}
-use borrow.Author.Tests.{eq-eqb, ne-eqb, le-leb, lt-leb}
+use borrow.Author.Tests.{eq-eqb, le-leb}
 use Rattle.machine.specs.declared.Line.{Line}
 use Rattle.machine.specs.declared.Line.the-variants.{Six, Bad}
 use Rattle.machine.specs.declared.Numbers.{Numbers}
 use Rattle.machine.specs.declared.Row.{Row}
 use Rattle.machine.specs.declared.Table.{Table}
 use Rattle.machine.specs.declared.Waiting.{Waiting}
-use Rattle.machine.specs.Fields.{field, rowOf}
+use Rattle.machine.specs.Fields.{field, numberOf, rowOf}
 use Rattle.machine.specs.Limits.{lineLength, numberLimit}
 use Rattle.machine.specs.Line.{lineRefusal, lineText, inRange, allInRange, readLine, lines, lineEnd, readAt, written, writtenAt}
-use Rattle.machine.specs.Replay.{refusalNumbers, badTableLine, eventLines}
+use Rattle.machine.specs.Replay.{texts, refusalNumbers}
 use Rattle.machine.specs.Table.{readTable}
 use Rattle.machine.specs.Valid.{SoundTable}
-use Rattle.machine.specs.Windows.{waitingRefused}
-use Rattle.machine.proofs.Either.{either}
+use Rattle.machine.specs.Windows.{ownedBy, nextStart, waitingRefused, waitingOf}
+use Rattle.machine.proofs.Starts.{next-bounds}
 use Rattle.machine.proofs.Tables.{table-read}
-use Rattle.machine.proofs.TextInput.{line-at}
+use Rattle.machine.proofs.Tests.{by-test}
 use Rattle.machine.proofs.TextLine.{line-length}
-use Rattle.executive.specs.Executive.{opened, Awaited}
+use Rattle.executive.specs.Executive.{opened}
 use Rattle.executive.specs.declared.Opening.{Opening}
-use Rattle.event_lines.specs.Blocks.{over, overAt}
-use Rattle.event_lines.proofs.Blocks.{over-length, over-take, over-drop}
-use Rattle.event_lines.proofs.Laws.{refusal-in-range}
 use Rattle.table.proofs.Laws.{linesFrom, none-left, one-left}
-use Rattle.table.proofs.Ends.{table-end}
 use Rattle.whole_input.specs.declared.Printed.{Printed}
 use Rattle.whole_input.specs.WholeInput.{done, noRoom, refusalPrinted}
-use Rattle.whole_input.specs.WaitingTimes.{isQuestion, refusedWaiting, Gets, waitingNumbers, Answers, Asked, askedLength, AskedInto, Waits, AskedAt}
-use Rattle.whole_input.specs.WaitingTimes.Gets.{bad, unused, time}
-use Rattle.whole_input.proofs.Laws.{countFrom, line-written}
-
--- every answer can be written
-gets-range : (T : Table) → SoundTable T → (l : Line) (w : Waiting) → Gets T l w → allInRange (waitingNumbers w) ≡ true
-unfolding allInRange inRange
-gets-range T s _ _ bad = refl
-gets-range T s _ _ (unused n q) = refl
-gets-range T s _ _ (time n w q g) =
-    either (waitingRefused T (field (n .n1)) (field (n .n2)))
-    (λ t. rw (g .refused t))
-    (λ t. let h = g .given t in rw (h .0, le-leb (w .n) numberLimit (omega (arith, h .2, s .frame .1))))
+use Rattle.whole_input.specs.WaitingTimes.{isQuestion, refusedWaiting, gets, waitingNumbers, lineWaiting, asked}
+use Rattle.whole_input.proofs.Laws.{countFrom, line-written, Printing, Gives, lines-too-many, prints-first, prints-last, text-fits, prints-more, not-accepted, line-gives, accepted, lines-after}
 
 -- ---------------------------------------------------------------- one line
+-- every answer can be written
+waiting-range : (T : Table) → SoundTable T → (t k : ℤ) → allInRange (waitingNumbers (waitingOf T t k)) ≡ true
+unfolding allInRange inRange waitingOf
+waiting-range T s t k =
+    let n = nextStart T (numberOf (field t)) (ownedBy (numberOf (field k))) in
+    by-test (λ (w : Waiting). allInRange (waitingNumbers w) ≡ true) (waitingRefused T (field t) (field k))
+    (λ _. refl)
+    (λ _. rw (le-leb n numberLimit (omega (arith, next-bounds T s (numberOf (field t)) (ownedBy (numberOf (field k))) .1, s .frame .1))))
+
+line-range : (T : Table) → SoundTable T → (l : Line) → allInRange (lineWaiting T l) ≡ true
+unfolding allInRange inRange
+line-range T s (Six n) = by-test (λ (w : Waiting). allInRange (waitingNumbers w) ≡ true) (isQuestion (rowOf n)) (λ _. waiting-range T s (n .n1) (n .n2)) (λ _. refl)
+line-range T s Bad = refl
+
+-- what a line gets, by its numbers
 module _ (T : Table) (l : Line) (n : Numbers) (is : l ≡ Six n) (r : Row) (row : r ≡ rowOf n) (b : Bool) (asks : b ≡ isQuestion r) where
-  pub gets-unused : b ≡ false → Gets T l (refusedWaiting 13)
-  gets-unused h = rw is (unused n (rw row at (sym asks ∙ h)))
+  pub gets-unused : b ≡ false → refusedWaiting 13 ≡ gets T l
+  gets-unused h = let q : isQuestion (rowOf n) ≡ false = rw row at (sym asks ∙ h) in rw (is, q)
 
-  pub gets-time : b ≡ true → (t k : ℤ) → t ≡ n .n1 → k ≡ n .n2 → (w : Waiting) → Awaited T t k w → SoundTable T → Gets T l w
-  gets-time h t k e f w a s = rw is (time n w (rw row at (sym asks ∙ h)) (rw (e, f) at (a .given s)))
+  pub gets-time : b ≡ true → (t k : ℤ) → t ≡ n .n1 → k ≡ n .n2 → (w : Waiting) → w ≡ waitingOf T t k → w ≡ gets T l
+  gets-time h t k e f w a = let q : isQuestion (rowOf n) ≡ true = rw row at (sym asks ∙ h) in rw (is, q) (rw (e, f) at a)
 
-pub gets-same : (T : Table) (l m : Line) → l ≡ m → (w : Waiting) → Gets T l w → Gets T m w
-gets-same T l m e w g = rw (← e) g
+pub gets-bad : (T : Table) (l : Line) → l ≡ Bad → refusedWaiting lineRefusal ≡ gets T l
+gets-bad T l is = rw is
 
-pub gets-bad : (T : Table) (l : Line) → l ≡ Bad → Gets T l (refusedWaiting lineRefusal)
-gets-bad T l is = rw is bad
+-- the numbers of its answer
+pub waiting-line : (T : Table) (l m : Line) → l ≡ m → (w : Waiting) → w ≡ gets T l → waitingNumbers w ≡ lineWaiting T m
+waiting-line T l m e w f = rw (f, e)
 
--- ---------------------------------------------------------------- the loop
+-- ---------------------------------------------------------------- what is printed
+-- the answer lines from a position of the input on
+abbrev askedFrom : List ℕ → Table → ℕ → List ℕ
+askedFrom input T at = texts (map (lineWaiting T) (linesFrom input at))
+
+asked-texts : (T : Table) (ls : List Line) → length (texts (map (lineWaiting T) ls)) ≡ lineLength * length ls
+unfolding texts
+asked-texts T [] = refl
+asked-texts T (l ∷ ls) = length-append (lineText (lineWaiting T l)) (texts (map (lineWaiting T) ls)) ∙ omega (arith, line-length (lineWaiting T l), asked-texts T ls)
+
 -- the lines before a position are answered, and so many bytes are printed
-pub record Asking (input out₀ : List ℕ) (T : Table) (from at to : ℕ) (out : List ℕ) : Type 0 where
+pub record Asking (input out₀ : List ℕ) (T : Table) (at to : ℕ) (out : List ℕ) : Type 0 where
   pub sound : SoundTable T
-  pub size : length out ≡ length out₀
-  pub room : lineLength * countFrom input from ≤ length out₀
-  pub count : to + lineLength * countFrom input at ≡ lineLength * countFrom input from
-  pub front : (rest : List ℕ) → Answers T (linesFrom input at) rest → Answers T (linesFrom input from) (take to out ++ rest)
-  pub back : drop to out ≡ drop to out₀
+  pub prints : Printing out₀ (asked input) (askedFrom input T at) to out
 
-module _ (input out₀ : List ℕ) (T : Table) (from at to : ℕ) (out : List ℕ) (k : Asking input out₀ T from at to out) where
-  module _ (h : at < length input) where
-    one-less : countFrom input at ≡ 1 + countFrom input (lineEnd input at)
-    one-less = omega (arith, ap length (line-at input at h .first))
+module _ (input out₀ : List ℕ) (T : Table) (at to : ℕ) (out : List ℕ) (k : Asking input out₀ T at to out) where
+  pub asking-ends : length input ≤ at → Gives (asked input) out₀ (done to) out
+  unfolding texts
+  asking-ends h = prints-last out₀ (asked input) to out (rw (none-left input at h) at (k .prints))
+
+  module _ (more : at < length input) where
+    abbrev ns : List ℤ
+    ns = lineWaiting T (readAt input at)
+
+    abbrev rest : List ℕ
+    rest = askedFrom input T (lineEnd input at)
+
+    prints-answer : Printing out₀ (asked input) (lineText ns ++ rest) to out
+    unfolding texts
+    prints-answer = rw (one-left input at more) at (k .prints)
+
+    answer-fits : to + length (lineText ns) ≤ length out
+    answer-fits = text-fits out₀ (asked input) to out (lineText ns) rest prints-answer
 
     pub line-fits : to + lineLength ≤ length out₀
-    line-fits = omega (arith, k .count, k .room, one-less)
+    line-fits = omega (arith, answer-fits, line-length ns, k .prints .size)
 
-    pub asked-on : (out′ : List ℕ) → AskedAt T (readAt input at) out′ (λ (w : Waiting). writtenAt to out (waitingNumbers w)) → (at′ : ℕ) → at′ ≡ lineEnd input at
-        → Asking input out₀ T from at′ (to + lineLength) out′
-    asked-on out′ a at′ e =
-        let w = a .waiting in
-        let text = lineText (waitingNumbers w) in
-        let got = a .gets (k .sound) in
-        let long : length text ≡ lineLength = line-length (waitingNumbers w) in
-        let fits : to + length text ≤ length out = omega (arith, long, line-fits, k .size) in
-        let is : out′ ≡ overAt to text out = a .stored ∙ line-written out to (waitingNumbers w) (gets-range T (k .sound) (readAt input at) w got) fits in
-        let n : to + lineLength ≡ to + length text = omega (arith, long) in
-        rw (e, is, n)
-        (record {
-          sound = k .sound;
-          size = over-length out to text fits ∙ k .size;
-          room = k .room;
-          count = omega (arith, k .count, one-less, long);
-          front = λ rest r.
-              rw (over-take out to text fits, append-assoc (take to out) text rest)
-              (k .front (text ++ rest) (rw (one-left input at h) (Answers.more (readAt input at) w _ rest got r)));
-          back = over-drop out to text fits ∙ ap (drop (length text)) (k .back) ∙ drop-drop (length text) to out₀;
-        })
-
-  pub asked-all : length input ≤ at → (to ≡ lineLength * countFrom input from) × (Answers T (linesFrom input from) (take to out)) × (out ≡ over (take to out) out₀)
-  asked-all h =
-      let none : countFrom input at ≡ 0 = sym (length-map (lines (drop at input)) readLine) ∙ ap length (none-left input at h) in
-      let long : to ≡ lineLength * countFrom input from = omega (arith, k .count, none) in
-      let cut : length (take to out) ≡ to = length-take-le to out (omega (arith, long, k .room, k .size)) in (
-        long,
-        rw append-nil at (k .front [] (rw (none-left input at h) Answers.none)),
-        rw (cut, ← k .back) (sym (take-append-drop to out)),
-      )
+    pub asked-on : (out′ : List ℕ) → out′ ≡ writtenAt to out ns → (at′ : ℕ) → at′ ≡ lineEnd input at → Asking input out₀ T at′ (to + lineLength) out′
+    asked-on out′ f at′ g =
+        let n : to + lineLength ≡ to + length (lineText ns) = omega (arith, line-length ns) in
+        rw (g, f, line-written out to ns (line-range T (k .sound) (readAt input at)) answer-fits, n)
+        (record { sound = k .sound; prints = prints-more out₀ (asked input) to out (lineText ns) rest prints-answer })
 
 -- ---------------------------------------------------------------- by what table reading gives
 module _ (input out : List ℕ) (o : Opening) (e : o ≡ opened (readTable input)) where
-  same-code : readTable input .code ≡ o .code
-  same-code = sym (ap (λ (x : Opening). x .code) e)
-
-  module _ (bad : o .code ≡ 0 → ⊥) where
-    not-good : readTable input .code ≡ 0 → ⊥
-    not-good z = bad (sym same-code ∙ z)
-
-    one-line : askedLength input ≡ lineLength
-    one-line = rw (ne-eqb (readTable input .code) 0 not-good)
-
-    pub refusal-asked : (r : Printed) (after : List ℕ) → r ≡ refusalPrinted (length out) (o .code) (o .value) → after ≡ written out (refusalNumbers (o .code) (o .value)) → Waits input out after r
-    unfolding written
-    refusal-asked r after p q =
-        let text = badTableLine (readTable input) in
-        let long : length text ≡ lineLength = line-length (refusalNumbers (readTable input .code) (readTable input .value)) in
-        let stored : after ≡ cond (leb lineLength (length out)) (over text out) out = q ∙ rw (e, refusal-in-range input, long, and-true) in
-        record {
-          given = p ∙ rw (e, refusal-in-range input, long, and-true, one-line);
-          printed = λ h. record {
-            text = text;
-            asked = record { refused = λ _. refl; accepted = λ z. absurd (not-good z) };
-            stored = stored ∙ rw (le-leb lineLength (length out) (omega (arith, one-line)));
-          };
-          kept = λ h. stored ∙ rw (lt-leb lineLength (length out) (omega (arith, one-line)));
-        }
+  pub refusal-asked : (o .code ≡ 0 → ⊥) → (r : Printed) (after : List ℕ) → r ≡ refusalPrinted (length out) (o .code) (o .value) → after ≡ written out (refusalNumbers (o .code) (o .value)) → Gives (asked input) out r after
+  unfolding asked
+  refusal-asked bad r after p q = line-gives input out o e bad r after p q (asked input) (rw (not-accepted input out o e bad))
 
   module _ (good : o .code ≡ 0) where
-    accepted : readTable input .code ≡ 0
-    accepted = same-code ∙ good
-
-    own : readTable input .state .table ≡ o .executive .inner .table
-    own = sym (ap (λ (x : Opening). x .executive .inner .table) e)
-
-    after-table : readTable input .lines * lineLength ≡ o .lines * lineLength
-    after-table = sym (ap (λ (x : Opening). x .lines * lineLength) e)
-
-    questions : eventLines (readTable input) input ≡ linesFrom input (o .lines * lineLength)
-    questions = table-end input accepted .events ∙ ap (linesFrom input) after-table
-
-    all-lines : askedLength input ≡ lineLength * countFrom input (o .lines * lineLength)
-    all-lines = rw (eq-eqb (readTable input .code) 0 accepted, questions) (ap (_*_ lineLength) (length-map (lines (drop (o .lines * lineLength) input)) readLine))
+    asked-text : asked input ≡ askedFrom input (o .executive .inner .table) (o .lines * lineLength)
+    unfolding asked
+    asked-text = rw (eq-eqb (readTable input .code) 0 (accepted input out o e good), lines-after input out o e good, e)
 
     module _ (n : ℕ) (counted : n ≡ countFrom input (o .lines * lineLength)) where
-      pub asked-too-many : length out / lineLength < n → (r : Printed) → r ≡ noRoom → Waits input out out r
-      asked-too-many h r p =
-          let far : length out < askedLength input = omega (arith, all-lines, counted) in
-          record { given = p ∙ rw (lt-leb (askedLength input) (length out) far); printed = λ q. absurd (omega (arith, far, q)); kept = λ _. refl }
+      asked-length : length (asked input) ≡ lineLength * n
+      asked-length =
+          let at = o .lines * lineLength in
+          ap length asked-text ∙ asked-texts (o .executive .inner .table) (linesFrom input at) ∙ ap (_*_ lineLength) (length-map (lines (drop at input)) readLine ∙ sym counted)
 
-      pub asking-begins : n ≤ length out / lineLength → Asking input out (o .executive .inner .table) (o .lines * lineLength) (o .lines * lineLength) 0 out
+      pub asked-too-many : length out / lineLength < n → Gives (asked input) out noRoom out
+      asked-too-many = lines-too-many (asked input) out n asked-length
+
+      pub asking-begins : n ≤ length out / lineLength → Asking input out (o .executive .inner .table) (o .lines * lineLength) 0 out
       asking-begins h = record {
-        sound = rw (← own) (table-read input .accepted accepted .0);
-        size = refl;
-        room = omega (arith, counted);
-        count = omega arith;
-        front = λ rest r. r;
-        back = refl;
+        sound = rw e (table-read input .accepted (accepted input out o e good) .0);
+        prints = prints-first (asked input) out n asked-length (askedFrom input (o .executive .inner .table) (o .lines * lineLength)) asked-text h;
       }
-
-    pub asking-ends : (at to : ℕ) (out′ : List ℕ) → Asking input out (o .executive .inner .table) (o .lines * lineLength) at to out′ → length input ≤ at → (r : Printed) → r ≡ done to → Waits input out out′ r
-    asking-ends at to out′ k h r p =
-        let a = asked-all input out (o .executive .inner .table) (o .lines * lineLength) at to out′ k h in
-        let long : to ≡ askedLength input = a .0 ∙ sym all-lines in
-        let fits : askedLength input ≤ length out = omega (arith, all-lines, k .room) in
-        record {
-          given = p ∙ rw (le-leb (askedLength input) (length out) fits, long);
-          printed = λ _. record {
-            text = take to out′;
-            asked = record { refused = λ z. absurd (z accepted); accepted = λ _. rw (own, questions) (a .1) };
-            stored = a .2;
-          };
-          kept = λ q. absurd (omega (arith, fits, q));
-        }

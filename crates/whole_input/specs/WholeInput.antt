@@ -1,4 +1,4 @@
--- What the replay of a whole input gives back.
+-- What a program over a whole input gives back.
 use Prim.Native.Nat.{ℕ, _≤_, min}
 use mathlib.Core.Path.{_≡_}
 use mathlib.Core.Bool.{cond}
@@ -7,7 +7,7 @@ use lib.ListN.{length, take}
 use lib.Dec.{leb, eqb}
 use Rattle.machine.specs.Limits.{lineLength}
 use Rattle.machine.specs.Line.{lineRefusal, canWrite, written}
-use Rattle.machine.specs.Replay.{refusalNumbers, replayed, replayCode}
+use Rattle.machine.specs.Replay.{refusalNumbers, replayed, textCode}
 use Rattle.whole_input.specs.declared.Printed.{Printed}
 
 abbrev pub done : ℕ → Printed
@@ -32,10 +32,14 @@ Counts n out = (n ≤ length out) × (n ≡ length (take n out))
 abbrev pub shownInto : List ℕ → Printed → List ℕ
 shownInto out r = cond (eqb (r .code) 0) out (written out (refusalNumbers (r .code) (r .value)))
 
--- 0 and how many bytes are printed, or 11 where there is too little room
-abbrev pub printed : List ℕ → ℕ → Printed
-printed input room = record {
-  code = replayCode input room;
+-- of a text: 0 and how many bytes are printed, or 11 where there is too little room
+abbrev pub printedText : List ℕ → ℕ → Printed
+printedText text room = record {
+  code = textCode text room;
   value = 0;
-  length = cond (leb (length (replayed input)) room) (length (replayed input)) 0;
+  length = cond (leb (length text) room) (length text) 0;
 }
+
+-- of a replay
+abbrev pub printed : List ℕ → ℕ → Printed
+printed input room = printedText (replayed input) room

@@ -5,10 +5,9 @@ ghost use lib.ListN.{length, drop};
 ghost use lib.Dec.{ltb};
 ghost use Rattle.machine.specs.Limits.{lineLength};
 ghost use Rattle.machine.specs.Line.{lines, readAt, written, writtenAt};
-ghost use Rattle.machine.specs.Replay.{lineNext, lineAnswer, refusalNumbers, replayedInto};
-ghost use Rattle.machine.specs.Valid.{SoundTable};
-ghost use Rattle.whole_input.specs.WholeInput.{done, noRoom, refusalPrinted, Counts, shownLength, shownInto, printed};
-ghost use Rattle.whole_input.specs.WaitingTimes.{isQuestion, Gets, waitingNumbers, AskedAt, Waits};
+ghost use Rattle.machine.specs.Replay.{lineNext, lineAnswer, refusalNumbers, textInto, replayedInto};
+ghost use Rattle.whole_input.specs.WholeInput.{done, noRoom, refusalPrinted, Counts, shownLength, shownInto, printedText, printed};
+ghost use Rattle.whole_input.specs.WaitingTimes.{isQuestion, gets, lineWaiting, asked};
 use executive::Executive;
 use machine::Line;
 use machine::Module;
@@ -148,9 +147,9 @@ fn is_question(r: Row) -> bool
         && (fields::is_number(f4, 0) && (fields::is_number(f5, 0) && fields::is_number(f6, 0)))
 }
 
-// What a line gets: 11 where it is no six numbers, 13 where an unused number is not 0, else a waiting time.
+// What a line gets: 11 where it is no six numbers, 13 where an unused number is not 0, else the waiting time.
 fn waiting_of(e: Executive, l: Line) -> Waiting
-    ensures { λ w. ⌜ (SoundTable (e .inner .table) → Gets (e .inner .table) l w) ⌝ }
+    ensures { λ w. ⌜ w ≡ gets (e .inner .table) l ⌝ }
 {
     match l {
         Line::Six(n) => {
@@ -171,7 +170,7 @@ fn waiting_of(e: Executive, l: Line) -> Waiting
 
 // The answer to the line at a position of the input, written at a position of the output: code, n, four 0.
 fn ask_line(e: Executive, input: &[u8], at: usize, out: &mut [u8], to: usize)
-    ensures { λ _. ⌜ AskedAt (e .inner .table) (readAt (now (input .entry)) at) (now (out .exit)) (λ w. writtenAt to (now (out .entry)) (waitingNumbers w)) ⌝ }
+    ensures { λ _. ⌜ now (out .exit) ≡ writtenAt to (now (out .entry)) (lineWaiting (e .inner .table) (readAt (now (input .entry)) at)) ⌝ }
 {
     let w = waiting_of(e, line::read_at(input, at));
     line::write_at(out, to, event_lines::refusal(w.code, w.n));
@@ -180,7 +179,7 @@ fn ask_line(e: Executive, input: &[u8], at: usize, out: &mut [u8], to: usize)
 // Reads a table, then a question a line, and prints one answer line for each; or the one line of a bad table. Where the output is too
 // short for all of it, nothing is written.
 pub fn waiting_times(input: &[u8], out: &mut [u8]) -> Printed
-    ensures { λ r. ⌜ Waits (now (input .entry)) (now (out .entry)) (now (out .exit)) r ⌝ }
+    ensures { λ r. ⌜ (r ≡ printedText (asked (now (input .entry))) (length (now (out .entry)))) × (now (out .exit) ≡ textInto (asked (now (input .entry))) (now (out .entry))) ⌝ }
 {
     let o = Executive::open(input);
     if o.code != 0 {

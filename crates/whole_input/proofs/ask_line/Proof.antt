@@ -1,12 +1,17 @@
-use mathlib.Core.Path.{_∙_}
+use mathlib.Core.Path.{ap, _∙_}
+use Rattle.machine.specs.Line.{writtenAt}
 use Rattle.line.proofs.Meaning.{reads}
-use Rattle.whole_input.proofs.Waiting.{gets-same}
+use Rattle.whole_input.proofs.Waiting.{waiting-line}
 use borrow.Author.Needs.{needs}
 use Rattle.whole_input.proofs.ask_line.Statement.{statement}
 use Rattle.whole_input.proofs.ask_line.Tie as tie
 
 returns : tie.Need-returns
-returns c = record { waiting = c .before .before .before .before .before .waiting-of .result; gets = λ s. gets-same _ _ _ (reads _ _ (c .before .before .before .before .before .before .read-at .ensures)) _ (c .before .before .before .before .before .waiting-of .ensures s); stored = c .before .before .write-at .ensures .1 ∙ rw (c .before .before .before .refusal .ensures) }
+returns c =
+    let a = c .before .before .before .before .before .before .before .before .before .args in
+    let read = c .before .before .before .before .before .before .read-at in
+    let line = waiting-line (a .e .inner .table) (read .result) _ (reads (read .result) _ (read .ensures)) _ (c .before .before .before .before .before .waiting-of .ensures) in
+    c .before .before .write-at .ensures .1 ∙ rw (c .before .before .before .refusal .ensures) (ap (writtenAt (a .to) (a .out .now)) line)
 
 pub ask-line-spec : {M : Type 1} → statement M
 ask-line-spec =

@@ -51,7 +51,7 @@ add-at c =
 add-to : tie.Need-add-to Inv-loop μ-loop
 add-to c =
     let short : length (c .before .before .before .before .before .before .before .before .before .before .before .before .before .before .before .before .before .before .before .before .args .out .now) < 18446744073709551616 = omega (arith, c .before .before .before .before .before .before .before .before .before .before .before .before .before .before .before .before .before .before .before .before .good) in
-    omega (arith, short, block-room _ _ _ _ _ _ (c .before .before .before .before .before .before .before .before .before .before .loop .inv) _ (c .before .before .before .before .before .before .before .run-lines .ensures .0), c .before .before .before .before .before .before .before .before .before .before .loop .inv .size)
+    omega (arith, short, block-room _ _ _ _ _ _ (c .before .before .before .before .before .before .before .before .before .before .loop .inv) _ (c .before .before .before .before .before .before .before .run-lines .ensures .0), c .before .before .before .before .before .before .before .before .before .before .loop .inv .prints .size)
 
 loop-less : tie.Need-loop-less Inv-loop μ-loop
 loop-less c = omega (arith, c .before .before .before .if3 .taken, block-inside _ _ _ _ _ _ (c .before .before .before .before .before .before .before .before .before .before .loop .inv) _ (c .before .before .before .before .before .before .before .run-lines .ensures .0) (omega (arith, c .before .before .before .before .before .before .before .before .before .loop-test .taken)))
@@ -103,5 +103,5 @@ replay-spec =
     loop-less-2
     loop-again-2
     (λ _ _. tt)
-    (λ c. c .before .before .loop .inv .size)
+    (λ c. c .before .before .loop .inv .prints .size)
     returns-3)

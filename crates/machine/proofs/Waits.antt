@@ -22,7 +22,7 @@ use Rattle.machine.specs.Plain.{plainBetween}
 use Rattle.machine.specs.LeftRight.{after}
 use Rattle.machine.specs.Valid.{Between, SoundTable, SoundModule, Reached}
 use Rattle.machine.specs.Windows.{noWindow, windows, covers, ownedBy, startsFrom, nextStart, lookup, Uncovered, startsAt, waitingRefused, waitingOf, WaitingTime}
-use Rattle.machine.specs.Waits.{waitingNow, Waits}
+use Rattle.machine.specs.Waits.{waitingNow, WaitsExample, Waits}
 use Rattle.machine.specs.Examples as E
 use Rattle.machine.specs.Line as X
 use Rattle.machine.specs.Module as M
@@ -36,6 +36,11 @@ use Rattle.machine.proofs.Starts.{Passes, passes-test, owned-passes, ea
 use Rattle.machine.proofs.Tests.{and-left, and-right, not-both}
 use Rattle.machine.proofs.TicksLeft.{after-table}
 use Rattle.machine.proofs.WindowLeft.{Covered, UncoveredBy, covered-or-none, covers-in, window-left, stays-out}
+
+-- computed from the bytes of the table
+example : WaitsExample
+unfolding E.bytes E.text E.twoWindows X.inRange X.column X.markAfter X.columns X.numberText X.fieldText X.lineText X.sameBytes X.spelled X.candidate X.readField X.readNumbers X.readLine X.lines R.hasFlagged R.flaggedFrom R.tableFrom R.tableOf emptyTable emptyModule M.freshModule Wi.firstStart Wi.nextStart Wi.waitingOf
+example = record { first = refl; second = refl }
 
 -- ---------------------------------------------------------------- the least number
 -- two words for a start of the partition
@@ -81,11 +86,11 @@ one T k t n u f g = either (ltb n u)
     (λ q. not-both _ (g .starts) (f .least u (g .some) (ltb-true u n q)))
     (λ q. omega (arith, ltb-false n u e, ltb-false u n q)))
 
--- ---------------------------------------------------------------- what is asked
+-- ---------------------------------------------------------------- what is given
 -- t and the partition are in range
-asked : (T : Table) → SoundTable T → (t k : ℕ) → t ≤ timeLimit → Between 1 (T .size) k → waitingOf T (pos t) (pos k) ≡ record { code = 0; n = nextStart T t (ownedBy k) }
+waiting-is : (T : Table) → SoundTable T → (t k : ℕ) → t ≤ timeLimit → Between 1 (T .size) k → waitingOf T (pos t) (pos k) ≡ record { code = 0; n = nextStart T t (ownedBy k) }
 unfolding waitingOf nextStart
-asked T s t k low own = rw (
+waiting-is T s t k low own = rw (
   le-leb t greatestTime (omega (arith, low)),
   le-leb k greatestTime (omega (arith, own .1, s .size .1)),
   le-leb 0 t (omega arith),
@@ -95,9 +100,9 @@ asked T s t k low own = rw (
 )
 
 -- one of them is not
-refused : (T : Table) → T .size ≤ greatestTime → (t k : ℤ) → (plainBetween 0 timeLimit t && plainBetween 1 (T .size) k) ≡ false → waitingOf T t k ≡ record { code = 13; n = 0 }
+waiting-refused : (T : Table) → T .size ≤ greatestTime → (t k : ℤ) → (plainBetween 0 timeLimit t && plainBetween 1 (T .size) k) ≡ false → waitingOf T t k ≡ record { code = 13; n = 0 }
 unfolding waitingOf
-refused T few t k e = rw (lossless t .between 0 timeLimit (omega arith), lossless k .between 1 (T .size) few)
+waiting-refused T few t k e = rw (lossless t .between 0 timeLimit (omega arith), lossless k .between 1 (T .size) few)
     (either (plainBetween 0 timeLimit t) (λ p. rw (p, rw p at e)) (λ p. rw p))
 
 empty-size : emptyModule .table .size ≡ 0
@@ -126,7 +131,7 @@ module _ (m : Module) (h : Reached m) (k : ℕ) (own : Between 1 (m .table .size
   sound = sound-of m h k own .table
 
   now-is : waitingNow m k ≡ nextStart T (m .t) (ownedBy k)
-  now-is = ap (λ (w : Waiting). w .n) (asked T sound (m .t) k (sound-of m h k own .time) own)
+  now-is = ap (λ (w : Waiting). w .n) (waiting-is T sound (m .t) k (sound-of m h k own .time) own)
 
 module _ (m : Module) (h : Reached m) (k : ℕ) (own : Between 1 (m .table .size) k) (es : List EventT) where
   abbrev n : ℕ
@@ -177,19 +182,17 @@ module _ (m : Module) (h : Reached m) (k : ℕ) (own : Between 1 (m .table .size
       )
 
 -- ---------------------------------------------------------------- the whole
--- Law. The waiting time. The two examples are computed from the bytes of their table.
+-- Law. The waiting time.
 pub waits : Waits
-unfolding E.bytes E.text E.twoWindows X.inRange X.column X.markAfter X.columns X.numberText X.fieldText X.lineText X.sameBytes X.spelled X.candidate X.readField X.readNumbers X.readLine X.lines R.hasFlagged R.flaggedFrom R.tableFrom R.tableOf emptyTable emptyModule M.freshModule Wi.firstStart Wi.nextStart Wi.waitingOf
 waits = record {
   given = λ m h t k low own.
       let s = sound-of m h k own .table in
-      rw (asked (m .table) s t k low own) (refl, waiting-least (m .table) s k t own);
+      rw (waiting-is (m .table) s t k low own) (refl, waiting-least (m .table) s k t own);
   one = one;
-  refused = λ m h. refused (m .table) (few-partitions m h);
+  refused = λ m h. waiting-refused (m .table) (few-partitions m h);
   steady = λ m es t k. ap (λ (T : Table). waitingOf T t k) (after-table m es);
   nearer = nearer;
   sleeps = sleeps;
   comes = comes;
-  first = refl;
-  second = refl;
+  example = example;
 }

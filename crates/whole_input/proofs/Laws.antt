@@ -75,7 +75,7 @@ module _ (input : List ℕ) (m : Module) (at : ℕ) where
   one-answer h = rw (one-left input at h)
 
 -- a line in range that has room, written into the middle of an output
-pub line-written : (out : List ℕ) (to : ℕ) (ns : List ℤ) → allInRange ns ≡ true → to + length (lineText ns) ≤ length out → writtenAt to out ns ≡ overAt to (lineText ns) out
+line-written : (out : List ℕ) (to : ℕ) (ns : List ℤ) → allInRange ns ≡ true → to + length (lineText ns) ≤ length out → writtenAt to out ns ≡ overAt to (lineText ns) out
 unfolding written
 line-written out to ns range fits = rw (le-leb (length (lineText ns)) (length (drop to out)) (omega (arith, length-drop to out)), range)
 
@@ -127,6 +127,16 @@ module _ (out₀ text : List ℕ) (to : ℕ) (out : List ℕ) where
       front = rw (over-take out to line text-fits) (append-assoc (take to out) line rest ∙ k .front);
       back = over-drop out to line text-fits ∙ ap (drop (length line)) (k .back) ∙ drop-drop (length line) to out₀;
     }
+
+-- a line of numbers in range, by the line writer
+module _ (out₀ text : List ℕ) (to : ℕ) (out : List ℕ) (ns : List ℤ) (six : length (lineText ns) ≡ lineLength) (rest : List ℕ) (k : Printing out₀ text (lineText ns ++ rest) to out) where
+  pub line-room : to + lineLength ≤ length out₀
+  line-room = omega (arith, text-fits out₀ text to out (lineText ns) rest k, six, k .size)
+
+  pub line-more : allInRange ns ≡ true → (out′ : List ℕ) → out′ ≡ writtenAt to out ns → Printing out₀ text rest (to + lineLength) out′
+  line-more range out′ e =
+      let n : to + lineLength ≡ to + length (lineText ns) = omega (arith, six) in
+      rw (e, line-written out to ns range (text-fits out₀ text to out (lineText ns) rest k), n) (prints-more out₀ text to out (lineText ns) rest k)
 
 -- the lines before a position are answered, and so many bytes are printed
 pub record Replaying (input out₀ : List ℕ) (m : Module) (at to : ℕ) (out : List ℕ) : Type 0 where
@@ -231,19 +241,17 @@ module _ (input out₀ : List ℕ) (m : Module) (at to : ℕ) (out : List ℕ) (
     prints-answer : Printing out₀ (replayed input) (text ++ rest) to out
     prints-answer = rw (one-answer input m at more) at (k .prints)
 
-    answer-fits : to + length text ≤ length out
-    answer-fits = text-fits out₀ (replayed input) to out text rest prints-answer
-
     pub line-fits : to + lineLength ≤ length out₀
-    line-fits = omega (arith, answer-fits, answer-length m l, k .prints .size)
+    line-fits = line-room out₀ (replayed input) to out (lineAnswer m l) (answer-length m l) rest prints-answer
 
     next : Replaying input out₀ (lineNext m l) (lineEnd input at) (to + length text) (overAt to text out)
     next = record { valid = line-valid m l (k .valid); prints = prints-more out₀ (replayed input) to out text rest prints-answer }
 
     pub goes-on : (m′ : Module) → m′ ≡ lineNext m l → (out′ : List ℕ) → out′ ≡ writtenAt to out (lineAnswer m l) → (at′ : ℕ) → at′ ≡ lineEnd input at → Replaying input out₀ m′ at′ (to + lineLength) out′
-    goes-on m′ e out′ f at′ g =
-        let n : to + lineLength ≡ to + length text = omega (arith, answer-length m l) in
-        rw (e, g, f, line-written out to (lineAnswer m l) (line-in-range m l (k .valid)) answer-fits, n) next
+    goes-on m′ e out′ f at′ g = rw (e, g) (record {
+      valid = line-valid m l (k .valid);
+      prints = line-more out₀ (replayed input) to out (lineAnswer m l) (answer-length m l) rest prints-answer (line-in-range m l (k .valid)) out′ f;
+    })
 
   -- an event line
   event-next : (q : Numbers) → readAt input at ≡ Six q → let x = step m (eventOf q) in

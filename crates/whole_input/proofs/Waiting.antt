@@ -30,7 +30,7 @@ use Rattle.table.proofs.Laws.{linesFrom, none-left, one-left}
 use Rattle.whole_input.specs.declared.Printed.{Printed}
 use Rattle.whole_input.specs.WholeInput.{done, noRoom, refusalPrinted}
 use Rattle.whole_input.specs.WaitingTimes.{isQuestion, refusedWaiting, gets, waitingNumbers, lineWaiting, asked}
-use Rattle.whole_input.proofs.Laws.{countFrom, line-written, Printing, Gives, lines-too-many, prints-first, prints-last, text-fits, prints-more, not-accepted, line-gives, accepted, lines-after}
+use Rattle.whole_input.proofs.Laws.{countFrom, Printing, Gives, lines-too-many, prints-first, prints-last, line-room, line-more, not-accepted, line-gives, accepted, lines-after}
 
 -- ---------------------------------------------------------------- one line
 -- every answer can be written
@@ -93,17 +93,14 @@ module _ (input out₀ : List ℕ) (T : Table) (at to : ℕ) (out : List ℕ) (k
     unfolding texts
     prints-answer = rw (one-left input at more) at (k .prints)
 
-    answer-fits : to + length (lineText ns) ≤ length out
-    answer-fits = text-fits out₀ (asked input) to out (lineText ns) rest prints-answer
-
     pub line-fits : to + lineLength ≤ length out₀
-    line-fits = omega (arith, answer-fits, line-length ns, k .prints .size)
+    line-fits = line-room out₀ (asked input) to out ns (line-length ns) rest prints-answer
 
     pub asked-on : (out′ : List ℕ) → out′ ≡ writtenAt to out ns → (at′ : ℕ) → at′ ≡ lineEnd input at → Asking input out₀ T at′ (to + lineLength) out′
-    asked-on out′ f at′ g =
-        let n : to + lineLength ≡ to + length (lineText ns) = omega (arith, line-length ns) in
-        rw (g, f, line-written out to ns (line-range T (k .sound) (readAt input at)) answer-fits, n)
-        (record { sound = k .sound; prints = prints-more out₀ (asked input) to out (lineText ns) rest prints-answer })
+    asked-on out′ f at′ g = rw g (record {
+      sound = k .sound;
+      prints = line-more out₀ (asked input) to out ns (line-length ns) rest prints-answer (line-range T (k .sound) (readAt input at)) out′ f;
+    })
 
 -- ---------------------------------------------------------------- by what table reading gives
 module _ (input out : List ℕ) (o : Opening) (e : o ≡ opened (readTable input)) where

@@ -1,14 +1,16 @@
 //! Counts what made-up inputs reach: answers, waits, reasons, corners, locks,
-//! ticks left.
+//! ticks left; and what made-up questions reach.
 
 mod left;
 mod locks;
 mod messages;
+mod questions;
 mod queuing;
 mod releases;
 
 pub use left::{ASKED, MODES};
 pub use locks::{LOCKED, LOCKS};
+pub use questions::{QuestionCoverage, PLACES, REFUSED, WAITED};
 pub use releases::{RELEASES, STARTS};
 
 use crate::calls::WAITING;

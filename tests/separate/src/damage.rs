@@ -42,7 +42,8 @@ pub const BAD_FIELDS: [(&str, &[u8; COLUMNS]); 32] = [
 /// A change of a good line's bytes after which it is no good line.
 pub type LineDamage = fn(&mut Rng, &mut Vec<u8>);
 
-/// Damages of the line as a whole. Each leaves whole lines, LF included.
+/// Damages of the line as a whole. Each leaves whole lines, LF included; only
+/// the last makes two lines of one.
 pub const LINE_DAMAGES: [(&str, LineDamage); 14] = [
     ("a bad field", |rng, line| {
         let (_, field) = rng.pick(&BAD_FIELDS);
@@ -97,6 +98,9 @@ pub const LINE_DAMAGES: [(&str, LineDamage); 14] = [
         line[rng.below(LENGTH - 1)] = b'\n'
     }),
 ];
+
+/// The damages after which a line is still one line.
+pub const ONE_LINE_DAMAGES: &[(&str, LineDamage)] = LINE_DAMAGES.split_at(LINE_DAMAGES.len() - 1).0;
 
 /// Puts ten columns into a field of a line.
 pub fn put_field(line: &mut [u8], field: usize, columns: &[u8; COLUMNS]) {

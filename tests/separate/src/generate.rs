@@ -1,5 +1,6 @@
-//! Made-up inputs for the replay program, fixed by a seed.
+//! Made-up inputs for the replay program and for `waits`, fixed by a seed.
 
+use crate::asking::Questions;
 use crate::damage::LINE_DAMAGES;
 use crate::events::Events;
 use crate::line;
@@ -20,6 +21,7 @@ pub enum Kind {
     Queuing,
     Ticks,
     Damaged,
+    Questions,
 }
 
 impl Kind {
@@ -35,6 +37,7 @@ impl Kind {
             "queuing" => Some(Kind::Queuing),
             "ticks" => Some(Kind::Ticks),
             "damaged" => Some(Kind::Damaged),
+            "questions" => Some(Kind::Questions),
             _ => None,
         }
     }
@@ -53,6 +56,7 @@ pub fn generate(seed: u64, kind: Kind, count: u64, out: &mut impl Write) -> io::
         Kind::Queuing => print_queuing(seed, count, out),
         Kind::Ticks => print_ticks(seed, count, out),
         Kind::Damaged => print_damaged(seed, count, out),
+        Kind::Questions => print_questions(seed, count, out),
     }
 }
 
@@ -138,4 +142,13 @@ fn print_damaged(seed: u64, count: u64, out: &mut impl Write) -> io::Result<()> 
         out.write_all(&bytes[..kept])?;
     }
     Ok(())
+}
+
+/// Questions for waiting times with damaged lines in between; the last line may
+/// lack its LF.
+fn print_questions(seed: u64, count: u64, out: &mut impl Write) -> io::Result<()> {
+    let (numbers, mut questions) = Questions::with_table(seed);
+    print_table(&numbers, out)?;
+    let mut lines = questions.lines(count);
+    lines.try_for_each(|bytes| out.write_all(&bytes))
 }

@@ -1,12 +1,13 @@
 //! The partition executive of document 01, with the buffers and blackboards of
 //! document 02, a), the queuing channels of b), the releases inside a frame of
-//! d), the preemption lock of e) and the ticks left in the window of f), written
-//! from these papers alone.
+//! d), the preemption lock of e), the ticks left in the window of f) and the
+//! exact waiting time of g), written from these papers alone.
 //!
 //! It serves as a judge: another program that claims to be the same machine
-//! can be run beside it on the same input, answer by answer (`replay`) and
-//! record by record (`dump`).
+//! can be run beside it on the same input, answer by answer (`replay`, `waits`)
+//! and record by record (`dump`).
 
+pub mod asking;
 pub mod calls;
 pub mod coverage;
 pub mod damage;

@@ -1,6 +1,7 @@
-//! The replay program: table, then event lines, one answer line per event.
+//! The lines of an input, and the replay program: table, then event lines, one
+//! answer line per event.
 
-use crate::line::{self, Line};
+use crate::line::{self, Line, Six};
 use crate::machine::Event;
 use crate::record::Module;
 use crate::table::{self, Refusal};
@@ -107,7 +108,7 @@ impl<W: Write> Block<W> {
     }
 
     /// Adds a line. Every answer is within a line's range.
-    fn put(&mut self, six: &line::Six) -> io::Result<()> {
+    fn put(&mut self, six: &Six) -> io::Result<()> {
         if self.bytes.len() - self.at < line::LENGTH {
             self.flush()?;
         }
@@ -132,30 +133,44 @@ pub fn read_table<R: Read>(lines: &mut Lines<R>) -> Result<Module, Refusal> {
 
 /// The replay program from an input to an output.
 pub fn replay(input: impl Read, output: impl Write) -> io::Result<()> {
+    answer_lines(input, output, |module, line| match line {
+        Line::Six(six) => module.step(&Event::from_six(six)).six(),
+        Line::Bad => module.bad_line().six(),
+    })
+}
+
+/// A program from an input to an output: table, then one answer line per line.
+/// A bad table prints one line and ends.
+pub fn answer_lines(
+    input: impl Read,
+    output: impl Write,
+    answer: impl Fn(&mut Module, Line) -> Six,
+) -> io::Result<()> {
     let mut lines = Lines::new(input);
     let mut block = Block::new(output);
     match read_table(&mut lines) {
-        Ok(module) => answer_events(module, &mut lines, &mut block)?,
+        Ok(mut module) => {
+            print_answers(&mut lines, &mut block, |line| answer(&mut module, line))?;
+        }
         Err(refusal) => block.put(&refusal.numbers())?,
     }
     block.flush()
 }
 
-fn answer_events<R: Read, W: Write>(
-    mut module: Module,
+/// Whatever is answered goes out before more input is waited for.
+fn print_answers<R: Read, W: Write>(
     lines: &mut Lines<R>,
     block: &mut Block<W>,
+    mut answer: impl FnMut(Line) -> Six,
 ) -> io::Result<()> {
     loop {
         if lines.needs_input() {
             block.flush()?;
         }
-        let answer = match lines.next_line() {
-            Some(Line::Six(six)) => module.step(&Event::from_six(six)),
-            Some(Line::Bad) => module.bad_line(),
+        match lines.next_line() {
+            Some(line) => block.put(&answer(line))?,
             None => return Ok(()),
-        };
-        block.put(&answer.six())?;
+        }
     }
 }
 

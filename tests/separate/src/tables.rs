@@ -4,7 +4,8 @@
 use crate::line::{self, Line, Six};
 use crate::record::Module;
 use crate::rng::Rng;
-use crate::table::{self, MOST_CHANNELS, MOST_FRAME, MOST_REFRESH, MOST_WINDOWS, SIZES};
+use crate::table::{self, MOST_CHANNELS, MOST_FRAME, MOST_PARTITIONS, MOST_REFRESH};
+use crate::table::{MOST_WINDOWS, SIZES};
 
 /// The numbers of an accepted table, line by line.
 pub fn accepted(rng: &mut Rng) -> Vec<Six> {
@@ -21,10 +22,7 @@ pub fn accepted(rng: &mut Rng) -> Vec<Six> {
         1 => 0,
         _ => rng.pick(&[0, 1, 2, 3, 4, 6, 8, 12, MOST_CHANNELS]),
     };
-    let mut lines = vec![[frame, partitions, windows, channels, 0, 0]];
-    lines.extend(window_lines(rng, frame, partitions, windows));
-    lines.extend(channel_lines(rng, frame, partitions, channels));
-    lines
+    table_lines(rng, frame, partitions, windows, channels)
 }
 
 /// An accepted table without channels in which partitions have several
@@ -55,12 +53,47 @@ pub fn windows_and_gaps(rng: &mut Rng) -> Vec<Six> {
         _ => rng.range(2, 4),
     };
     let mut lines = few_partitions(rng, partitions, windows, 0);
+    fill_up(rng, &mut lines);
+    lines
+}
+
+/// An accepted table in which partitions have one window each, or several in
+/// the mean, in short and long major frames; in some there is one window alone,
+/// in some M is 1 or 10,000, in some there are channels.
+pub fn near_and_far_starts(rng: &mut Rng) -> Vec<Six> {
+    let (partitions, windows) = match rng.below(20) {
+        0 => return table_lines(rng, 1, 1, 1, 0),
+        1..=2 => (1, 1),
+        _ => (
+            rng.pick(&[1, 1, 2, 2, 2, 3, 4, MOST_PARTITIONS]),
+            rng.pick(&[1, 2, 2, 3, 4]),
+        ),
+    };
+    let windows = partitions * windows;
+    let frame = match rng.below(8) {
+        0 => windows,
+        1 => MOST_FRAME,
+        2 => rng.range(windows, MOST_FRAME),
+        // A frame starts at 99,999,999.
+        3 => rng.pick(&[33, 73, 99, 101]),
+        _ => windows + rng.range(0, 20),
+    };
+    let channels = match partitions {
+        1 => 0,
+        _ => rng.pick(&[0, 0, 0, 1, 3]),
+    };
+    let mut lines = table_lines(rng, frame, partitions, windows, channels);
+    fill_up(rng, &mut lines);
+    lines
+}
+
+/// Lets the last window end with the frame, in some tables.
+fn fill_up(rng: &mut Rng, lines: &mut [Six]) {
+    let [frame, _, windows, ..] = lines[0];
     if rng.percent(40) {
-        let frame = lines[0][0];
-        let last = lines.last_mut().expect("a window");
+        let last = &mut lines[windows as usize];
         last[1] = frame - last[0];
     }
-    lines
 }
 
 /// Partitions with so many windows each in the mean, a short major frame, and
@@ -68,6 +101,17 @@ pub fn windows_and_gaps(rng: &mut Rng) -> Vec<Six> {
 fn few_partitions(rng: &mut Rng, partitions: i64, windows: i64, channels: i64) -> Vec<Six> {
     let windows = partitions * windows;
     let frame = windows + rng.range(0, 20);
+    table_lines(rng, frame, partitions, windows, channels)
+}
+
+/// The lines of a table with these numbers in line 1.
+fn table_lines(
+    rng: &mut Rng,
+    frame: i64,
+    partitions: i64,
+    windows: i64,
+    channels: i64,
+) -> Vec<Six> {
     let mut lines = vec![[frame, partitions, windows, channels, 0, 0]];
     lines.extend(window_lines(rng, frame, partitions, windows));
     lines.extend(channel_lines(rng, frame, partitions, channels));

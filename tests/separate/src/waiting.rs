@@ -1,6 +1,7 @@
-//! Waiting time, asked outside events.
+//! The waiting time, asked outside events: exactly the least number (document
+//! 02, g).
 
-use crate::record::{Id, Module, LAST_TIME};
+use crate::record::{Id, Module, Window, LAST_TIME};
 
 /// Code 0 with n in 1..M, or 13 with n 0.
 #[derive(Clone, Copy, Debug, PartialEq, Eq)]
@@ -9,37 +10,35 @@ pub struct Waiting {
     pub n: i64,
 }
 
+impl Waiting {
+    /// t or partition out of range.
+    pub const REFUSED: Waiting = Waiting { code: 13, n: 0 };
+}
+
 impl Module {
-    /// The least n in 1..M such that a window of the partition starts at
-    /// (t + n) mod M.
+    /// The least n in 1..M such that a window of the partition, whatever its
+    /// flag, starts at (t + n) mod M.
     pub fn waiting_time(&self, t: i64, partition: i64) -> Waiting {
-        let refused = Waiting { code: 13, n: 0 };
         if !self.may_ask(t, partition) {
-            return refused;
+            return Waiting::REFUSED;
         }
-        let place = t % self.frame;
-        let least = self
+        let n = self
             .windows
             .iter()
             .filter(|window| window.partition == partition as Id)
-            .map(|window| (window.start - place - 1).rem_euclid(self.frame) + 1)
-            .min();
-        least.map_or(refused, |n| Waiting { code: 0, n })
-    }
-
-    /// Whether an answer to the same question is allowed; which start is free.
-    pub fn waiting_time_ok(&self, t: i64, partition: i64, answer: Waiting) -> bool {
-        if !self.may_ask(t, partition) {
-            return answer == Waiting { code: 13, n: 0 };
-        }
-        answer.code == 0
-            && (1..=self.frame).contains(&answer.n)
-            && self.windows.iter().any(|window| {
-                window.partition == partition as Id && window.start == (t + answer.n) % self.frame
-            })
+            .map(|window| self.ticks_until_start(t, window))
+            .min()
+            .expect("every partition has a window with flag 1");
+        Waiting { code: 0, n }
     }
 
     fn may_ask(&self, t: i64, partition: i64) -> bool {
         (0..=LAST_TIME).contains(&t) && (1..=self.partitions.len() as i64).contains(&partition)
+    }
+
+    /// The ticks from t until the window starts, in 1..M: a start at t itself
+    /// does not count.
+    pub(crate) fn ticks_until_start(&self, t: i64, window: &Window) -> i64 {
+        (window.start - t % self.frame - 1).rem_euclid(self.frame) + 1
     }
 }

@@ -3,7 +3,7 @@
 use separate::calls::WAITING;
 use separate::coverage::WAITS;
 use separate::coverage::{Coverage, CHANGES, CORNERS, REASONS, RELEASES, SHAPES, STARTS, TABLES};
-use separate::coverage::{ASKED, LOCKED, LOCKS, MODES};
+use separate::coverage::{QuestionCoverage, ASKED, LOCKED, LOCKS, MODES, PLACES, REFUSED, WAITED};
 use separate::generate::{generate, Kind};
 use separate::line::{self, Line};
 use separate::replay::{final_record, read_table, replay, Lines};
@@ -200,6 +200,47 @@ fn a_run_of_nothing_names_everything_that_asking_gets_as_missing() {
 }
 
 #[test]
+fn every_sort_of_question_is_reached_wherever_t_can_lie() {
+    let mut coverage = QuestionCoverage::of_seeds(3601, 3640, 300);
+    assert_eq!(coverage.questions, 40 * 300);
+    assert_eq!(coverage.unforeseen(), []);
+    // Several times each.
+    let counts = coverage.waited.iter_mut().flatten();
+    for count in counts.chain(&mut coverage.refused) {
+        *count = count.saturating_sub(3);
+    }
+    assert_eq!(coverage.missing(), []);
+}
+
+#[test]
+fn a_run_of_nothing_names_every_sort_of_question_as_missing() {
+    let missing = QuestionCoverage::new().missing();
+    // n is M, and M is 1, only at a start of its own; only there and inside a
+    // window of its own the next one can follow it, in three ways.
+    let impossible = 4 + 4 + 3 * 3;
+    let sorts = WAITED.len() * PLACES.len() + REFUSED.len();
+    assert_eq!(missing.len(), sorts - impossible);
+    assert!(missing.contains(&("at a start of its own", "n = M, M above 1")));
+    assert!(missing.contains(&("in a gap", "n = 1, M above 1")));
+    assert!(!missing.contains(&("in a gap", "n = M, M above 1")));
+    assert!(missing.contains(&("refused", "11, the last line without LF")));
+}
+
+#[test]
+fn questions_are_an_accepted_table_and_count_lines_most_of_them_good() {
+    let mut good = 0;
+    for seed in 0..100 {
+        let bytes = input(seed, Kind::Questions, 100);
+        let mut lines = Lines::new(bytes.as_slice());
+        read_table(&mut lines).expect("an accepted table");
+        let lines: Vec<Line> = std::iter::from_fn(|| lines.next_line()).collect();
+        assert_eq!(lines.len(), 100, "seed {seed}");
+        good += lines.iter().filter(|&&line| line != Line::Bad).count();
+    }
+    assert!((9_000..10_000).contains(&good), "{good}");
+}
+
+#[test]
 fn one_seed_gives_one_input() {
     for kind in [
         Kind::Table,
@@ -212,6 +253,7 @@ fn one_seed_gives_one_input() {
         Kind::Queuing,
         Kind::Ticks,
         Kind::Damaged,
+        Kind::Questions,
     ] {
         assert_eq!(input(5, kind, 200), input(5, kind, 200));
         assert_ne!(input(5, kind, 200), input(6, kind, 200));

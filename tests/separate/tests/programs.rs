@@ -2,13 +2,14 @@
 
 mod common;
 
-use common::{text, ONE, TWO};
+use common::{plain_lines, text, Pieces, ONE, TWO};
 use separate::generate::{generate, Kind};
 use separate::replay::replay;
-use std::io::{self, BufRead, BufReader, Read, Write};
+use std::io::{BufRead, BufReader, Write};
 use std::process::{Child, Command, Output, Stdio};
 
 const REPLAY: &str = env!("CARGO_BIN_EXE_replay");
+const WAITS: &str = env!("CARGO_BIN_EXE_waits");
 const DUMP: &str = env!("CARGO_BIN_EXE_dump");
 const GENERATE: &str = env!("CARGO_BIN_EXE_generate");
 const COVERAGE: &str = env!("CARGO_BIN_EXE_coverage");
@@ -34,12 +35,20 @@ fn run(program: &str, arguments: &[&str], input: &[u8]) -> Output {
     output
 }
 
-/// What `replay` prints; it ends with status 0 and writes nothing else.
-fn replayed(input: &[u8]) -> String {
-    let output = run(REPLAY, &[], input);
+/// What a program prints that ends with status 0 and writes nothing else.
+fn printed(program: &str, input: &[u8]) -> String {
+    let output = run(program, &[], input);
     assert!(output.status.success());
     assert_eq!(output.stderr, b"");
     String::from_utf8(output.stdout).expect("ASCII")
+}
+
+fn replayed(input: &[u8]) -> String {
+    printed(REPLAY, input)
+}
+
+fn waited(input: &[u8]) -> String {
+    printed(WAITS, input)
 }
 
 fn lines(six: &[[i64; 6]]) -> String {
@@ -76,25 +85,25 @@ fn the_worked_example_byte_by_byte() {
 #[test]
 fn a_table_alone_prints_nothing() {
     assert_eq!(replayed(&text(&TWO)), "");
+    assert_eq!(waited(&text(&TWO)), "");
 }
 
 #[test]
 fn a_bad_table_prints_one_line_and_ends_with_status_0() {
-    let mut table = TWO;
-    table[2][0] = 5;
-    let events = text(&[[0; 6]; 3]);
-    assert_eq!(
-        replayed(&with_table(&table, &events)),
-        lines(&[[12, 3, 0, 0, 0, 0]])
-    );
-    assert_eq!(replayed(b""), lines(&[[11, 1, 0, 0, 0, 0]]));
-    assert_eq!(replayed(&text(&TWO)[..122]), lines(&[[11, 3, 0, 0, 0, 0]]));
-    table = TWO;
-    table[1][3] = 0;
-    assert_eq!(
-        replayed(&with_table(&table, &events)),
-        lines(&[[12, 0, 0, 0, 0, 0]])
-    );
+    let mut overlapping = TWO;
+    overlapping[2][0] = 5;
+    let mut unflagged = TWO;
+    unflagged[1][3] = 0;
+    let more = text(&[[0; 6]; 3]);
+    for (input, refusal) in [
+        (with_table(&overlapping, &more), [12, 3, 0, 0, 0, 0]),
+        (Vec::new(), [11, 1, 0, 0, 0, 0]),
+        (text(&TWO)[..122].to_vec(), [11, 3, 0, 0, 0, 0]),
+        (with_table(&unflagged, &more), [12, 0, 0, 0, 0, 0]),
+    ] {
+        assert_eq!(replayed(&input), lines(&[refusal]));
+        assert_eq!(waited(&input), lines(&[refusal]));
+    }
 }
 
 #[test]
@@ -158,22 +167,6 @@ fn lines_of_any_length_are_one_line() {
     }
 }
 
-/// Gives its bytes in small pieces.
-struct Pieces<'a> {
-    bytes: &'a [u8],
-    size: usize,
-}
-
-impl Read for Pieces<'_> {
-    fn read(&mut self, buffer: &mut [u8]) -> io::Result<usize> {
-        let count = self.size.min(self.bytes.len()).min(buffer.len());
-        let (now, later) = self.bytes.split_at(count);
-        buffer[..count].copy_from_slice(now);
-        self.bytes = later;
-        Ok(count)
-    }
-}
-
 #[test]
 fn the_answers_do_not_depend_on_how_the_input_arrives() {
     for seed in 0..20 {
@@ -196,20 +189,6 @@ fn the_answers_do_not_depend_on_how_the_input_arrives() {
     }
 }
 
-/// The lines of an input as the paper has them, found the plain way.
-fn plain_lines(mut input: &[u8]) -> Vec<separate::line::Line> {
-    let mut lines = Vec::new();
-    while !input.is_empty() {
-        let end = input
-            .iter()
-            .position(|&byte| byte == b'\n')
-            .map_or(input.len(), |at| at + 1);
-        lines.push(separate::line::read(&input[..end]));
-        input = &input[end..];
-    }
-    lines
-}
-
 #[test]
 fn the_input_splits_into_lines_at_each_lf() {
     for seed in 0..50 {
@@ -224,37 +203,95 @@ fn the_input_splits_into_lines_at_each_lf() {
     }
 }
 
-#[test]
-fn answers_come_while_the_input_is_still_open() {
-    let mut child = start(REPLAY, &[]);
+/// Gives a table and a line, then a bad line, and takes each answer at once.
+fn answers_while_open(program: &str, line: [i64; 6], answers: [[i64; 6]; 2]) {
+    let mut child = start(program, &[]);
     let mut stdin = child.stdin.take().expect("a pipe");
     let mut stdout = BufReader::new(child.stdout.take().expect("a pipe"));
-    stdin
-        .write_all(&with_table(&ONE, &text(&[[0; 6]])))
-        .expect("open");
-    let mut answer = String::new();
-    stdout.read_line(&mut answer).expect("an answer");
-    assert_eq!(answer, lines(&[[0, 0, 0, 1, 1, 0]]));
-    stdin.write_all(b"bad\n").expect("open");
-    answer.clear();
-    stdout.read_line(&mut answer).expect("an answer");
-    assert_eq!(answer, lines(&[[11, 0, 0, 1, 1, 0]]));
+    let inputs = [with_table(&ONE, &text(&[line])), b"bad\n".to_vec()];
+    for (input, expected) in inputs.iter().zip(answers) {
+        stdin.write_all(input).expect("open");
+        let mut answer = String::new();
+        stdout.read_line(&mut answer).expect("an answer");
+        assert_eq!(answer, lines(&[expected]));
+    }
     drop(stdin);
     assert!(child.wait().expect("the program ends").success());
 }
 
 #[test]
+fn answers_come_while_the_input_is_still_open() {
+    let replayed = [[0, 0, 0, 1, 1, 0], [11, 0, 0, 1, 1, 0]];
+    answers_while_open(REPLAY, [0; 6], replayed);
+    let waited = [[0, 6, 0, 0, 0, 0], [11, 0, 0, 0, 0, 0]];
+    answers_while_open(WAITS, [4, 1, 0, 0, 0, 0], waited);
+}
+
+#[test]
 fn a_closed_pipe_ends_the_program_quietly() {
-    let mut child = start(REPLAY, &[]);
-    drop(child.stdout.take());
-    let mut stdin = child.stdin.take().expect("a pipe");
-    let ticks = text(&[[0; 6]; 5000]);
-    // The program stops reading at some point, so the write may fail.
-    let _ = stdin.write_all(&with_table(&ONE, &ticks));
-    drop(stdin);
-    let output = child.wait_with_output().expect("the program ends");
-    assert!(output.status.success());
-    assert_eq!(output.stderr, b"");
+    for program in [REPLAY, WAITS] {
+        let mut child = start(program, &[]);
+        drop(child.stdout.take());
+        let mut stdin = child.stdin.take().expect("a pipe");
+        let zeros = text(&[[0; 6]; 5000]);
+        // The program stops reading at some point, so the write may fail.
+        let _ = stdin.write_all(&with_table(&ONE, &zeros));
+        drop(stdin);
+        let output = child.wait_with_output().expect("the program ends");
+        assert!(output.status.success());
+        assert_eq!(output.stderr, b"");
+    }
+}
+
+#[test]
+fn waits_prints_one_line_for_each_question_byte_by_byte() {
+    let questions = [
+        [0, 1, 0, 0, 0, 0],
+        [3, 1, 0, 0, 0, 0],
+        [3, 2, 0, 0, 0, 0],
+        [99_999_999, 2, 0, 0, 0, 0],
+        [100_000_000, 2, 0, 0, 0, 0],
+        [3, 3, 0, 0, 0, 0],
+        [3, 2, 0, 0, 1, 0],
+    ];
+    let expected = "         0        10         0         0         0         0
+         0         7         0         0         0         0
+         0         3         0         0         0         0
+         0         7         0         0         0         0
+        13         0         0         0         0         0
+        13         0         0         0         0         0
+        13         0         0         0         0         0
+";
+    assert_eq!(waited(&with_table(&TWO, &text(&questions))), expected);
+}
+
+#[test]
+fn waits_answers_a_bad_line_by_one_11_and_reads_on() {
+    let question = lines(&[[4, 1, 0, 0, 0, 0]]);
+    let (given, bad) = ([0, 6, 0, 0, 0, 0], [11, 0, 0, 0, 0, 0]);
+    let short = format!("{question}short\n\n{question}{}", &question[..60]);
+    assert_eq!(
+        waited(&with_table(&ONE, short.as_bytes())),
+        lines(&[given, bad, bad, given, bad])
+    );
+    for length in [60, 61, 122, 65_536, 3_000_000] {
+        let long = " ".repeat(length);
+        let asked = format!("{long}\n{question}{long}");
+        assert_eq!(
+            waited(&with_table(&ONE, asked.as_bytes())),
+            lines(&[bad, given, bad]),
+            "{length}"
+        );
+    }
+}
+
+#[test]
+fn waits_answers_as_many_questions_as_there_are() {
+    let questions: Vec<[i64; 6]> = (0..50_000).map(|t| [t, 2, 0, 0, 0, 0]).collect();
+    let answers: Vec<[i64; 6]> = (0..50_000)
+        .map(|t| [0, [6, 5, 4, 3, 2, 1, 10, 9, 8, 7][t % 10], 0, 0, 0, 0])
+        .collect();
+    assert!(waited(&with_table(&TWO, &text(&questions))) == lines(&answers));
 }
 
 #[test]
@@ -280,6 +317,7 @@ fn generate_prints_what_the_library_makes() {
         ("damaged", Kind::Damaged),
         ("passing", Kind::Passing),
         ("queuing", Kind::Queuing),
+        ("questions", Kind::Questions),
     ] {
         let mut expected = Vec::new();
         generate(9, kind, 50, &mut expected).expect("a vector takes every byte");
@@ -325,4 +363,18 @@ fn coverage_names_what_was_not_reached() {
     assert!(printed.contains("  lock: ended by mode 2\n"));
     assert!(printed.contains("  call 34 GET_TICKS_LEFT code 9\n"));
     assert!(printed.contains("  WARM_START: then a gap\n"));
+}
+
+#[test]
+fn coverage_of_questions_names_what_was_not_reached() {
+    let output = run(COVERAGE, &["1", "1", "0", "questions"], b"");
+    let printed = String::from_utf8(output.stdout).expect("ASCII");
+    assert!(printed.starts_with("questions 0\n"));
+    assert!(printed.contains("  at a start of its own: n = M, M above 1\n"));
+    assert!(printed.contains("  in a gap: the start past 99,999,999\n"));
+    assert!(printed.contains("  refused: 13, partition 0\n"));
+    let output = run(COVERAGE, &["3601", "3640", "300", "questions"], b"");
+    let printed = String::from_utf8(output.stdout).expect("ASCII");
+    assert!(printed.contains("\nquestions: possible and not reached: 0\n"));
+    assert!(printed.contains("\nquestions: reached and not possible: 0\n"));
 }

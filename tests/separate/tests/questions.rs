@@ -1,71 +1,116 @@
-//! The judge of answers to questions for waiting times.
+//! Answers to lines with questions for waiting times.
 
 mod common;
 
-use common::{text, World, ONE, TWO};
-use separate::line;
-use separate::questions::{check, Counts};
+use common::{plain_lines, searched, text, Pieces, World, END, ONE, TWO};
+use separate::generate::{generate, Kind};
+use separate::line::Line;
+use separate::questions::{answer, waits};
+use separate::{Module, Six};
 
-fn judged(input: &[u8], answers: &[u8]) -> Result<Counts, String> {
-    check(input, answers)
+const REFUSED: Six = [13, 0, 0, 0, 0, 0];
+
+fn answered(input: &[u8]) -> Vec<u8> {
+    let mut answers = Vec::new();
+    waits(input, &mut answers).expect("a vector takes every byte");
+    answers
 }
 
-/// A table, questions for every partition around the frame's start, one with
-/// an unused number, one bad line; and the answers of this implementation.
-fn example() -> (Vec<u8>, Vec<u8>) {
-    let module = World::new(&TWO[..]).module;
-    let (mut input, mut answers) = (text(&TWO[..]), Vec::new());
-    for t in [-1, 0, 1, 9, 99_999_999, 100_000_000] {
-        for partition in -1..=3 {
-            let waiting = module.waiting_time(t, partition);
-            input.extend_from_slice(&line::text(&[t, partition, 0, 0, 0, 0]));
-            answers.extend_from_slice(&line::text(&[waiting.code, waiting.n, 0, 0, 0, 0]));
-        }
+#[test]
+fn six_numbers_of_which_the_last_four_are_0_get_the_waiting_time() {
+    let module = World::new(&TWO).module;
+    let ask = |t, partition| answer(&module, Line::Six([t, partition, 0, 0, 0, 0]));
+    assert_eq!(ask(0, 1), [0, 10, 0, 0, 0, 0]);
+    assert_eq!(ask(9, 1), [0, 1, 0, 0, 0, 0]);
+    assert_eq!(ask(0, 2), [0, 6, 0, 0, 0, 0]);
+    assert_eq!(ask(END, 2), [0, 7, 0, 0, 0, 0]);
+    for (t, partition) in [(-1, 1), (END + 1, 1), (0, -1), (0, 0), (0, 3)] {
+        assert_eq!(ask(t, partition), REFUSED);
     }
-    input.extend_from_slice(&line::text(&[0, 1, 0, 0, 0, 1]));
-    answers.extend_from_slice(&line::text(&[13, 0, 0, 0, 0, 0]));
-    input.extend_from_slice(b"cut off");
-    answers.extend_from_slice(&line::text(&[11, 0, 0, 0, 0, 0]));
-    (input, answers)
 }
 
 #[test]
-fn the_answers_of_this_implementation_are_allowed() {
-    let (input, answers) = example();
-    let counts = judged(&input, &answers).expect("allowed");
-    assert_eq!((counts.given, counts.refused, counts.bad), (8, 23, 1));
-}
-
-#[test]
-fn one_answer_changed_in_any_number_is_not_allowed() {
-    let (input, answers) = example();
-    for place in 0..answers.len() / line::LENGTH {
-        for field in 0..line::FIELDS {
-            let mut changed = answers.clone();
-            let last = place * line::LENGTH + (field + 1) * line::COLUMNS - 1;
-            changed[last] = if changed[last] == b'7' { b'8' } else { b'7' };
-            // Each partition has one window, so no other n is a start.
-            let allowed = judged(&input, &changed).is_ok();
-            assert!(!allowed, "line {} field {field}", place + 1);
+fn an_unused_number_that_is_not_0_gets_13_in_each_place() {
+    let module = World::new(&TWO).module;
+    for place in 2..6 {
+        for number in [1, -1, 999_999_999, i64::MIN, i64::MAX] {
+            for (t, partition) in [(0, 1), (END, 2), (-1, 1), (0, 3)] {
+                let mut six = [t, partition, 0, 0, 0, 0];
+                six[place] = number;
+                assert_eq!(answer(&module, Line::Six(six)), REFUSED);
+            }
         }
     }
 }
 
 #[test]
-fn too_few_and_too_many_answers_are_not_allowed() {
-    let (input, answers) = example();
-    assert!(judged(&input, &answers[..answers.len() - line::LENGTH]).is_err());
-    let more = [&answers[..], &line::text(&[11, 0, 0, 0, 0, 0])].concat();
-    assert!(judged(&input, &more).is_err());
+fn a_bad_line_gets_11() {
+    for module in [World::new(&ONE).module, Module::empty()] {
+        assert_eq!(answer(&module, Line::Bad), [11, 0, 0, 0, 0, 0]);
+    }
 }
 
 #[test]
-fn a_refused_table_has_one_line() {
-    let table = text(&ONE[..]);
-    let refused = line::text(&[11, 2, 0, 0, 0, 0]);
-    let head = &table[..line::LENGTH];
-    assert_eq!(judged(head, &refused), Ok(Counts::default()));
-    assert!(judged(head, &[]).is_err());
-    assert!(judged(head, &line::text(&[12, 2, 0, 0, 0, 0])).is_err());
-    assert!(judged(head, &[&refused[..], &refused[..]].concat()).is_err());
+fn the_empty_record_refuses_every_question() {
+    for six in [[0, 0, 0, 0, 0, 0], [0, 1, 0, 0, 0, 0], [0, 1, 1, 0, 0, 0]] {
+        assert_eq!(answer(&Module::empty(), Line::Six(six)), REFUSED);
+    }
+}
+
+/// The answer by the rules, with the least n found by a search.
+fn expected(module: &Module, line: Line) -> Six {
+    let Line::Six([t, partition, unused @ ..]) = line else {
+        return [11, 0, 0, 0, 0, 0];
+    };
+    let partitions = 1..=module.partitions().len() as i64;
+    if unused == [0; 4] && (0..=END).contains(&t) && partitions.contains(&partition) {
+        [0, searched(module, t, partition), 0, 0, 0, 0]
+    } else {
+        REFUSED
+    }
+}
+
+#[test]
+fn made_up_questions_get_one_line_each_with_the_least_n() {
+    for seed in 0..60 {
+        let mut input = Vec::new();
+        generate(seed, Kind::Questions, 200, &mut input).expect("a vector takes every byte");
+        let lines = plain_lines(&input);
+        let (table, questions) = lines.split_at(lines.len() - 200);
+        let mut table = table.iter().copied();
+        let module = separate::table::read(|| table.next()).expect("an accepted table");
+        assert_eq!(table.next(), None);
+        let answers: Vec<Six> = questions
+            .iter()
+            .map(|&line| expected(&module, line))
+            .collect();
+        assert!(answered(&input) == text(&answers), "seed {seed}");
+    }
+}
+
+#[test]
+fn the_answers_do_not_depend_on_how_the_input_arrives() {
+    for seed in 0..20 {
+        let mut input = Vec::new();
+        generate(seed, Kind::Questions, 100, &mut input).expect("a vector takes every byte");
+        let whole = answered(&input);
+        for size in [1, 7, 60, 61, 62, 1000] {
+            let bytes = input.as_slice();
+            let mut pieces = Vec::new();
+            waits(Pieces { bytes, size }, &mut pieces).expect("a vector takes it");
+            assert!(pieces == whole, "seed {seed} in pieces of {size}");
+        }
+    }
+}
+
+#[test]
+fn a_refused_table_prints_what_the_replay_prints() {
+    for seed in 0..400 {
+        let mut input = Vec::new();
+        generate(seed, Kind::Table, 0, &mut input).expect("a vector takes every byte");
+        let mut replayed = Vec::new();
+        separate::replay::replay(input.as_slice(), &mut replayed).expect("a vector takes it");
+        // An accepted table alone prints nothing.
+        assert_eq!(answered(&input), replayed, "seed {seed}");
+    }
 }

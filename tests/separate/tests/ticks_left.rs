@@ -2,25 +2,11 @@
 
 mod common;
 
-use common::{line, World, CHANNELS, ONE, TWO};
+use common::{every_table, line, World, CHANNELS, END, ONE, SHAPES, TWO};
 use separate::events::Events;
 use separate::record::Mode;
 use separate::rng::Rng;
 use separate::{tables, Event, Module, Six};
-
-/// Partition 1 has 2..5, 5..6 and 14..16, partition 2 has 6..9 and 11..14;
-/// nobody owns 0, 1, 9, 10 and 16 to 19.
-const SHAPES: [Six; 6] = [
-    [20, 2, 5, 0, 0, 0],
-    [2, 3, 1, 1, 0, 0],
-    [5, 1, 1, 0, 0, 0],
-    [6, 3, 2, 0, 0, 0],
-    [11, 3, 2, 1, 0, 0],
-    [14, 2, 1, 0, 0, 0],
-];
-
-/// The last time.
-const END: i64 = 99_999_999;
 
 fn module(table: &[Six]) -> Module {
     tables::module(table).expect("an accepted table")
@@ -69,33 +55,6 @@ fn check_laws(module: &Module, t: i64) {
     assert!(starts || !covered, "t {t} {module:?}");
     // After a gap a window starts.
     assert!(starts || partition != 0, "t {t} {module:?}");
-}
-
-/// Every list of windows from a tick on, of two partitions and both flags.
-fn add_windows(frame: i64, from: i64, windows: &mut Vec<Six>, take: &mut impl FnMut(&[Six])) {
-    take(windows);
-    for start in from..frame {
-        for end in start + 1..=frame {
-            for (partition, flag) in [(1, 0), (1, 1), (2, 0), (2, 1)] {
-                windows.push([start, end - start, partition, flag, 0, 0]);
-                add_windows(frame, end, windows, take);
-                windows.pop();
-            }
-        }
-    }
-}
-
-/// The module of every accepted table of one or two partitions with this M.
-fn every_table(frame: i64, mut take: impl FnMut(&Module)) {
-    add_windows(frame, 0, &mut Vec::new(), &mut |windows| {
-        for partitions in [1, 2] {
-            let head = [frame, partitions, windows.len() as i64, 0, 0, 0];
-            let table = [&[head][..], windows].concat();
-            if let Ok(module) = tables::module(&table) {
-                take(&module);
-            }
-        }
-    });
 }
 
 #[test]

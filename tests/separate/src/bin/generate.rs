@@ -21,7 +21,8 @@ fn main() -> ExitCode {
 
 fn usage() -> ExitCode {
     eprintln!(
-        "generate SEED table|events|releases|locks|left|busy|passing|queuing|ticks|damaged COUNT"
+        "generate SEED \
+         table|events|releases|locks|left|busy|passing|queuing|ticks|damaged|questions COUNT"
     );
     ExitCode::FAILURE
 }

@@ -1,8 +1,13 @@
 //! A module under test and short ways to drive it.
 #![allow(dead_code)]
 
+use separate::line::Line;
 use separate::record::{Message, Partition, Process};
 use separate::{tables, Event, Module, Six};
+use std::io::{self, Read};
+
+/// The last time.
+pub const END: i64 = 99_999_999;
 
 /// One partition that owns the whole major frame of 10 ticks.
 pub const ONE: [Six; 2] = [[10, 1, 1, 0, 0, 0], [0, 10, 1, 1, 0, 0]];
@@ -20,6 +25,17 @@ pub const CHANNELS: [Six; 7] = [
     [1, 2, 5, 0, 0, 0],
     [2, 1, 5, 0, 0, 0],
     [2, 3, 5, 0, 0, 0],
+];
+
+/// Partition 1 has 2..5, 5..6 and 14..16, partition 2 has 6..9 and 11..14;
+/// nobody owns 0, 1, 9, 10 and 16 to 19.
+pub const SHAPES: [Six; 6] = [
+    [20, 2, 5, 0, 0, 0],
+    [2, 3, 1, 1, 0, 0],
+    [5, 1, 1, 0, 0, 0],
+    [6, 3, 2, 0, 0, 0],
+    [11, 3, 2, 1, 0, 0],
+    [14, 2, 1, 0, 0, 0],
 ];
 
 pub struct World {
@@ -227,6 +243,78 @@ pub fn line(partition: i64, call: i64, fields: &[i64]) -> Six {
 /// The six-column text of some lines.
 pub fn text(lines: &[Six]) -> Vec<u8> {
     lines.iter().flat_map(separate::line::text).collect()
+}
+
+/// The lines of an input as the paper has them, found the plain way.
+pub fn plain_lines(mut input: &[u8]) -> Vec<Line> {
+    let mut lines = Vec::new();
+    while !input.is_empty() {
+        let end = input
+            .iter()
+            .position(|&byte| byte == b'\n')
+            .map_or(input.len(), |at| at + 1);
+        lines.push(separate::line::read(&input[..end]));
+        input = &input[end..];
+    }
+    lines
+}
+
+/// Gives its bytes in small pieces.
+pub struct Pieces<'a> {
+    pub bytes: &'a [u8],
+    pub size: usize,
+}
+
+impl Read for Pieces<'_> {
+    fn read(&mut self, buffer: &mut [u8]) -> io::Result<usize> {
+        let count = self.size.min(self.bytes.len()).min(buffer.len());
+        let (now, later) = self.bytes.split_at(count);
+        buffer[..count].copy_from_slice(now);
+        self.bytes = later;
+        Ok(count)
+    }
+}
+
+/// Every list of windows from a tick on, of two partitions and both flags.
+fn add_windows(frame: i64, from: i64, windows: &mut Vec<Six>, take: &mut impl FnMut(&[Six])) {
+    take(windows);
+    for start in from..frame {
+        for end in start + 1..=frame {
+            for (partition, flag) in [(1, 0), (1, 1), (2, 0), (2, 1)] {
+                windows.push([start, end - start, partition, flag, 0, 0]);
+                add_windows(frame, end, windows, take);
+                windows.pop();
+            }
+        }
+    }
+}
+
+/// The module of every accepted table of one or two partitions with this M.
+pub fn every_table(frame: i64, mut take: impl FnMut(&Module)) {
+    add_windows(frame, 0, &mut Vec::new(), &mut |windows| {
+        for partitions in [1, 2] {
+            let head = [frame, partitions, windows.len() as i64, 0, 0, 0];
+            let table = [&[head][..], windows].concat();
+            if let Ok(module) = tables::module(&table) {
+                take(&module);
+            }
+        }
+    });
+}
+
+/// The waiting time found by trying every n, one after the other, from 1 on.
+pub fn searched(module: &Module, t: i64, partition: i64) -> i64 {
+    let mut is_start = vec![false; module.frame() as usize];
+    for window in module.windows() {
+        if window.partition as i64 == partition {
+            is_start[window.start as usize] = true;
+        }
+    }
+    let mut n = 1;
+    while !is_start[((t + n) % module.frame()) as usize] {
+        n += 1;
+    }
+    n
 }
 
 /// Creation by a name alone: 4, then 1, then 3, then 5.

@@ -3,8 +3,10 @@
 use separate::coverage::ALLOWED;
 use separate::dump;
 use separate::line::{self, Line};
+use separate::questions::waits;
 use separate::replay::{final_record, replay};
 use std::fs;
+use std::io;
 use std::path::{Path, PathBuf};
 
 /// The inputs of a folder next to this package, by name.
@@ -26,13 +28,16 @@ fn contents(input: &Path, extension: &str) -> Vec<u8> {
     fs::read(&path).unwrap_or_else(|error| panic!("{}: {error}", path.display()))
 }
 
-/// Replays every input and compares with the output worked out by hand.
-fn check(folder: &str, least: usize) {
+/// A program from an input to an output.
+type Program = fn(&[u8], &mut Vec<u8>) -> io::Result<()>;
+
+/// Runs every input and compares with the output worked out by hand.
+fn check(folder: &str, least: usize, program: Program) {
     let inputs = inputs(folder);
     assert!(inputs.len() >= least, "{} cases in {folder}", inputs.len());
     for input in inputs {
         let mut answers = Vec::new();
-        replay(contents(&input, "in").as_slice(), &mut answers).expect("a vector takes it");
+        program(&contents(&input, "in"), &mut answers).expect("a vector takes it");
         let expected = contents(&input, "out");
         assert_eq!(
             String::from_utf8_lossy(&answers),
@@ -48,12 +53,17 @@ fn check(folder: &str, least: usize) {
 
 #[test]
 fn the_cases_give_the_answers_worked_out_by_hand() {
-    check("cases", 160);
+    check("cases", 160, |input, output| replay(input, output));
 }
 
 #[test]
 fn the_damaged_lines_and_tables_give_the_answers_worked_out_by_hand() {
-    check("damaged", 70);
+    check("damaged", 70, |input, output| replay(input, output));
+}
+
+#[test]
+fn the_questions_get_the_answers_worked_out_by_hand() {
+    check("questions", 20, |input, output| waits(input, output));
 }
 
 #[test]

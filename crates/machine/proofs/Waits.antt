@@ -1,11 +1,11 @@
 -- The waiting time is the least number that it may be, proved. Assumes nothing.
 use Prim.Native.Nat.{ℕ, zero, suc, _+_, _-_, _%_, _≤_, _<_}
-use mathlib.Core.Bool.{true, false, not, _&&_, or-true, true≢false}
-use mathlib.Core.List.{List, [], _∷_, map}
+use mathlib.Core.Bool.{true, false, _&&_, or-true, true≢false}
+use mathlib.Core.List.{List, [], _∷_}
 use mathlib.Core.Logic.{⊎-elim}
 use mathlib.Core.Path.{_≡_, refl, sym, ap, ap₂, _∙_}
 use native.Mathlib.Omega.{arith}
-use lib.Dec.{leb, ltb, eqb}
+use lib.Dec.{ltb, eqb}
 use lib.IntN.{ℤ, pos}
 use lib.ListN.{length, getD}
 use borrow.Author.Tests.{ltb-true, ltb-false, le-leb, eqb-true, eq-eqb}
@@ -15,13 +15,12 @@ use Rattle.machine.specs.declared.Lookup.{Lookup}
 use Rattle.machine.specs.declared.Table.{Table}
 use Rattle.machine.specs.declared.Waiting.{Waiting}
 use Rattle.machine.specs.declared.Window.{Window}
-use Rattle.machine.specs.Fields.{field, between}
 use Rattle.machine.specs.Limits.{timeLimit, greatestTime}
-use Rattle.machine.specs.Module.{emptyTable, emptyModule, current}
+use Rattle.machine.specs.Module.{current}
 use Rattle.machine.specs.Plain.{plainBetween}
 use Rattle.machine.specs.LeftRight.{after}
 use Rattle.machine.specs.Valid.{Between, SoundTable, SoundModule, Reached}
-use Rattle.machine.specs.Windows.{noWindow, windows, covers, ownedBy, startsFrom, nextStart, lookup, Uncovered, startsAt, waitingRefused, waitingOf, WaitingTime}
+use Rattle.machine.specs.Windows.{noWindow, windows, covers, ownedBy, startsFrom, nextStart, lookup, Uncovered, startsAt, waitingOf, WaitingTime}
 use Rattle.machine.specs.Waits.{waitingNow, WaitsExample, Waits}
 use Rattle.machine.specs.Examples as E
 use Rattle.machine.specs.Line as X
@@ -31,7 +30,7 @@ use Rattle.machine.specs.Windows as Wi
 use Rattle.machine.proofs.Account.{reached-after}
 use Rattle.machine.proofs.Either.{either}
 use Rattle.machine.proofs.Plain.{lossless}
-use Rattle.machine.proofs.Reached.{reached-valid}
+use Rattle.machine.proofs.Reached.{reached-valid, valid-sized, valid-sound}
 use Rattle.machine.proofs.Starts.{Passes, passes-test, owned-passes, each-window, next-bounds, next-starts, next-least, next-nearer}
 use Rattle.machine.proofs.Tests.{and-left, and-right, not-both}
 use Rattle.machine.proofs.TicksLeft.{after-table}
@@ -39,7 +38,7 @@ use Rattle.machine.proofs.WindowLeft.{Covered, UncoveredBy, covered-or-
 
 -- computed from the bytes of the table
 example : WaitsExample
-unfolding E.bytes E.text E.twoWindows X.inRange X.column X.markAfter X.columns X.numberText X.fieldText X.lineText X.sameBytes X.spelled X.candidate X.readField X.readNumbers X.readLine X.lines R.hasFlagged R.flaggedFrom R.tableFrom R.tableOf emptyTable emptyModule M.freshModule Wi.firstStart Wi.nextStart Wi.waitingOf
+unfolding E.bytes E.text E.twoWindows X.inRange X.column X.markAfter X.columns X.numberText X.fieldText X.lineText X.sameBytes X.spelled X.candidate X.readField X.readNumbers X.readLine X.lines R.hasFlagged R.flaggedFrom R.tableFrom R.tableOf M.emptyTable M.emptyModule M.freshModule Wi.firstStart Wi.nextStart Wi.waitingOf
 example = record { first = refl; second = refl }
 
 -- ---------------------------------------------------------------- the least number
@@ -105,22 +104,9 @@ unfolding waitingOf
 waiting-refused T few t k e = rw (lossless t .between 0 timeLimit (omega arith), lossless k .between 1 (T .size) few)
     (either (plainBetween 0 timeLimit t) (λ p. rw (p, rw p at e)) (λ p. rw p))
 
-empty-size : emptyModule .table .size ≡ 0
-unfolding emptyModule emptyTable
-empty-size = refl
-
 -- a reached record with a partition is sound
 sound-of : (m : Module) → Reached m → (k : ℕ) → Between 1 (m .table .size) k → SoundModule m
-sound-of m h k own = ⊎-elim
-    (λ (e : m ≡ emptyModule). absurd (omega (arith, own .0, own .1, ap (λ (v : Module). v .table .size) e, empty-size)))
-    (λ (s : SoundModule m). s)
-    (reached-valid m h)
-
-few-partitions : (m : Module) → Reached m → m .table .size ≤ greatestTime
-few-partitions m h = ⊎-elim
-    (λ (e : m ≡ emptyModule). omega (arith, ap (λ (v : Module). v .table .size) e, empty-size))
-    (λ (s : SoundModule m). omega (arith, s .table .size .1))
-    (reached-valid m h)
+sound-of m h k own = valid-sound m (reached-valid m h) (k - 1) (omega (arith, own .0, own .1))
 
 -- ---------------------------------------------------------------- over lists of events
 module _ (m : Module) (h : Reached m) (k : ℕ) (own : Between 1 (m .table .size) k) where
@@ -189,7 +175,7 @@ waits = record {
       let s = sound-of m h k own .table in
       rw (waiting-is (m .table) s t k low own) (refl, waiting-least (m .table) s k t own);
   one = one;
-  refused = λ m h. waiting-refused (m .table) (few-partitions m h);
+  refused = λ m h. waiting-refused (m .table) (omega (arith, valid-sized m (reached-valid m h) .size));
   steady = λ m es t k. ap (λ (T : Table). waitingOf T t k) (after-table m es);
   nearer = nearer;
   sleeps = sleeps;

@@ -42,10 +42,10 @@ pub record Waits : Type 0 where
   -- over every list of events, with n the waiting time before it: asked j ticks later, j < n, it is n − j
   pub nearer : (m : Module) → Reached m → (k : ℕ) → Between 1 (m .table .size) k → (es : List EventT) (j : ℕ) → let q = after m es in
       q .t ≡ m .t + j → j < waitingNow m k → waitingNow q k ≡ waitingNow m k - j
-  -- a partition that is not current is not before that
+  -- until then a partition that is not current does not become so
   pub sleeps : (m : Module) → Reached m → (k : ℕ) → Between 1 (m .table .size) k → (es : List EventT) (j : ℕ) → let q = after m es in
       (current m ≡ k → ⊥) → q .t ≡ m .t + j → j < waitingNow m k → current q ≡ k → ⊥
-  -- and n ticks later a window of it starts, and it is current
+  -- and n ticks later a window of the partition starts, and it is current
   pub comes : (m : Module) → Reached m → (k : ℕ) → Between 1 (m .table .size) k → (es : List EventT) → let q = after m es in
       q .t ≡ m .t + waitingNow m k → (startsAt k (q .t % m .table .frame) (windows (m .table)) ≡ true) × (current q ≡ k)
   pub example : WaitsExample

@@ -116,10 +116,10 @@ module _ (out₀ text : List ℕ) (to : ℕ) (out : List ℕ) where
 
   -- one more line
   module _ (line rest : List ℕ) (k : Printing out₀ text (line ++ rest) to out) where
-    pub text-fits : to + length line ≤ length out
+    text-fits : to + length line ≤ length out
     text-fits = omega (arith, ap length (k .front), length-append (take to out) (line ++ rest), length-append line rest, length-take-le to out (k .inside), k .room, k .size)
 
-    pub prints-more : Printing out₀ text rest (to + length line) (overAt to line out)
+    prints-more : Printing out₀ text rest (to + length line) (overAt to line out)
     prints-more = record {
       room = k .room;
       size = over-length out to line text-fits ∙ k .size;
@@ -179,7 +179,7 @@ module _ (out : List ℕ) (r : Printed) where
 
 -- by what table reading gives
 module _ (input out : List ℕ) (o : Opening) (e : o ≡ opened (readTable input)) where
-  pub same-code : readTable input .code ≡ o .code
+  same-code : readTable input .code ≡ o .code
   same-code = sym (ap (λ (x : Opening). x .code) e)
 
   -- a bad table's line

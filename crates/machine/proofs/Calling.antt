@@ -65,7 +65,7 @@ module _ (z : ℤ) where
       go Other e some = absurd (some refl)
 
 -- ---------------------------------------------------------------- a call that comes to its body
-empty-current : current emptyModule ≡ 0
+pub empty-current : current emptyModule ≡ 0
 unfolding lookup emptyModule emptyTable
 empty-current = refl
 

@@ -50,3 +50,5 @@ pub mod Families
 pub mod Channels
 pub mod Locks
 pub mod TicksLeft
+pub mod EachCall
+pub mod TableLines

@@ -33,7 +33,7 @@ use Rattle.machine.specs.Limits.{processLimit, semaphoreLimit, eventLimi
 use Rattle.machine.specs.Messages.{queueOf, endsWait}
 use Rattle.machine.specs.Fields.{field, requestOf, isNumber, between, isMinusOne, numberOf}
 use Rattle.machine.specs.Ids.{members, idsOf, kept, other, removed, follow}
-use Rattle.machine.specs.Process.{blankProcess, later, isNever, periodic, ready, object, onObject, carried, served, handed, ticked, entered}
+use Rattle.machine.specs.Process.{blankProcess, later, isNever, periodic, ready, object, onObject, carried, served, handed, due, onlyMarked, woken, expired, ticked, entered}
 use Rattle.machine.specs.Partition.{normalMode, byId, noSemaphore, noEvent, noBuffer, noBlackboard, process, buffer, emptyBuffer, movedIn, endedBy, withMode, withProcesses, stored, storedBuffer, arrivedLast, waiters, changedAll, each, tickPartition, enteredNormal, applied, noted}
 use Rattle.machine.specs.Decisions.{checked, unknown}
 use Rattle.machine.specs.Objects.{oneMore}
@@ -44,7 +44,7 @@ use Rattle.machine.specs.Ticks.{tickModule}
 use Rattle.machine.specs.Places.{malformed}
 use Rattle.machine.specs.Step.{contextOf, decision, moduleAfter, sees, step}
 use Rattle.machine.specs.Valid.{Between, contains, Tracks, NotAfter, latestWake, latestDeadline, Setting, LastingIn, SoundProcess, ListedIn, Valid, SoundContext, SoundTable, SoundModule, Reached, SoundEnd, SoundChange, SoundDecision, plainLater, plainTick, plainTickTo}
-use Rattle.machine.specs.Plain.{plainById, followed, idsFrom, changedFirst, plainStored, plainCreated, plainLast, countWith, plainSemaphore, plainEvent, plainBuffer, plainBlackboard, plainEnded, plainAll, plainApplied, EndInPlace, InPlace, plainRefilledAt, plainRefilledTo, plainTickPartition, plainTicked, plainAfter, AllInPlace, Uncapped, plainBetween, plainNumber, plainMinusOne, plainUnknown, Lossless, PlainReads, PlainNumbers, PlainTable, CapsSeen, NoBoundActs, EmptyStays}
+use Rattle.machine.specs.Plain.{plainById, followed, idsFrom, changedFirst, plainStored, plainCreated, plainLast, countWith, plainSemaphore, plainEvent, plainBuffer, plainBlackboard, plainEnded, come, atTick, plainEach, plainAll, plainApplied, EndInPlace, InPlace, plainRefilledAt, plainRefilledTo, plainTickPartition, plainTicked, plainAfter, AllInPlace, Uncapped, plainBetween, plainNumber, plainMinusOne, plainUnknown, Lossless, PlainReads, PlainNumbers, PlainTable, CapsSeen, NoBoundActs, EmptyStays}
 use Rattle.machine.proofs.Tests.{by-test, by-tests, and-left, or-left, or-right, not-both}
 use Rattle.machine.proofs.Fields.{in-limits}
 use Rattle.machine.proofs.Bounds.{within-in, outside-high, named-in, named-out, stored-in, created-in, semaphore-in, event-in, buffer-in, blackboard-in}
@@ -208,10 +208,23 @@ first-at (suc n) f (a ∷ l) d (suc i) h = first-at n f l d i (omega arith) ∙ 
         (λ e. let k = ltb-true i n e in rw (e, lt-ltb (suc i) (suc n) (omega arith)))
         (λ e. let k = ltb-false i n e in rw (e, le-ltb (suc i) (suc n) (omega arith)))
 
+-- one process: its wait, its mark, its deadline
+come-is : (t : ℕ) (a : Time) → come t a ≡ due t a
+come-is t Never = refl
+come-is t (At n) = refl
+
+pub tick-one : (t : ℕ) (x : Process) → ticked t x ≡ atTick t x
+unfolding woken expired
+tick-one t x = rw (come-is t (x .times .wake), come-is t (x .times .deadline)) (either (due t (x .times .wake))
+    (λ w. either (onlyMarked x)
+    (λ o. either (due t (x .times .deadline)) (λ d. rw (w, o, d)) (λ d. rw (w, o, d)))
+    (λ o. either (due t (x .times .deadline)) (λ d. rw (w, o, d)) (λ d. rw (w, o, d))))
+    (λ w. either (due t (x .times .deadline)) (λ d. rw (w, d)) (λ d. rw (w, d))))
+
 -- one partition: each process of it is stored plainly
 pub tick-partition-plain : (t frame now : ℕ) (p : Partition) → Valid frame now p → tickPartition t p ≡ plainTickPartition t p
 unfolding tickPartition
-tick-partition-plain t frame now p v = by-tests (λ (a b : Partition). a ≡ b) (normalMode p) (normalMode p) refl (λ _. each-plain (ticked t) p (v .lists)) (λ _. refl)
+tick-partition-plain t frame now p v = by-tests (λ (a b : Partition). a ≡ b) (normalMode p) (normalMode p) refl (λ _. each-plain (ticked t) p (v .lists) ∙ ap (λ (f : Process → Process). plainEach f p) (λ i x. tick-one t x i)) (λ _. refl)
 
 module _ (m : Module) (s : SoundModule m) where
   pub tick-plain : tickModule m ≡ plainTicked m

@@ -51,8 +51,8 @@ use Rattle.machine.specs.Module.{noPartition, channel, part, queue, with
 use Rattle.machine.specs.Ticks.{tickModule}
 use Rattle.machine.specs.Step.{contextOf, decision, moduleAfter, step}
 use Rattle.machine.specs.Valid.{Between, contains, Distinct, ListedIn, Valid, SoundEnd, SoundChange, SoundDecision, SoundModule, Reached, plainTick}
-use Rattle.machine.specs.Plain.{plainById, followed, plainStored}
-use Rattle.machine.specs.Starred.{own, callBy, WaitsFor, TimeOut, Calling, Gives, WaitEnded}
+use Rattle.machine.specs.Plain.{plainById, followed, waitOver, plainStored}
+use Rattle.machine.specs.Starred.{own, callBy, WaitsFor, TimeOut, Calling, Gives}
 use Rattle.machine.specs.Queues.{SameObjects, has, Queue, KeepsOrEnds, NotExchanged, QueueChanges, joining, QueueAfter, Queued, WouldWait, FirstServed, NoneServed, AllServed, Queues}
 use Rattle.machine.proofs.Tests.{by-test, not-both, or-left, or-right, and-left, and-right, Passed, passed-parts, by-checks}
 use Rattle.machine.proofs.Bounds.{same-or-not, not-so, within-in, within-out, named-same, named-other, semaphore-in, event-in, buffer-in, created-in, created-out}
@@ -729,14 +729,18 @@ time-out (negsuc (suc n)) h = not-both _ h (rw (ne-eqb (suc n) 0 (λ z. omega ar
 pub a-message : (b : ℕ) → b ≤ durationLimit → isMessage (Number b) ≡ true
 a-message b h = rw (from-zero b, le-leb b durationLimit h)
 
-pub ends-handed : (b : ℕ) (x : Process) → WaitEnded 0 x (handed b x)
-ends-handed b x = record { wake = refl; wait = refl; codeIs = refl; mark = refl; started = refl }
+-- an ended wait, as a record
+abbrev Ends : (Process → Process) → Type 0
+Ends f = (x : Process) → f x ≡ waitOver 0 (f x .message) x
 
-pub ended-is : (x : Process) → WaitEnded 0 x (served x)
-ended-is x = record { wake = refl; wait = refl; codeIs = refl; mark = refl; started = refl }
+pub ends-handed : (b : ℕ) → Ends (handed b)
+ends-handed b x = refl
+
+pub ended-is : Ends served
+ended-is x = refl
 
 -- an event after which partition k is q: the first of queue o served, in a record r that differs from that before the event in no process
-module _ (m : Module) (k o : ℕ) (some : o ≡ 0 → ⊥) (r : Partition) (v : ListedIn r) (same : (y : ℕ) → process y r ≡ process y (own m k)) (f : Process → Process) (ends : (x : Process) → WaitEnded 0 x (f x)) where
+module _ (m : Module) (k o : ℕ) (some : o ≡ 0 → ⊥) (r : Partition) (v : ListedIn r) (same : (y : ℕ) → process y r ≡ process y (own m k)) (f : Process → Process) (ends : Ends f) where
   module _ (id : ℕ) (rest : List ℕ) (e : waiters o r ≡ id ∷ rest) (event : EventT) (code : step m event .answer .code ≡ 0) where
     abbrev x : Process
     x = f (process id (own m k))
@@ -749,9 +753,8 @@ module _ (m : Module) (k o : ℕ) (some : o ≡ 0 → ⊥) (r : Partition) (v : 
         let b = first-created o some r v id rest e in
         record {
           code = code;
-          queue = rw after (same-queue o q (noted q) refl (λ _. refl) ∙ served-queue o some r v id rest e x (ap object (ends (process id (own m k)) .wait)));
+          queue = rw after (same-queue o q (noted q) refl (λ _. refl) ∙ served-queue o some r v id rest e x (ap (λ (y : Process). object (y .wait)) (ends (process id (own m k)))));
           ended = rw (after, process-stored r id x v b) (ends (process id (own m k)));
-          has = rw (after, process-stored r id x v b);
           others = λ y ne. rw after (process-other r id x y ne ∙ same y);
         }
 
@@ -807,7 +810,7 @@ module _ (m : Module) (k : ℕ) (u : SoundModule m) (h : Calling m k) where
   wait-event j a n b z t = queued-last 20 j a (pos 0) a (Event j) (omega arith) (omega arith) (λ e. omega arith) (p .eventCount) unchanged refl (rw (field-number j (omega (arith, b .1, valid .objects .events .numbered .few)), z)) b n t
 
   -- a call that stores q: the first of queue o served, in a record r that differs from the caller's in no process
-  pub first-served-by : (o : ℕ) (some : o ≡ 0 → ⊥) (r : Partition) → ListedIn r → ((y : ℕ) → process y r ≡ process y p) → (f : Process → Process) → ((x : Process) → WaitEnded 0 x (f x))
+  pub first-served-by : (o : ℕ) (some : o ≡ 0 → ⊥) (r : Partition) → ListedIn r → ((y : ℕ) → process y r ≡ process y p) → (f : Process → Process) → Ends f
       → (id : ℕ) (rest : List ℕ) → waiters o r ≡ id ∷ rest → (value : ℕ) (event : EventT) → Gives m event 0 value (At 0) (withPart (k - 1) (stored id (f (process id p)) r) m) → FirstServed m k event o id rest (f (process id p) .message)
   first-served-by o some r v same f ends id rest e value event g = served-in m k o some r v same f ends id rest e event (g .codeIs) (own-after m k u h (stored id (f (process id p)) r) g)
 
@@ -857,9 +860,9 @@ module _ (m : Module) (k : ℕ) (u : SoundModule m) (h : Calling m k) where
         )
 
   -- a call that ends all waits of queue o, each process changed by f, in a record r that differs from the caller's in no process and no list
-  module _ (o : ℕ) (some : o ≡ 0 → ⊥) (r : Partition) (v : ListedIn r) (queue : waiters o r ≡ waiters o p) (same : (y : ℕ) → process y r ≡ process y p) (arrived : r .arrival ≡ p .arrival) (f : Process → Process) (ends : (x : Process) → WaitEnded 0 x (f x)) where
+  module _ (o : ℕ) (some : o ≡ 0 → ⊥) (r : Partition) (v : ListedIn r) (queue : waiters o r ≡ waiters o p) (same : (y : ℕ) → process y r ≡ process y p) (arrived : r .arrival ≡ p .arrival) (f : Process → Process) (ends : Ends f) where
     off : (x : Process) → object (f x .wait) ≡ 0
-    off x = ap object (ends x .wait)
+    off x = ap (λ (y : Process). object (y .wait)) (ends x)
 
     abbrev done : Partition
     done = changedAll f (waiters o r) r
@@ -872,7 +875,6 @@ module _ (m : Module) (k : ℕ) (u : SoundModule m) (h : Calling m k) where
           code = gives .codeIs;
           queue = rw g (same-queue o done (noted done) refl (λ _. refl) ∙ ended-queue r v o some f off);
           ended = λ id c. rw (g, is id, c) (ends (process id p));
-          has = λ id c. rw (g, is id, c);
           others = λ id c. rw (g, is id, c);
           arrival = rw g (all-served f off o some r v ∙ rw (queue, arrived));
         }

@@ -262,6 +262,60 @@ module _ (k : ℕ) (m : Module) (s : SoundModule m) where
         (λ _. ih))
         (same-or-not i n)
 
+    -- each of the first is served, and no later channel reaches it
+    abbrev let-in : ℕ → Type 0
+    let-in y = contains y (take (c .size) (waiters senders (part m from))) ≡ true
+
+    turn-served : (y : ℕ) → let-in y → process y (part (refilledTo k (suc i) m) from) ≡ served (process y (part m from))
+    unfolding refilledTo
+    turn-served y is =
+        let u = refilledTo k i m in
+        let e = refilled-sound k i m s in
+        let T = refilled-table k i m in
+        let on : filled k (u .table) i ≡ true = ap (λ (U : Table). filled k U i) T ∙ rw (lt-ltb i (m .table .channelCount) (f .there), f .kind, eq-eqb (c .destination) k (f .into)) in
+        let to : channel (u .table) i ≡ c = ap (λ (U : Table). channel U i) T in
+        let size : u .table .size ≡ m .table .size = ap (λ (U : Table). U .size) T in
+        let p = part u from in
+        let v = e .eachPartition from (omega (arith, inside)) in
+        let w = unserved i (omega arith) in
+        let q = changedAll served (admitted i c p) p in
+        by-test (λ (x : Module). process y (part x from) ≡ served (process y (part m from))) (filled k (u .table) i)
+        (λ _. rw to (ap (process y) (getD-set-same (u .partitions) from (noted q) noPartition (omega (arith, inside, e .partitionsSize, s .table .size .1)))
+        ∙ changed-process served (admitted i c p) p (v .lists) (firsts-created (u .table .frame) (u .t) p v senders (c .size)) (firsts-distinct (u .table .frame) (u .t) p v senders (c .size)) y
+        ∙ rw (w .waits, is, w .each y (take-in (c .size) (waiters senders (part m from)) y is))))
+        (λ o. not-both _ on o)
+
+    pub refilled-served : (n : ℕ) → i < n → (y : ℕ) → let-in y → process y (part (refilledTo k n m) from) ≡ served (process y (part m from))
+    unfolding refilledTo
+    refilled-served zero h y in-first = absurd (omega arith)
+    refilled-served (suc n) h y in-first = ⊎-elim
+        (λ (is : i ≡ n). ap (λ j. process y (part (refilledTo k (suc j) m) from)) (sym is) ∙ turn-served y in-first)
+        (λ (ne : i ≡ n → ⊥).
+        let u = refilledTo k n m in
+        let e = refilled-sound k n m s in
+        let T = refilled-table k n m in
+        let size : u .table .size ≡ m .table .size = ap (λ (U : Table). U .size) T in
+        let ih = refilled-served n (omega (arith, ne)) y in-first in
+        let x = channel (u .table) n in
+        let j = x .source - 1 in
+        let p = part u j in
+        let o = object (Source (n + 1) 0) in
+        let q = changedAll served (admitted n x p) p in
+        by-test (λ (z : Module). process y (part z from) ≡ served (process y (part m from))) (filled k (u .table) n)
+        (λ t.
+        let b = e .table .eachChannel n (fills u e k n (u .table) refl t .there) .source in
+        let here : j < u .table .size = omega (arith, b .0, b .1) in
+        at-set (λ z r. z ≡ from → process y r ≡ served (process y (part m from))) (u .partitions) j (noted q) noPartition (omega (arith, here, e .partitionsSize, e .table .size .1)) from
+        (λ is.
+        let was : process y p ≡ served (process y (part m from)) = ap (λ z. process y (part u z)) is ∙ ih in
+        let off : contains y (take (x .size) (waiters o p)) ≡ false = either (contains y (take (x .size) (waiters o p)))
+        (λ d. absurd (let z = on-queue p o y (take-in (x .size) (waiters o p) y d) in let none : object (process y p .wait) ≡ 0 = ap (λ (a : Process). object (a .wait)) was in omega arith))
+        (λ d. d) in
+        let-in-process (u .table .frame) (u .t) p (e .eachPartition j here) o (x .size) y off ∙ was)
+        (λ _ _. ih) refl)
+        (λ _. ih))
+        (same-or-not i n)
+
     -- who waits to send then keeps its wait
     pub refilled-waits : (n y : ℕ) → object (process y (part (refilledTo k n m) from) .wait) ≡ senders → process y (part (refilledTo k n m) from) .wait ≡ process y (part m from) .wait
     refilled-waits n y = refilled-keeps (λ j p. j ≡ from → object (process y p .wait) ≡ senders → process y p .wait ≡ process y (part m from) .wait) k m s n

@@ -44,6 +44,7 @@ use Rattle.machine.specs.Places as Pl
 use Rattle.machine.specs.Step as St
 use Rattle.machine.specs.Starred.{own, callBy, tick, Gives, Calling, WaitEnded, ReadyUnmarked, Ticks, Mistakes, Starred}
 use Rattle.machine.specs.Valid.{Between, SoundModule, contains, plainTick}
+use Rattle.machine.specs.Plain.{letGo}
 use Rattle.machine.proofs.Tests.{by-test, and-left, and-right, not-both}
 use Rattle.machine.proofs.Bounds.{not-so, same-or-not}
 use Rattle.machine.proofs.Dispatch.{by-event, by-decision, ticks-decided}
@@ -52,7 +53,7 @@ use Rattle.machine.proofs.Refusals.{refused-same, places, call-in-range
 use Rattle.machine.proofs.Keeping.{each-process}
 use Rattle.machine.proofs.Kept.{waiters-exact, nothing-valid}
 use Rattle.machine.proofs.Lists.{held-queueOf}
-use Rattle.machine.proofs.Restarts.{refilled-messages, refilled-queue, refilled-queue-other, refilled-part-other}
+use Rattle.machine.proofs.Restarts.{refilled-messages, refilled-queue, refilled-queue-other, refilled-served, refilled-part-other}
 use Rattle.machine.proofs.Reached.{reached-valid, valid-sound, plain-part, tick-module-plain, part-sound, erased-sound, Fills, queuing-plain}
 use Rattle.machine.proofs.Queues.{signal-first, set-event}
 use Rattle.machine.proofs.Calling.{field-number, from-zero, number-is, number-of, calling-sound, calling-place, calling-valid, gives}
@@ -188,7 +189,7 @@ restart-keeps-queue m e i no-send no-receive d =
     passed-by x n y j a v e b = rw e at b
 
 -- ---------------------------------------------------------------- waits
-waits : (w : Wait) → (w ≡ None → ⊥) → waitsForNothing w ≡ false
+pub waits : (w : Wait) → (w ≡ None → ⊥) → waitsForNothing w ≡ false
 waits None h = absurd (h refl)
 waits Normal h = refl
 waits Delay h = refl
@@ -349,6 +350,10 @@ module _ (m : Module) (k : ℕ) (u : SoundModule m) (h : Calling m k) where
         let p = own m (c .source) in
         held (M.queue (St.step m e .state) i) ≡ map (λ id. carried (process id p)) (take (c .size) (waiters (object (Source (i + 1) 0)) p)))
         × ((i : ℕ) → (M.channel (m .table) i .destination ≡ k → ⊥) → M.queue (St.step m e .state) i ≡ M.queue m i)
+        × ((i id : ℕ) → i < m .table .channelCount → (M.channel (m .table) i .size ≡ 0 → ⊥) → M.channel (m .table) i .destination ≡ k
+        → let c = M.channel (m .table) i in
+        let p = own m (c .source) in
+        contains id (take (c .size) (waiters (object (Source (i + 1) 0)) p)) ≡ true → process id (own (St.step m e .state) (c .source)) ≡ letGo (process id p))
     restart-is =
         let g = restart-gives in
         let p = nothingCreated mode in
@@ -356,18 +361,23 @@ module _ (m : Module) (k : ℕ) (u : SoundModule m) (h : Calling m k) where
         let erased = Ch.erasedTo k channelLimit m in
         let q = M.withPart (k - 1) p erased in
         let w = part-sound erased (erased-sound k channelLimit m (omega arith) u) (k - 1) place p (nothing-valid (m .table .frame) (m .t) mode (omega arith)) in
-        let messages = refilled-messages k channelLimit q in (
+        let messages = refilled-messages k channelLimit q in
+        let fills : (i : ℕ) → i < m .table .channelCount → (M.channel (m .table) i .size ≡ 0 → ⊥) → M.channel (m .table) i .destination ≡ k → Fills q k i = λ i b full d. record { there = b; few = omega (arith, b, u .table .channelCount); kind = queuing-plain (m .table) (u .table) i b ∙ lt-ltb 0 (M.channel (m .table) i .size) (omega (arith, full)); into = d } in
+        let source : (i : ℕ) → i < m .table .channelCount → M.channel (m .table) i .destination ≡ k → M.part q (M.channel (m .table) i .source - 1) ≡ own m (M.channel (m .table) i .source) = λ i b d.
+        let c = u .table .eachChannel i b in
+        getD-set-other (m .partitions) (k - 1) (M.channel (m .table) i .source - 1) (noted p) M.noPartition (λ z. c .apart (omega (arith, c .source .0, c .destination .0, d))) in (
           g .codeIs,
           ap (λ (n : Module). own n k) (g .state) ∙ own-restarted mode (omega arith),
           λ i b d. ap (λ (n : Module). M.message n i .present) (g .state) ∙ ap (λ (l : List Message). getD l i D.noMessage .present) messages ∙ ap (λ (x : Message). x .present) (erased-own k channelLimit m i (omega (arith, u .table .channelCount)) (omega (arith, u .messagesSize)) d),
           λ i ne. ap (λ (n : Module). M.message n i) (g .state) ∙ ap (λ (l : List Message). getD l i D.noMessage) messages ∙ erased-other k channelLimit m i (ne-eqb _ k ne),
           λ i b full d.
-              let c = u .table .eachChannel i b in
-              let f : Fills q k i = record { there = b; few = omega (arith, b, u .table .channelCount); kind = queuing-plain (m .table) (u .table) i b ∙ lt-ltb 0 (M.channel (m .table) i .size) (omega (arith, full)); into = d } in
-              let from = M.channel (m .table) i .source - 1 in
-              let same : M.part q from ≡ M.part m from = getD-set-other (m .partitions) (k - 1) from (noted p) M.noPartition (λ z. c .apart (omega (arith, c .source .0, c .destination .0, d))) in
-              ap (λ (n : Module). held (M.queue n i)) (g .state) ∙ ap held (refilled-queue k q w i f channelLimit (f .few)) ∙ held-queueOf _ ∙ ap (λ (x : Partition). map (λ id. carried (process id x)) (take (M.channel (m .table) i .size) (waiters (object (Source (i + 1) 0)) x))) same,
+              let f = fills i b full d in
+              ap (λ (n : Module). held (M.queue n i)) (g .state) ∙ ap held (refilled-queue k q w i f channelLimit (f .few)) ∙ held-queueOf _ ∙ ap (λ (x : Partition). map (λ id. carried (process id x)) (take (M.channel (m .table) i .size) (waiters (object (Source (i + 1) 0)) x))) (source i b d),
           λ i ne. ap (λ (n : Module). M.queue n i) (g .state) ∙ refilled-queue-other k channelLimit q i (rw (ne-eqb _ k ne) (and-false (Ch.queuingAt (m .table) i))),
+          λ i id b full d first.
+              let f = fills i b full d in
+              let same = source i b d in
+              ap (λ (n : Module). process id (own n (M.channel (m .table) i .source))) (g .state) ∙ refilled-served k q w i f channelLimit (f .few) id (rw same first) ∙ ap (λ (x : Partition). letGo (process id x)) same,
         )
 
   -- ---------------------------------------------------------------- SIGNAL
@@ -390,19 +400,19 @@ module _ (m : Module) (k : ℕ) (u : SoundModule m) (h : Calling m k) where
 
     signal-ends : let a = callBy k 16 (pos j) (pos 0) (pos 0) (pos 0) in
         let y = process id (own (St.step m a .state) k) in
-        (St.step m a .answer .code ≡ 0) × WaitEnded 0 (process id (own m k)) y × ReadyUnmarked (process id (own m k)) y
-    signal-ends = let q = signal-first m k u h j b below id _ queue-is in (q .0 .code, q .0 .ended, λ s. suspended-not-ready (process id (own (St.step m (callBy k 16 (pos j) (pos 0) (pos 0) (pos 0)) .state) k)) (q .0 .ended .mark ∙ s))
+        (St.step m a .answer .code ≡ 0) × (y ≡ letGo (process id (own m k))) × ReadyUnmarked (process id (own m k)) y
+    signal-ends = let q = signal-first m k u h j b below id _ queue-is in (q .0 .code, q .0 .ended, λ s. suspended-not-ready (process id (own (St.step m (callBy k 16 (pos j) (pos 0) (pos 0) (pos 0)) .state) k)) (ap (λ (x : Process). x .suspended) (q .0 .ended) ∙ s))
 
   -- ---------------------------------------------------------------- SET_EVENT
   module _ (j id : ℕ) (b : Between 1 (own m k .eventCount) j) (w : process id (own m k) .wait ≡ Event j) where
     set-ends : let a = callBy k 18 (pos j) (pos 0) (pos 0) (pos 0) in
         let y = process id (own (St.step m a .state) k) in
-        (St.step m a .answer .code ≡ 0) × (event j (own (St.step m a .state) k) .up ≡ true) × WaitEnded 0 (process id (own m k)) y × ReadyUnmarked (process id (own m k)) y
+        (St.step m a .answer .code ≡ 0) × (event j (own (St.step m a .state) k) .up ≡ true) × (y ≡ letGo (process id (own m k))) × ReadyUnmarked (process id (own m k)) y
     set-ends =
         let q = set-event m k u h j b in
         let there : contains id (waiters (object (Event j)) (own m k)) ≡ true = waiters-exact (own m k) (calling-valid m k u h .lists) (object (Event j)) (λ z. omega arith) id ∙ rw w (eq-eqb (512 + j) (512 + j) refl) in
         let e = q .0 .ended id there in
-        (q .0 .code, q .1, e, λ s. suspended-not-ready (process id (own (St.step m (callBy k 18 (pos j) (pos 0) (pos 0) (pos 0)) .state) k)) (e .mark ∙ s))
+        (q .0 .code, q .1, e, λ s. suspended-not-ready (process id (own (St.step m (callBy k 18 (pos j) (pos 0) (pos 0) (pos 0)) .state) k)) (ap (λ (x : Process). x .suspended) e ∙ s))
 
 pub mistakes : Mistakes
 mistakes = record {
@@ -419,4 +429,4 @@ mistakes = record {
 
 -- every starred case, and every mistake to shut out
 pub starred : Starred
-starred = record { worked = worked; corners = corners; mistakes = mistakes }
+starred = record { worked = worked; numbers = record { partition = refl; fields = refl; table = refl }; corners = corners; mistakes = mistakes }

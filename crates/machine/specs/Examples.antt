@@ -1,4 +1,4 @@
--- The worked example of document 01 and its continuation, and three of document 02: what is put in and what is printed, in columns.
+-- The worked example of document 01 and its continuation, a line that is no event, and four of document 02: what is put in and what is printed, in columns.
 use Prim.Native.Nat.{ℕ}
 use Prim.Native.String.{String}
 use Prim.Native.Char.{code}
@@ -183,3 +183,71 @@ leftAnswers =
     "         0         0         0         9         0         0" ∷
     "         0         0         0        10         1         0" ∷
     "         0         3         0        10         1         0" ∷ []
+
+-- ---------------------------------------------------------------- a restart of the destination (document 02, b)
+-- two queuing channels from partition 1 to partition 2, each with one message
+unfoldable pub twoQueues : List String
+twoQueues =
+    "        10         2         2         2         0         0" ∷
+    "         0         5         1         1         0         0" ∷
+    "         5         5         2         1         0         0" ∷
+    "         1         2         5         1         1         0" ∷
+    "         1         2         5         1         1         0" ∷ []
+
+-- both are full; process 1 waits to send on the second, then process 2 on the first; at t = 5 partition 2 restarts
+unfoldable pub restartedReader : List String
+restartedReader =
+    "         1         2         1        10        -1        -1" ∷
+    "         1         2         2        10        -1        -1" ∷
+    "         1         3         1         0         0         0" ∷
+    "         1         3         2         0         0         0" ∷
+    "         1         1         3         0         0         0" ∷
+    "         1        30         1         5         0         0" ∷
+    "         1        30         2         6         0         0" ∷
+    "         1        30         2         7        -1         0" ∷
+    "         1        30         1         8        -1         0" ∷
+    "         0         0         0         0         0         0" ∷
+    "         0         0         0         0         0         0" ∷
+    "         0         0         0         0         0         0" ∷
+    "         0         0         0         0         0         0" ∷
+    "         0         0         0         0         0         0" ∷
+    "         2         1         1         0         0         0" ∷
+    "         0         0         0         0         0         0" ∷
+    "         0         0         0         0         0         0" ∷
+    "         0         0         0         0         0         0" ∷
+    "         0         0         0         0         0         0" ∷
+    "         0         0         0         0         0         0" ∷ []
+
+-- channels by ascending number: process 2 is let in first, and runs at t = 10
+unfoldable pub letInByNumber : List String
+letInByNumber =
+    "         0         1         0         0         1         0" ∷
+    "         0         2         0         0         1         0" ∷
+    "         0         0         0         0         1         0" ∷
+    "         0         0         0         0         1         0" ∷
+    "         0         0         0         0         1         1" ∷
+    "         0         0         0         0         1         1" ∷
+    "         0         0         0         0         1         1" ∷
+    "         7         0         0         0         1         2" ∷
+    "         7         0         0         0         1         0" ∷
+    "         0         0         0         1         1         0" ∷
+    "         0         0         0         2         1         0" ∷
+    "         0         0         0         3         1         0" ∷
+    "         0         0         0         4         1         0" ∷
+    "         0         0         0         5         2         0" ∷
+    "         0         0         0         5         2         0" ∷
+    "         0         0         0         6         2         0" ∷
+    "         0         0         0         7         2         0" ∷
+    "         0         0         0         8         2         0" ∷
+    "         0         0         0         9         2         0" ∷
+    "         0         0         0        10         1         2" ∷ []
+
+-- ---------------------------------------------------------------- a line that is no event
+unfoldable pub noEvent : List String
+noEvent = "no event" ∷ []
+
+-- after a tick: 11, 0, 0, t, current, 0
+unfoldable pub noEventAnswers : List String
+noEventAnswers =
+    "         0         0         0         1         1         0" ∷
+    "        11         0         0         1         1         0" ∷ []

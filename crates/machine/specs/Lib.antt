@@ -31,3 +31,5 @@ pub mod Locks
 pub mod TicksLeft
 pub mod Waits
 pub mod Account
+pub mod EachCall
+pub mod TableLines

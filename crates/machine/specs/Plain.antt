@@ -5,7 +5,7 @@
 -- `no-bound-acts` proves it of every event at every record that a run reaches. Nothing of the machine rests on it.
 use Prim.Native.Nat.{ℕ, zero, suc, _+_, _-_, _%_, _≤_, _<_}
 use mathlib.Core.Path.{_≡_}
-use mathlib.Core.Bool.{Bool, true, false, cond, _&&_}
+use mathlib.Core.Bool.{Bool, true, false, cond, _&&_, _||_}
 use mathlib.Core.List.{List, [], _∷_, _++_, map}
 use mathlib.Core.Logic.{_⊎_}
 use lib.ListN.{length, getD, set, drop}
@@ -18,6 +18,7 @@ use Rattle.machine.specs.declared.Times.{Times}
 use Rattle.machine.specs.declared.Process.{Process}
 use Rattle.machine.specs.declared.Semaphore.{Semaphore as SemaphoreT}
 use Rattle.machine.specs.declared.EventState.{EventState}
+use Rattle.machine.specs.declared.Wait.the-variants.{None}
 use Rattle.machine.specs.declared.Transfer.{Transfer}
 use Rattle.machine.specs.declared.Transfer.the-variants.{Put, HandedTo, Taken, LetIn}
 use Rattle.machine.specs.declared.Buffer.{Buffer}
@@ -37,7 +38,7 @@ use Rattle.machine.specs.Limits.{levelLimit, channelLimit, greatestTime,
 use Rattle.machine.specs.Fields.{field, requestOf, isNumber, between, isMinusOne, numberOf}
 use Rattle.machine.specs.Ids.{members, idsOf, kept, other}
 use Rattle.machine.specs.Messages.{held, queueOf, endsWait}
-use Rattle.machine.specs.Process.{blankProcess, later, carried, ready, onObject, served, handed, ticked, entered}
+use Rattle.machine.specs.Process.{blankProcess, later, carried, ready, onObject, waitsForNothing, entered}
 use Rattle.machine.specs.Partition.{normalMode, nothingCreated, noSemaphore, noEvent, noBuffer, noBlackboard, process, semaphore, event, buffer, blackboard, emptyBuffer, withMode, withLock, withProcesses, withSemaphores, withEvents, withBuffers, withBlackboards, waiters, noted}
 use Rattle.machine.specs.Decisions.{replyOf, unknown}
 use Rattle.machine.specs.Objects.{oneMore}
@@ -72,6 +73,39 @@ unfoldable pub changedFirst : {A : Type 0} → ℕ → (A → A) → List A → 
 changedFirst zero f l = l
 changedFirst (suc n) f [] = []
 changedFirst (suc n) f (a ∷ l) = f a ∷ changedFirst n f l
+
+-- ---------------------------------------------------------------- a process
+-- the wait ends (w −1) with this wake code, and this message is in the process record then; all else stays, the suspended mark too
+abbrev pub waitOver : ℕ → ℕ → Process → Process
+waitOver code m x = record { given = x .given; times = record { release = x .times .release; deadline = x .times .deadline; wake = Never; delay = x .times .delay }; current = x .current; suspended = x .suspended; missed = x .missed; code = code; message = m; started = x .started; wait = None }
+
+-- the same with wake code 0, and the message stays: SIGNAL, SET_EVENT, a sender whose message is let in
+abbrev pub letGo : Process → Process
+letGo x = waitOver 0 (x .message) x
+
+-- it is not −1 and ≤ t
+abbrev pub come : ℕ → Time → Bool
+come t Never = false
+come t (At n) = leb n t
+
+-- a tick at one process: where w has come, w −1 and no wait; wake code 6 for who waits on an object, or has no wait but the mark, which goes;
+-- else 0. Where d has come: missed mark 1, d −1. All else stays.
+abbrev pub atTick : ℕ → Process → Process
+atTick t x =
+    let over = come t (x .times .wake) in
+    let late = come t (x .times .deadline) in
+    let unmarked = over && (waitsForNothing (x .wait) && x .suspended) in
+    record {
+      given = x .given;
+      times = record { release = x .times .release; deadline = cond late Never (x .times .deadline); wake = cond over Never (x .times .wake); delay = x .times .delay };
+      current = x .current;
+      suspended = cond unmarked false (x .suspended);
+      missed = cond late true (x .missed);
+      code = cond over (cond (unmarked || onObject x) 6 0) (x .code);
+      message = x .message;
+      started = x .started;
+      wait = cond over None (x .wait);
+    }
 
 -- ---------------------------------------------------------------- the changes
 -- process id has this record from now on; the arrival list and the waiting list follow
@@ -116,9 +150,9 @@ plainMoved (LetIn id m) l = drop 1 l ++ (m ∷ [])
 -- a wait that a transfer ends
 abbrev pub plainEnded : Transfer → Partition → Partition
 plainEnded (Put m) p = p
-plainEnded (HandedTo id m) p = plainStored id (handed m (plainById blankProcess id (p .processes))) p
+plainEnded (HandedTo id m) p = plainStored id (waitOver 0 m (plainById blankProcess id (p .processes))) p
 plainEnded Taken p = p
-plainEnded (LetIn id m) p = plainStored id (served (plainById blankProcess id (p .processes))) p
+plainEnded (LetIn id m) p = plainStored id (letGo (plainById blankProcess id (p .processes))) p
 
 abbrev pub plainMovedIn : Transfer → Buffer → Buffer
 plainMovedIn a b = record { name = b .name; limit = b .limit; queue = queueOf (plainMoved a (held (b .queue))) }
@@ -142,8 +176,8 @@ plainApplied (StoredEvent k e) p = plainEvent k e p
 plainApplied (CreatedBuffer k name limit) p = plainBuffer k (emptyBuffer name limit) p
 plainApplied (Moved k a) p = plainEnded a (plainBuffer k (plainMovedIn a (plainById noBuffer k (p .buffers))) p)
 plainApplied (StoredBlackboard k b) p = plainBlackboard k b p
-plainApplied (Ended o) p = plainAll served (waiters o p) p
-plainApplied (Handed o m) p = plainAll (handed m) (waiters o p) p
+plainApplied (Ended o) p = plainAll letGo (waiters o p) p
+plainApplied (Handed o m) p = plainAll (waitOver 0 m) (waiters o p) p
 plainApplied (LevelSet level holder) p = withLock level holder p
 plainApplied (Entered c) p = plainEach (entered c) (withMode 3 p)
 
@@ -172,7 +206,7 @@ InPlace (Entered c) p = p .processCount ≤ length (p .processes)
 
 -- ---------------------------------------------------------------- an event
 abbrev pub plainTickPartition : ℕ → Partition → Partition
-plainTickPartition t p = cond (normalMode p) (plainEach (ticked t) p) p
+plainTickPartition t p = cond (normalMode p) (plainEach (atTick t) p) p
 
 -- t rises by one; each of the P partitions is ticked
 abbrev pub plainTicked : Module → Module
@@ -197,7 +231,7 @@ plainRefilledAt i m =
     let c = channel (m .table) i in
     let p = part m (c .source - 1) in
     let ids = admitted i c p in
-    withPart (c .source - 1) (plainAll served ids p) (withQueue i (queueOf (map (λ id. carried (plainById blankProcess id (p .processes))) ids)) m)
+    withPart (c .source - 1) (plainAll letGo ids p) (withQueue i (queueOf (map (λ id. carried (plainById blankProcess id (p .processes))) ids)) m)
 
 -- the first n channels, those that are queuing and lead into partition k
 unfoldable pub plainRefilledTo : ℕ → ℕ → Module → Module

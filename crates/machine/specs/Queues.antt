@@ -33,8 +33,8 @@ use Rattle.machine.specs.Partition.{normalMode, process, semaphore, even
 use Rattle.machine.specs.Module.{channel, part, queue, withQueue}
 use Rattle.machine.specs.Step.{step}
 use Rattle.machine.specs.Valid.{Between, contains, Distinct, Reached}
-use Rattle.machine.specs.Starred.{own, callBy, WaitsFor, TimeOut, Calling, Gives, Refuses, WaitEnded}
-use Rattle.machine.specs.Plain.{followed}
+use Rattle.machine.specs.Starred.{own, callBy, WaitsFor, TimeOut, Calling, Gives, Refuses}
+use Rattle.machine.specs.Plain.{followed, waitOver}
 
 -- ---------------------------------------------------------------- a queue
 -- it holds just the processes that wait on the object, each once
@@ -142,12 +142,12 @@ pub record WouldWait (m : Module) (k : ℕ) (e : EventT) (w : Wait) : Type 0 whe
   pub free : own m k .level ≡ 0 → Queued m k e w
   pub locked : 0 < own m k .level → Refuses m e 5
 
--- the wait of process id, the first of queue o, ends: it leaves the queue, this message is in its record then, and no other process changes
+-- the wait of process id, the first of queue o, ends: it leaves the queue, this message is in its record then, all else in it stays (the mark too), and
+-- no other process changes
 pub record FirstServed (m : Module) (k : ℕ) (e : EventT) (o id : ℕ) (rest : List ℕ) (message : ℕ) : Type 0 where
   pub code : step m e .answer .code ≡ 0
   pub queue : waiters o (own (step m e .state) k) ≡ rest
-  pub ended : WaitEnded 0 (process id (own m k)) (process id (own (step m e .state) k))
-  pub has : process id (own (step m e .state) k) .message ≡ message
+  pub ended : process id (own (step m e .state) k) ≡ waitOver 0 message (process id (own m k))
   pub others : (y : ℕ) → (y ≡ id → ⊥) → process y (own (step m e .state) k) ≡ process y (own m k)
 
 -- nobody is served: no process changes
@@ -160,8 +160,7 @@ pub record NoneServed (m : Module) (k : ℕ) (e : EventT) (o : ℕ) : Type 0 whe
 pub record AllServed (m : Module) (k : ℕ) (e : EventT) (o : ℕ) (message : ℕ → ℕ) : Type 0 where
   pub code : step m e .answer .code ≡ 0
   pub queue : waiters o (own (step m e .state) k) ≡ []
-  pub ended : (id : ℕ) → contains id (waiters o (own m k)) ≡ true → WaitEnded 0 (process id (own m k)) (process id (own (step m e .state) k))
-  pub has : (id : ℕ) → contains id (waiters o (own m k)) ≡ true → process id (own (step m e .state) k) .message ≡ message id
+  pub ended : (id : ℕ) → contains id (waiters o (own m k)) ≡ true → process id (own (step m e .state) k) ≡ waitOver 0 (message id) (process id (own m k))
   pub others : (id : ℕ) → contains id (waiters o (own m k)) ≡ false → process id (own (step m e .state) k) ≡ process id (own m k)
   pub arrival : members (own (step m e .state) k .arrival) ≡ members (own m k .arrival) ++ kept (λ id. ready (process id (own (step m e .state) k))) (waiters o (own m k))
 

@@ -1,7 +1,7 @@
 -- The cases of document 01 marked with a star, and its mistakes to shut out, with what document 02 adds, as one list of claims about
 -- `step`: each for every reached record, table and event to which it applies, with what the answer and the record then hold; the worked
--- example, its continuation and the examples of releases inside a frame, of the preemption lock and of ticks left as computed runs from
--- bytes. The premises speak of an event's numbers, the table, the record, the current partition and the running process.
+-- example, its continuation and the examples of releases inside a frame, of the preemption lock, of ticks left, of a restart and of a line that is no
+-- event as computed runs from bytes. The premises speak of an event's numbers, the table, the record, the current partition and the running process.
 use Prim.Native.Nat.{ℕ, suc, _+_, _-_, _*_, _/_, _%_, _≤_, _<_}
 use mathlib.Core.Path.{_≡_}
 use mathlib.Core.Bool.{Bool, true, false, cond, _||_}
@@ -17,18 +17,18 @@ use Rattle.machine.specs.declared.Module.{Module}
 use Rattle.machine.specs.declared.Wait.the-variants.{None, Normal, Delay, Timed, Period, Semaphore, Event, Sending, Receiving, Blackboard, Source, Destination}
 use Rattle.machine.specs.declared.Time.{Time}
 use Rattle.machine.specs.declared.Time.the-variants.{Never, At}
-use Rattle.machine.specs.Limits.{processLimit, semaphoreLimit, eventLimit, bufferLimit, messageLimit, blackboardLimit, nameLimit, priorityLimit, valueLimit, durationLimit, timeLimit}
+use Rattle.machine.specs.Limits.{processLimit, semaphoreLimit, eventLimit, bufferLimit, messageLimit, blackboardLimit, nameLimit, priorityLimit, valueLimit, modeLimit, callLimit, levelLimit, durationLimit, timeLimit, frameLimit, partitionLimit, windowLimit, channelLimit, sizeLimit, numberLimit, lineLength}
 use Rattle.machine.specs.Ids.{members, idsOf, kept, other}
-use Rattle.machine.specs.Process.{createdProcess, object, carried, ready, withCurrent}
+use Rattle.machine.specs.Process.{object, carried, ready, withCurrent}
 use Rattle.machine.specs.Partition.{process, semaphore, event, buffer, blackboard, waiters, running, nothingCreated, noted, withProcesses, withSemaphores, withEvents, withBuffers, withBlackboards}
 use Rattle.machine.specs.Messages.{held, queueOf}
 use Rattle.machine.specs.Windows.{Release, NextFlagged}
 use Rattle.machine.specs.Module.{part, message, queue, channel, current, withPart}
 use Rattle.machine.specs.Step.{step}
 use Rattle.machine.specs.Valid.{Between, SoundPeriod, SoundCapacity, Reached, contains, plainLater}
-use Rattle.machine.specs.Plain.{plainBetween, plainMinusOne}
+use Rattle.machine.specs.Plain.{plainBetween, plainMinusOne, letGo}
 use Rattle.machine.specs.Replay.{replayed, replayedRecord, timeNumber}
-use Rattle.machine.specs.Examples.{text, table, events, printed, toFour, tickLine, printedAfter, twoWindows, startedInFirst, releasedInSecond, oneWindow, lockedUpdate, lockedAnswers, adjacentWindows, askedLeft, leftAnswers}
+use Rattle.machine.specs.Examples.{text, table, events, printed, toFour, tickLine, printedAfter, twoWindows, startedInFirst, releasedInSecond, oneWindow, lockedUpdate, lockedAnswers, adjacentWindows, askedLeft, leftAnswers, twoQueues, restartedReader, letInByNumber, noEvent, noEventAnswers}
 
 -- the worked example prints its six lines; continued, t = 4 runs 1, t = 5 sets missed, t = 6 current 2
 pub record Worked : Type 0 where
@@ -42,6 +42,20 @@ pub record Worked : Type 0 where
   pub locked : replayed (text (oneWindow ++ lockedUpdate)) ≡ text lockedAnswers
   -- ticks left: adjacent windows of one partition are not joined
   pub left : replayed (text (adjacentWindows ++ askedLeft)) ≡ text leftAnswers
+  -- queuing channels: a restart of the destination lets waiting senders in, channels by ascending number
+  pub letIn : replayed (text (twoQueues ++ restartedReader)) ≡ text letInByNumber
+  -- a line that is no event: 11, with t and the current partition
+  pub unread : replayed (text (table ++ (tickLine ++ noEvent))) ≡ text noEventAnswers
+
+-- ---------------------------------------------------------------- the numbers of documents 01 and 02
+-- every limit that the claims name
+pub record Numbers : Type 0 where
+  -- a partition: 16 processes, 8 semaphores, 8 events, 8 buffers of 1..16 messages, 8 blackboards, modes 0..3, levels 0..16
+  pub partition : processLimit ∷ semaphoreLimit ∷ eventLimit ∷ bufferLimit ∷ messageLimit ∷ blackboardLimit ∷ modeLimit ∷ levelLimit ∷ [] ≡ 16 ∷ 8 ∷ 8 ∷ 8 ∷ 16 ∷ 8 ∷ 3 ∷ 16 ∷ []
+  -- names 1..255, priorities 1..239, semaphores to 32,767, D and messages 0..9,999,999, calls 0..34, t to 99,999,999
+  pub fields : nameLimit ∷ priorityLimit ∷ valueLimit ∷ durationLimit ∷ callLimit ∷ timeLimit ∷ [] ≡ 255 ∷ 239 ∷ 32767 ∷ 9999999 ∷ 34 ∷ 99999999 ∷ []
+  -- tables: M 1..10,000, P 1..8, windows 1..32, channels 0..16, queues of 1..8 messages; lines of 61 bytes, numbers to 999,999,999
+  pub table : frameLimit ∷ partitionLimit ∷ windowLimit ∷ channelLimit ∷ sizeLimit ∷ lineLength ∷ numberLimit ∷ [] ≡ 10000 ∷ 8 ∷ 32 ∷ 16 ∷ 8 ∷ 61 ∷ 999999999 ∷ []
 
 -- ---------------------------------------------------------------- events, and what they give
 -- partition k's record
@@ -103,9 +117,12 @@ without id q = idsOf (kept (other id) (members q))
 abbrev pub atEnd : ℕ → Ids → Ids
 atEnd id q = idsOf (kept (other id) (members q) ++ (id ∷ []))
 
--- one more process
+-- one more process. Created, it is DORMANT: four fields as given, no wait, r, d, w −1, the rest (current priority too) 0.
+abbrev pub newProcess : Given → Process
+newProcess g = record { given = g; times = record { release = Never; deadline = Never; wake = Never; delay = 0 }; current = 0; suspended = false; missed = false; code = 0; message = 0; started = false; wait = None }
+
 abbrev pub withNew : Given → Partition → Partition
-withNew g p = withProcesses (set (p .processes) (p .processCount) (createdProcess g)) (p .processCount + 1) (p .arrival) (p .waiting) p
+withNew g p = withProcesses (set (p .processes) (p .processCount) (newProcess g)) (p .processCount + 1) (p .arrival) (p .waiting) p
 
 -- one more semaphore, one more event (DOWN)
 abbrev pub withNewSemaphore : ℕ → ℕ → ℕ → Partition → Partition
@@ -368,13 +385,13 @@ pub record Mistakes : Type 0 where
       Between 1 (p .semaphoreCount) j → (semaphore j p .value ≡ semaphore j p .max → ⊥)
       → members (p .waiting) ≡ before ++ (id ∷ after) → process id p .wait ≡ Semaphore j → ((y : ℕ) → contains y before ≡ true → process y p .wait ≡ Semaphore j → ⊥)
       → let y = process id (own (step m e .state) k) in
-      (step m e .answer .code ≡ 0) × WaitEnded 0 (process id p) y × ReadyUnmarked (process id p) y
+      (step m e .answer .code ≡ 0) × (y ≡ letGo (process id p)) × ReadyUnmarked (process id p) y
   -- SET_EVENT ends every wait on the event the same way
   pub eventSet : (m : Module) (k : ℕ) → Calling m k → (j id : ℕ) → let p = own m k in
       let e = callBy k 18 (pos j) (pos 0) (pos 0) (pos 0) in
       Between 1 (p .eventCount) j → process id p .wait ≡ Event j
       → let y = process id (own (step m e .state) k) in
-      (step m e .answer .code ≡ 0) × (event j (own (step m e .state) k) .up ≡ true) × WaitEnded 0 (process id p) y × ReadyUnmarked (process id p) y
+      (step m e .answer .code ≡ 0) × (event j (own (step m e .state) k) .up ≡ true) × (y ≡ letGo (process id p)) × ReadyUnmarked (process id p) y
   -- a source's restart erasing a message: an event that is no WRITE leaves the message of each channel into another partition
   pub restart : (m : Module) (e : EventT) (i : ℕ) → (e .call ≡ pos 21 → ⊥) → (e .partition ≡ pos (channel (m .table) i .destination) → ⊥)
       → message (step m e .state) i ≡ message m i
@@ -383,7 +400,7 @@ pub record Mistakes : Type 0 where
       → queue (step m e .state) i ≡ queue m i
   -- an accepted mode 0, 1 or 2: code 0, nothing created in the partition, no message on a channel into it, and on every other channel the
   -- message that was there; each queue into it holds the messages of the first who waited to send, as many as it holds at most, and every other
-  -- queue what it held
+  -- queue what it held; the waits of those who are let in end, and their marks stay
   pub restarted : (m : Module) (k : ℕ) → Calling m k → (mode : ℕ) → mode ≤ 2 → (mode ≡ 2 → own m k .mode ≡ 1 → ⊥)
       → let e = callBy k 1 (pos mode) (pos 0) (pos 0) (pos 0) in
       (step m e .answer .code ≡ 0) × (own (step m e .state) k ≡ noted (nothingCreated mode))
@@ -394,9 +411,14 @@ pub record Mistakes : Type 0 where
       let p = own m (c .source) in
       held (queue (step m e .state) i) ≡ map (λ id. carried (process id p)) (take (c .size) (waiters (object (Source (i + 1) 0)) p)))
       × ((i : ℕ) → (channel (m .table) i .destination ≡ k → ⊥) → queue (step m e .state) i ≡ queue m i)
+      × ((i id : ℕ) → i < m .table .channelCount → (channel (m .table) i .size ≡ 0 → ⊥) → channel (m .table) i .destination ≡ k
+      → let c = channel (m .table) i in
+      let p = own m (c .source) in
+      contains id (take (c .size) (waiters (object (Source (i + 1) 0)) p)) ≡ true → process id (own (step m e .state) (c .source)) ≡ letGo (process id p))
 
 -- the whole list
 pub record Starred : Type 0 where
   pub worked : Worked
+  pub numbers : Numbers
   pub corners : (m : Module) (k : ℕ) → Calling m k → Corners m k
   pub mistakes : Mistakes

@@ -7,7 +7,7 @@ use native.Mathlib.Omega.{arith}
 use lib.IntN.{ℤ, pos, negsuc}
 use lib.Seq.{getD-set-same}
 use lib.Dec.{leb}
-use borrow.Author.Tests.{eq-eqb, ne-eqb, eqb-true, le-leb}
+use borrow.Author.Tests.{eq-eqb, ne-eqb, eqb-true, le-leb, le-ltb}
 use Rattle.machine.specs.declared.Partition.{Partition}
 use Rattle.machine.specs.declared.Time.{Time}
 use Rattle.machine.specs.declared.Event.{Event as EventT}
@@ -17,21 +17,27 @@ use Rattle.machine.specs.declared.Stepped.{Stepped}
 use Rattle.machine.specs.declared.Decision.{Decision}
 use Rattle.machine.specs.declared.Field.{Field}
 use Rattle.machine.specs.declared.Field.the-variants.{Number, MinusOne, Other}
-use Rattle.machine.specs.Limits.{callLimit, greatestTime}
+use Rattle.machine.specs.Limits.{callLimit, greatestTime, processLimit}
 use Rattle.machine.specs.Fields.{field, requestOf, isNumber, numberOf}
-use Rattle.machine.specs.Partition.{normalMode, running, noted}
-use Rattle.machine.specs.Decisions.{checked, replyOf}
+use Rattle.machine.specs.Partition.{normalMode, running, noted, process, stored, withProcesses}
+use Rattle.machine.specs.Decisions.{checked, replyOf, unknown}
 use Rattle.machine.specs.Windows.{lookup}
 use Rattle.machine.specs.Module.{current, emptyModule, emptyTable, noPartition, withPart}
 use Rattle.machine.specs.Channels.{portOf}
 use Rattle.machine.specs.Services.{serviceOf, callDecision}
 use Rattle.machine.specs.Places.{malformed, strayField, noCaller}
 use Rattle.machine.specs.Step.{contextOf, decision, moduleAfter, stepped, step}
-use Rattle.machine.specs.Valid.{Valid, ValidModule, SoundModule, SoundContext}
-use Rattle.machine.specs.Starred.{own, callBy, Gives, Calling}
+use Rattle.machine.specs.Valid.{Valid, ValidModule, SoundModule, SoundContext, Between, ListedIn}
+use Rattle.machine.specs.Starred.{own, callBy, Gives, Calling, Puts, withProcess, without}
 use Rattle.machine.proofs.Either.{either}
 use Rattle.machine.proofs.WindowLeft.{current-known}
 use Rattle.machine.proofs.Reached.{reached-valid, context-of}
+use Rattle.machine.specs.declared.Process.{Process}
+use Rattle.machine.specs.Process.{blankProcess, onObject, ready}
+use Rattle.machine.specs.Ids.{follow, removed}
+use Rattle.machine.proofs.Quiet.{follow-same}
+use Rattle.machine.proofs.Bounds.{named-in, stored-in, within-in}
+use lib.ListN.{set}
 
 -- ---------------------------------------------------------------- an integer as a field
 pub field-number : (n : ℕ) → n ≤ greatestTime → field (pos n) ≡ Number n
@@ -121,6 +127,33 @@ module _ (m : Module) (k : ℕ) (u : SoundModule m) (h : Calling m k) where
         let is : step m (callBy k n a b c e) ≡ stepped m (asked n (field a) (field b) (field c) (field e)) d = ap (λ (r : Request). stepped m r (decision m r)) request-is ∙ ap (stepped m (asked n (field a) (field b) (field c) (field e))) (decided stray ∙ q) in
         record { codeIs = ap (λ (s : Stepped). s .answer .code) is; valueIs = ap (λ (s : Stepped). s .answer .value) is; extraIs = ap (λ (s : Stepped). s .answer .extra) is; state = ap (λ (s : Stepped). s .state) is }
 
+  pub normal-not : (own m k .mode ≡ 3 → ⊥) → normalMode (own m k) ≡ false
+  normal-not n = ne-eqb (own m k .mode) 3 n
+
+  pub normal-is : own m k .mode ≡ 3 → normalMode (own m k) ≡ true
+  normal-is n = eq-eqb (own m k .mode) 3 n
+
+  pub known : (id count : ℕ) → Between 1 count id → unknown id count ≡ false
+  known id count b = rw (ne-eqb id 0 (λ z. omega (arith, b .0)), le-ltb count id (b .1))
+
   -- the caller's partition after a call that stored it
   pub own-after : {e : EventT} {code value : ℕ} {extra : Time} (p : Partition) → Gives m e code value extra (withPart (k - 1) p m) → own (step m e .state) k ≡ noted p
   own-after p g = ap (λ (n : Module). own n k) (g .state) ∙ getD-set-same (m .partitions) (k - 1) (noted p) noPartition (omega (arith, calling-place, u .partitionsSize, u .table .size .1))
+
+-- ---------------------------------------------------------------- what is given, brought to another form
+pub puts-is : (m : Module) (k : ℕ) {e : EventT} {code value : ℕ} (p q : Partition) → Puts m e code value k p → p ≡ q → Puts m e code value k q
+puts-is m k p q g e = record { codeIs = g .codeIs; valueIs = g .valueIs; extraIs = g .extraIs; state = g .state ∙ ap (λ (x : Partition). withPart (k - 1) x m) e }
+
+-- ---------------------------------------------------------------- a process stored
+module _ (p : Partition) (v : ListedIn p) (id : ℕ) (b : Between 1 (p .processCount) id) (x : Process) where
+  inside : stored id x p ≡ withProcesses (set (p .processes) (id - 1) x) (p .processCount) (follow (ready (process id p)) (ready x) id (p .arrival)) (follow (onObject (process id p)) (onObject x) id (p .waiting)) p
+  inside = let w = within-in processLimit id (b .0) (omega (arith, b .1, v .numbered .few)) in stored-in id x p w ∙ rw (← named-in processLimit id blankProcess (p .processes) w)
+
+  -- READY or not, waiting on an object or not, as before
+  pub stored-steady : ready (process id p) ≡ ready x → onObject (process id p) ≡ onObject x → stored id x p ≡ withProcess id x (p .arrival) p
+  stored-steady r o = inside ∙ rw (r, o, follow-same (ready x) id (p .arrival), follow-same (onObject x) id (p .waiting))
+
+  -- it ceases to be READY, and waits on no object
+  pub stored-leaves : ready (process id p) ≡ true → ready x ≡ false → onObject (process id p) ≡ onObject x → stored id x p ≡ withProcess id x (without id (p .arrival)) p
+  unfolding removed
+  stored-leaves r n o = inside ∙ rw (r, n, o, follow-same (onObject x) id (p .waiting))

@@ -5,7 +5,7 @@ use mathlib.Core.Bool.{Bool, true, false, cond, not, _&&_, _||_, and-false}
 use mathlib.Core.List.{List, [], _∷_}
 use native.Mathlib.Omega.{arith}
 use native.Mathlib.Nat.{add-zero, mod-self, add-mod-left, mod-eq-of-lt}
-use lib.ListN.{length, getD, set, take, length-take}
+use lib.ListN.{length, getD, take, length-take}
 use lib.Seq.{getD-take}
 use lib.IntN.{ℤ, pos}
 use lib.Dec.{leb, eqb}
@@ -17,7 +17,6 @@ use Rattle.machine.specs.declared.Semaphore.{Semaphore as SemaphoreT}
 use Rattle.machine.specs.declared.EventState.{EventState}
 use Rattle.machine.specs.declared.Buffer.{Buffer}
 use Rattle.machine.specs.declared.Blackboard.{Blackboard as BlackboardT}
-use Rattle.machine.specs.declared.Event.{Event as EventT}
 use Rattle.machine.specs.declared.Change.the-variants.{Nothing, Stored, Created, Last, Entered, StoredSemaphore, StoredEvent, CreatedBuffer, StoredBlackboard}
 use Rattle.machine.specs.declared.Decision.the-variants.{Refused, Unchanged, Blocked, Changed}
 use Rattle.machine.specs.declared.Field.{Field}
@@ -27,9 +26,8 @@ use Rattle.machine.specs.declared.Time.{Time}
 use Rattle.machine.specs.declared.Time.the-variants.{Never, At}
 use Rattle.machine.specs.Limits.{processLimit, semaphoreLimit, eventLimit, bufferLimit, messageLimit, blackboardLimit, nameLimit, priorityLimit, valueLimit, durationLimit, greatestTime}
 use Rattle.machine.specs.Fields.{field, between, isMinusOne, isTimeout, timeOf}
-use Rattle.machine.specs.Ids.{removed, follow}
 use Rattle.machine.specs.Process.{blankProcess, createdProcess, periodic, ready, onObject, withCurrent, startRule, startedEarly, nextRelease, entered}
-use Rattle.machine.specs.Partition.{normalMode, process, semaphore, event, buffer, blackboard, byId, noSemaphore, noEvent, noBuffer, noBlackboard, emptyBuffer, running, withMode, withProcesses, stored, created, applied, enteredNormal}
+use Rattle.machine.specs.Partition.{normalMode, process, semaphore, event, buffer, blackboard, byId, noSemaphore, noEvent, noBuffer, noBlackboard, emptyBuffer, running, withMode, withProcesses, stored, applied, enteredNormal}
 use Rattle.machine.specs.Windows.{Release, NextFlagged}
 use Rattle.machine.specs.Decisions as D
 use Rattle.machine.specs.Calls as C
@@ -46,18 +44,13 @@ use Rattle.machine.specs.Plain.{plainBetween, plainMinusOne}
 use Rattle.machine.specs.Replay.{timeNumber}
 use Rattle.machine.specs.Starred.{own, callBy, TimeOut, NoTimeOut, Gives, Refuses, Puts, Calling, withProcess, without, atEnd, withNew, withNewSemaphore, withNewEvent, withNewBuffer, withNewBlackboard, withSemaphoreAt, Room, NewProcess, NewSemaphore, NewEvent, NewBuffer, NewBlackboard, createBy, given, awaitsRelease, awaitsNext, awaitsNormal, ReleasesAt, Corners}
 use Rattle.machine.proofs.Either.{either}
-use Rattle.machine.proofs.Bounds.{within-in, named-in, created-in, semaphore-in, event-in, buffer-in, blackboard-in, stored-in}
+use Rattle.machine.proofs.Bounds.{within-in, named-in, created-in, semaphore-in, event-in, buffer-in, blackboard-in}
 use Rattle.machine.proofs.Keeping.{stored-listed, process-stored, each-rest, each-process}
 use Rattle.machine.proofs.Kept.{running-caller}
-use Rattle.machine.proofs.Quiet.{follow-same}
 use Rattle.machine.proofs.Starts.{release-earliest, release-one, release-here}
 use Rattle.machine.proofs.Sound.{capacity-bound, period-not-after, ready-off}
 use Rattle.machine.proofs.Plain.{arrived-plain, lossless, release-point-plain, release-deadline-plain, next-plain, next-deadline-plain}
-use Rattle.machine.proofs.Calling.{field-number, from-zero, calling-sound, calling-low, calling-valid, calling-context, asked, gives, own-after}
-
--- ---------------------------------------------------------------- what is given, brought to another form
-pub puts-is : (m : Module) (k : ℕ) {e : EventT} {code value : ℕ} (p q : Partition) → Puts m e code value k p → p ≡ q → Puts m e code value k q
-puts-is m k p q g e = record { codeIs = g .codeIs; valueIs = g .valueIs; extraIs = g .extraIs; state = g .state ∙ ap (λ (x : Partition). M.withPart (k - 1) x m) e }
+use Rattle.machine.proofs.Calling.{field-number, from-zero, calling-sound, calling-low, calling-valid, calling-context, asked, gives, own-after, known, normal-is, normal-not, puts-is, stored-leaves, stored-steady}
 
 -- ---------------------------------------------------------------- names
 module _ {A : Type 0} (nameOf : A → ℕ) (name : ℕ) (d : A) where
@@ -96,20 +89,6 @@ capacity-fits period Never h = refl
 capacity-fits Never (At n) h = rw (le-leb 1 n (h .0 .0), le-leb n durationLimit (h .0 .1))
 capacity-fits (At q) (At n) h = rw (le-leb 1 n (h .0 .0), le-leb n durationLimit (h .0 .1), le-ltb q n (h .1))
 
--- ---------------------------------------------------------------- a process stored
-module _ (p : Partition) (v : ListedIn p) (id : ℕ) (b : Between 1 (p .processCount) id) (x : Process) where
-  inside : stored id x p ≡ withProcesses (set (p .processes) (id - 1) x) (p .processCount) (follow (ready (process id p)) (ready x) id (p .arrival)) (follow (onObject (process id p)) (onObject x) id (p .waiting)) p
-  inside = let w = within-in processLimit id (b .0) (omega (arith, b .1, v .numbered .few)) in stored-in id x p w ∙ rw (← named-in processLimit id blankProcess (p .processes) w)
-
-  -- READY or not, waiting on an object or not, as before
-  pub stored-steady : ready (process id p) ≡ ready x → onObject (process id p) ≡ onObject x → stored id x p ≡ withProcess id x (p .arrival) p
-  stored-steady r o = inside ∙ rw (r, o, follow-same (ready x) id (p .arrival), follow-same (onObject x) id (p .waiting))
-
-  -- it ceases to be READY, and waits on no object
-  pub stored-leaves : ready (process id p) ≡ true → ready x ≡ false → onObject (process id p) ≡ onObject x → stored id x p ≡ withProcess id x (without id (p .arrival)) p
-  unfolding removed
-  stored-leaves r n o = inside ∙ rw (r, n, o, follow-same (onObject x) id (p .waiting))
-
 -- ---------------------------------------------------------------- creating
 module _ (m : Module) (k : ℕ) (u : SoundModule m) (h : Calling m k) where
   abbrev p : Partition
@@ -121,22 +100,13 @@ module _ (m : Module) (k : ℕ) (u : SoundModule m) (h : Calling m k) where
   frame-some : 1 ≤ m .table .frame
   frame-some = u .table .frame .0
 
-  pub normal-not : (p .mode ≡ 3 → ⊥) → normalMode p ≡ false
-  normal-not n = ne-eqb (p .mode) 3 n
-
-  pub normal-is : p .mode ≡ 3 → normalMode p ≡ true
-  normal-is n = eq-eqb (p .mode) 3 n
-
-  pub known : (id count : ℕ) → Between 1 count id → D.unknown id count ≡ false
-  known id count b = rw (ne-eqb id 0 (λ z. omega (arith, b .0)), le-ltb count id (b .1))
-
   pub small : (id count : ℕ) → Between 1 count id → count ≤ processLimit → id ≤ greatestTime
   small id count b few = omega (arith, b .1)
 
   -- creating, for every kind: neither 4 nor 1 nor 5
   creation-open : {A : Type 0} (nameOf : A → ℕ) (name : ℕ) (d : A) (limit : ℕ) (l : List A) (n : ℕ) → Numbered limit d l n → Room p n limit → ((id : ℕ) → Between 1 n id → nameOf (byId limit d id l) ≡ name → ⊥)
       → (leb limit n ≡ false) × (D.nameTaken nameOf (Number name) (take n l) ≡ false) × (normalMode p ≡ false)
-  creation-open nameOf name d limit l n s room new = (lt-leb limit n (room .less), new-name nameOf name d limit n l (s .few) (s .size) new, normal-not (room .early))
+  creation-open nameOf name d limit l n s room new = (lt-leb limit n (room .less), new-name nameOf name d limit n l (s .few) (s .size) new, normal-not m k u h (room .early))
 
   -- the next of a list stored
   next-stored : (n : ℕ) → (n + 1 - 1 ≡ n) × (max n (n + 1) ≡ n + 1)
@@ -307,9 +277,9 @@ module _ (m : Module) (k : ℕ) (u : SoundModule m) (h : Calling m k) where
       let same = stored-steady p (v .lists) id b x refl refl in (
         puts-is m k _ _
             (gives m k u h 12 (pos id) (pos priorityLimit) (pos 0) (pos 0) (omega arith) (omega arith) refl (Changed (Stored id x) (cond (ready (process id p)) (Last id) Nothing) 0)
-            (rw (i, known id (p .processCount) b, s)))
+            (rw (i, known m k u h id (p .processCount) b, s)))
             (last (ready (process id p)) refl x same (stored-listed p id x (v .lists) b) (process-stored p id x (v .lists) b) refl),
-        gives m k u h 12 (pos id) (pos (priorityLimit + 1)) (pos 0) (pos 0) (omega arith) (omega arith) refl (Refused 3) (rw (i, known id (p .processCount) b)),
+        gives m k u h 12 (pos id) (pos (priorityLimit + 1)) (pos 0) (pos 0) (omega arith) (omega arith) refl (Refused 3) (rw (i, known m k u h id (p .processCount) b)),
       )
     where
       -- a READY one goes to the end
@@ -331,7 +301,7 @@ module _ (m : Module) (k : ℕ) (u : SoundModule m) (h : Calling m k) where
   unfolding Sv.callDecision Sv.services Pl.strayField C.start D.checked
   delay-refused id n b e top =
       gives m k u h 4 (pos id) (pos n) (pos 0) (pos 0) (omega arith) (omega arith) refl (Refused 3)
-      (rw (field-number id (small id (p .processCount) b (v .lists .numbered .few)), field-number n (omega arith), known id (p .processCount) b, e, from-zero n, le-leb n durationLimit top, le-leb n n (omega arith)))
+      (rw (field-number id (small id (p .processCount) b (v .lists .numbered .few)), field-number n (omega arith), known m k u h id (p .processCount) b, e, from-zero n, le-leb n durationLimit top, le-leb n n (omega arith)))
 
   period-high : (id n : ℕ) → Between 1 (p .processCount) id → process id p .given .period ≡ At n → Between 1 durationLimit n
   period-high id n b e = (rw e at (v .eachProcess id b .lasting .given .period)) .0
@@ -345,7 +315,7 @@ module _ (m : Module) (k : ℕ) (u : SoundModule m) (h : Calling m k) where
       let r = period-high id n b e in (
         puts-is m k _ _
             (gives m k u h 4 (pos id) (pos (n - 1)) (pos 0) (pos 0) (omega arith) (omega arith) refl (Changed (Stored id (startedEarly (n - 1) x)) Nothing 0)
-            (rw (field-number id (small id (p .processCount) b (v .lists .numbered .few)), field-number (n - 1) (omega (arith, r .1)), known id (p .processCount) b, e, from-zero (n - 1), le-leb (n - 1) durationLimit (omega (arith, r .1)), lt-leb n (n - 1) (omega (arith, r .0)), off, normal-not early)))
+            (rw (field-number id (small id (p .processCount) b (v .lists .numbered .few)), field-number (n - 1) (omega (arith, r .1)), known m k u h id (p .processCount) b, e, from-zero (n - 1), le-leb (n - 1) durationLimit (omega (arith, r .1)), lt-leb n (n - 1) (omega (arith, r .0)), off, normal-not m k u h early)))
             (stored-steady p (v .lists) id b (startedEarly (n - 1) x) (dormant-unready id b off) (dormant-off id b off)),
         delay-refused id n b e (r .1),
       )
@@ -372,7 +342,7 @@ module _ (m : Module) (k : ℕ) (u : SoundModule m) (h : Calling m k) where
     unfolding C.start D.checked
     start-is id delay n normal b off e below =
         let high = period-high id n b e in
-        rw (known id (p .processCount) b, normal-is normal, started-is id delay n b e (omega (arith, high .1)), e, from-zero delay, le-leb delay durationLimit (omega (arith, high .1)), lt-leb n delay below, off)
+        rw (known m k u h id (p .processCount) b, normal-is m k u h normal, started-is id delay n b e (omega (arith, high .1)), e, from-zero delay, le-leb delay durationLimit (omega (arith, high .1)), lt-leb n delay below, off)
 
     released : (id at : ℕ) → Between 1 (p .processCount) id → process id p .started ≡ false
         → let x = awaitsRelease at (process id p .times .delay) (process id p .given .base) false false (process id p) in stored id x p ≡ withProcess id x (p .arrival) p
@@ -411,7 +381,7 @@ module _ (m : Module) (k : ℕ) (u : SoundModule m) (h : Calling m k) where
       enter-gives : Puts m (callBy k 1 (pos 3) (pos 0) (pos 0) (pos 0)) 0 0 k (enteredNormal (St.contextOf m k) p)
       unfolding Sv.callDecision Sv.services Pl.strayField C.setMode D.checked
       enter-gives = gives m k u h 1 (pos 3) (pos 0) (pos 0) (pos 0) (omega arith) (omega arith) refl (D.changed (Entered (St.contextOf m k)))
-          (rw (normal-not early, ne-eqb (p .processCount) 0 (λ z. omega (arith, b .0, b .1))))
+          (rw (normal-not m k u h early, ne-eqb (p .processCount) 0 (λ z. omega (arith, b .0, b .1))))
 
       entered-mode : enteredNormal (St.contextOf m k) p .mode ≡ 3
       unfolding enteredNormal
@@ -467,7 +437,7 @@ module _ (m : Module) (k : ℕ) (u : SoundModule m) (h : Calling m k) where
   -- ---------------------------------------------------------------- time-out 0
   suspend-self-corner : p .mode ≡ 3 → p .level ≡ 0 → process (running p) p .given .period ≡ Never → Gives m (callBy k 8 (pos 0) (pos 0) (pos 0) (pos 0)) 0 0 (At 0) m
   unfolding Sv.callDecision Sv.services Pl.strayField C.suspendSelf D.checked
-  suspend-self-corner n free a = gives m k u h 8 (pos 0) (pos 0) (pos 0) (pos 0) (omega arith) (omega arith) refl (Unchanged 0 (At 0)) (rw (normal-is n, le-ltb 0 (p .level) (omega (arith, free)), a))
+  suspend-self-corner n free a = gives m k u h 8 (pos 0) (pos 0) (pos 0) (pos 0) (omega arith) (omega arith) refl (Unchanged 0 (At 0)) (rw (normal-is m k u h n, le-ltb 0 (p .level) (omega (arith, free)), a))
 
   -- while preemption is locked
   suspend-self-locked : (a : ℤ) → p .mode ≡ 3 → 0 < p .level → process (running p) p .given .period ≡ Never
@@ -476,8 +446,8 @@ module _ (m : Module) (k : ℕ) (u : SoundModule m) (h : Calling m k) where
   suspend-self-locked a n some never =
       let l = lossless a in
       let is : isTimeout (field a) ≡ (plainMinusOne a || plainBetween 0 durationLimit a) = rw (l .isMinusOne, l .between 0 durationLimit (omega arith)) in (
-        λ t. gives m k u h 8 a (pos 0) (pos 0) (pos 0) (omega arith) (omega arith) refl (Refused 5) (rw (normal-is n, never, is ∙ t, lt-ltb 0 (p .level) some)),
-        λ t. gives m k u h 8 a (pos 0) (pos 0) (pos 0) (omega arith) (omega arith) refl (Refused 3) (rw (normal-is n, never, is ∙ t)),
+        λ t. gives m k u h 8 a (pos 0) (pos 0) (pos 0) (omega arith) (omega arith) refl (Refused 5) (rw (normal-is m k u h n, never, is ∙ t, lt-ltb 0 (p .level) some)),
+        λ t. gives m k u h 8 a (pos 0) (pos 0) (pos 0) (omega arith) (omega arith) refl (Refused 3) (rw (normal-is m k u h n, never, is ∙ t)),
       )
 
   timed-wait-locked : (a : ℤ) → p .mode ≡ 3 → 0 < p .level
@@ -485,15 +455,15 @@ module _ (m : Module) (k : ℕ) (u : SoundModule m) (h : Calling m k) where
   unfolding Sv.callDecision Sv.services Pl.strayField C.timedWait D.checked
   timed-wait-locked a n some =
       let is = lossless a .between 0 durationLimit (omega arith) in (
-        λ t. gives m k u h 9 a (pos 0) (pos 0) (pos 0) (omega arith) (omega arith) refl (Refused 5) (rw (normal-is n, is ∙ t, lt-ltb 0 (p .level) some)),
-        λ t. gives m k u h 9 a (pos 0) (pos 0) (pos 0) (omega arith) (omega arith) refl (Refused 3) (rw (normal-is n, is ∙ t)),
+        λ t. gives m k u h 9 a (pos 0) (pos 0) (pos 0) (omega arith) (omega arith) refl (Refused 5) (rw (normal-is m k u h n, is ∙ t, lt-ltb 0 (p .level) some)),
+        λ t. gives m k u h 9 a (pos 0) (pos 0) (pos 0) (omega arith) (omega arith) refl (Refused 3) (rw (normal-is m k u h n, is ∙ t)),
       )
 
   periodic-wait-locked : p .mode ≡ 3 → 0 < p .level → Refuses m (callBy k 10 (pos 0) (pos 0) (pos 0) (pos 0)) 5
   unfolding Sv.callDecision Sv.services Pl.strayField C.periodicWait D.blocked D.checked
   periodic-wait-locked n some =
       gives m k u h 10 (pos 0) (pos 0) (pos 0) (pos 0) (omega arith) (omega arith) refl (Refused 5)
-      (either (periodic (process (running p) p)) (λ e. rw (normal-is n, e, lt-ltb 0 (p .level) some)) (λ e. rw (normal-is n, e)))
+      (either (periodic (process (running p) p)) (λ e. rw (normal-is m k u h n, e, lt-ltb 0 (p .level) some)) (λ e. rw (normal-is m k u h n, e)))
 
   -- the running process is READY
   module _ (n : p .mode ≡ 3) where
@@ -507,7 +477,7 @@ module _ (m : Module) (k : ℕ) (u : SoundModule m) (h : Calling m k) where
   unfolding Sv.callDecision Sv.services Pl.strayField C.timedWait D.checked
   timed-wait-corner n free =
       puts-is m k _ _
-      (gives m k u h 9 (pos 0) (pos 0) (pos 0) (pos 0) (omega arith) (omega arith) refl (D.changed (Last (running p))) (rw (normal-is n, le-ltb 0 (p .level) (omega (arith, free)))))
+      (gives m k u h 9 (pos 0) (pos 0) (pos 0) (pos 0) (omega arith) (omega arith) refl (D.changed (Last (running p))) (rw (normal-is m k u h n, le-ltb 0 (p .level) (omega (arith, free)))))
       (arrived-plain p (v .lists) (running p) (caller-ready n))
 
   wait-semaphore-corner : (j : ℕ) → p .mode ≡ 3 → Between 1 (p .semaphoreCount) j
@@ -517,14 +487,14 @@ module _ (m : Module) (k : ℕ) (u : SoundModule m) (h : Calling m k) where
   wait-semaphore-corner j n b =
       let few = v .objects .semaphores .numbered .few in
       let i = field-number j (omega (arith, b .1)) in
-      let q = known j (p .semaphoreCount) b in (
-        λ z. gives m k u h 15 (pos j) (pos 0) (pos 0) (pos 0) (omega arith) (omega arith) refl (Refused 2) (rw (i, q, normal-is n, z)),
+      let q = known m k u h j (p .semaphoreCount) b in (
+        λ z. gives m k u h 15 (pos j) (pos 0) (pos 0) (pos 0) (omega arith) (omega arith) refl (Refused 2) (rw (i, q, normal-is m k u h n, z)),
         λ r z.
             let s : SemaphoreT = record { name = semaphore j p .name; value = r; max = semaphore j p .max } in
             let e : suc r - 1 ≡ r = omega arith in
             let t : max (p .semaphoreCount) j ≡ p .semaphoreCount = omega (arith, b .1) in
             puts-is m k _ _
-            (gives m k u h 15 (pos j) (pos 0) (pos 0) (pos 0) (omega arith) (omega arith) refl (D.changed (StoredSemaphore j s)) (rw (i, q, normal-is n, z, lt-ltb 0 (suc r) (omega arith), e)))
+            (gives m k u h 15 (pos j) (pos 0) (pos 0) (pos 0) (omega arith) (omega arith) refl (D.changed (StoredSemaphore j s)) (rw (i, q, normal-is m k u h n, z, lt-ltb 0 (suc r) (omega arith), e)))
             (semaphore-in j s p (within-in semaphoreLimit j (b .0) (omega (arith, b .1))) ∙ rw t),
       )
 
@@ -535,22 +505,22 @@ module _ (m : Module) (k : ℕ) (u : SoundModule m) (h : Calling m k) where
   wait-event-corner j n b =
       let few = v .objects .events .numbered .few in
       let i = field-number j (omega (arith, b .1)) in
-      let q = known j (p .eventCount) b in (
-        λ z. gives m k u h 20 (pos j) (pos 0) (pos 0) (pos 0) (omega arith) (omega arith) refl (Refused 2) (rw (i, q, normal-is n, z)),
-        λ z. gives m k u h 20 (pos j) (pos 0) (pos 0) (pos 0) (omega arith) (omega arith) refl (Unchanged 0 (At 0)) (rw (i, q, normal-is n, z)),
+      let q = known m k u h j (p .eventCount) b in (
+        λ z. gives m k u h 20 (pos j) (pos 0) (pos 0) (pos 0) (omega arith) (omega arith) refl (Refused 2) (rw (i, q, normal-is m k u h n, z)),
+        λ z. gives m k u h 20 (pos j) (pos 0) (pos 0) (pos 0) (omega arith) (omega arith) refl (Unchanged 0 (At 0)) (rw (i, q, normal-is m k u h n, z)),
       )
 
   send-buffer-corner : (j x : ℕ) → p .mode ≡ 3 → Between 1 (p .bufferCount) j → x ≤ durationLimit → buffer j p .queue .len ≡ buffer j p .limit → Refuses m (callBy k 24 (pos j) (pos x) (pos 0) (pos 0)) 2
   unfolding Sv.callDecision Sv.services Pl.strayField Bu.sendBuffer D.awaiting D.queued D.checked
   send-buffer-corner j x n b ok full =
       gives m k u h 24 (pos j) (pos x) (pos 0) (pos 0) (omega arith) (omega arith) refl (Refused 2)
-      (rw (field-number j (omega (arith, b .1, v .objects .buffers .numbered .few)), field-number x (omega arith), known j (p .bufferCount) b, normal-is n, from-zero x, le-leb x durationLimit ok, le-ltb (buffer j p .queue .len) (buffer j p .limit) (omega (arith, full))))
+      (rw (field-number j (omega (arith, b .1, v .objects .buffers .numbered .few)), field-number x (omega arith), known m k u h j (p .bufferCount) b, normal-is m k u h n, from-zero x, le-leb x durationLimit ok, le-ltb (buffer j p .queue .len) (buffer j p .limit) (omega (arith, full))))
 
   receive-buffer-corner : (j : ℕ) → p .mode ≡ 3 → Between 1 (p .bufferCount) j → buffer j p .queue .len ≡ 0 → Refuses m (callBy k 25 (pos j) (pos 0) (pos 0) (pos 0)) 2
   unfolding Sv.callDecision Sv.services Pl.strayField Bu.receiveBuffer D.awaiting D.queued D.checked
   receive-buffer-corner j n b none =
       gives m k u h 25 (pos j) (pos 0) (pos 0) (pos 0) (omega arith) (omega arith) refl (Refused 2)
-      (rw (field-number j (omega (arith, b .1, v .objects .buffers .numbered .few)), known j (p .bufferCount) b, normal-is n, none))
+      (rw (field-number j (omega (arith, b .1, v .objects .buffers .numbered .few)), known m k u h j (p .bufferCount) b, normal-is m k u h n, none))
 
   read-blackboard-corner : (j : ℕ) → p .mode ≡ 3 → Between 1 (p .blackboardCount) j
       → (blackboard j p .shown ≡ false → Refuses m (callBy k 28 (pos j) (pos 0) (pos 0) (pos 0)) 2)
@@ -558,9 +528,9 @@ module _ (m : Module) (k : ℕ) (u : SoundModule m) (h : Calling m k) where
   unfolding Sv.callDecision Sv.services Pl.strayField Bb.readBlackboard D.awaiting D.queued D.checked
   read-blackboard-corner j n b =
       let i = field-number j (omega (arith, b .1, v .objects .blackboards .numbered .few)) in
-      let q = known j (p .blackboardCount) b in (
-        λ z. gives m k u h 28 (pos j) (pos 0) (pos 0) (pos 0) (omega arith) (omega arith) refl (Refused 2) (rw (i, q, normal-is n, z)),
-        λ z. gives m k u h 28 (pos j) (pos 0) (pos 0) (pos 0) (omega arith) (omega arith) refl (Unchanged (blackboard j p .message) (At 0)) (rw (i, q, normal-is n, z)),
+      let q = known m k u h j (p .blackboardCount) b in (
+        λ z. gives m k u h 28 (pos j) (pos 0) (pos 0) (pos 0) (omega arith) (omega arith) refl (Refused 2) (rw (i, q, normal-is m k u h n, z)),
+        λ z. gives m k u h 28 (pos j) (pos 0) (pos 0) (pos 0) (omega arith) (omega arith) refl (Unchanged (blackboard j p .message) (At 0)) (rw (i, q, normal-is m k u h n, z)),
       )
 
   -- ---------------------------------------------------------------- SIGNAL, PERIODIC_WAIT
@@ -569,7 +539,7 @@ module _ (m : Module) (k : ℕ) (u : SoundModule m) (h : Calling m k) where
   signal-corner j b z =
       let few = v .objects .semaphores .numbered .few in
       gives m k u h 16 (pos j) (pos 0) (pos 0) (pos 0) (omega arith) (omega arith) refl (Refused 1)
-      (rw (field-number j (omega (arith, b .1)), known j (p .semaphoreCount) b, eq-eqb (semaphore j p .value) (semaphore j p .max) z))
+      (rw (field-number j (omega (arith, b .1)), known m k u h j (p .semaphoreCount) b, eq-eqb (semaphore j p .value) (semaphore j p .max) z))
 
   periodic-wait-corner : (r n : ℕ) → let id = running p in
       let x = process id p in
@@ -583,11 +553,11 @@ module _ (m : Module) (k : ℕ) (u : SoundModule m) (h : Calling m k) where
       let g : periodic x ≡ true = rw f in
       let s = settingOf (m .table .frame) (m .t) p in
       let is : nextRelease x ≡ awaitsNext (r + n) x =
-      let a = next-plain s x (v .eachProcess id b) (normal-is normal) (caller-ready normal) (u .time) g ∙ ap₂ plainLater e f in
-      let d = next-deadline-plain s x (v .eachProcess id b) (normal-is normal) (caller-ready normal) (u .time) g ∙ ap (λ (t : Time). plainLater t (x .given .capacity)) (ap₂ plainLater e f) in
+      let a = next-plain s x (v .eachProcess id b) (normal-is m k u h normal) (caller-ready normal) (u .time) g ∙ ap₂ plainLater e f in
+      let d = next-deadline-plain s x (v .eachProcess id b) (normal-is m k u h normal) (caller-ready normal) (u .time) g ∙ ap (λ (t : Time). plainLater t (x .given .capacity)) (ap₂ plainLater e f) in
       rw (d, a) in
       puts-is m k _ _
-      (gives m k u h 10 (pos 0) (pos 0) (pos 0) (pos 0) (omega arith) (omega arith) refl (Blocked id (awaitsNext (r + n) x)) (rw (normal-is normal, is, f, le-ltb 0 (p .level) (omega (arith, free)))))
+      (gives m k u h 10 (pos 0) (pos 0) (pos 0) (pos 0) (omega arith) (omega arith) refl (Blocked id (awaitsNext (r + n) x)) (rw (normal-is m k u h normal, is, f, le-ltb 0 (p .level) (omega (arith, free)))))
       (stored-leaves p (v .lists) id b (awaitsNext (r + n) x) (caller-ready normal) (rw (and-false (not (x .suspended))) (and-false (x .started))) (rw (ready-off x (caller-ready normal))))
 
 pub corners : (m : Module) (k : ℕ) → Calling m k → Corners m k

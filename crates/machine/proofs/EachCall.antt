@@ -52,7 +52,7 @@ use Rattle.machine.proofs.Tests.{Passed, and-left, and-right, or-left, 
 use Rattle.machine.proofs.Either.{either}
 use Rattle.machine.proofs.Calling.{field-number, empty-current, calling-sound, calling-valid, asked, decides, gives, own-after}
 use Rattle.machine.proofs.Keeping.{process-stored, stored-listed, each-process}
-use Rattle.machine.proofs.Corners.{puts-is, stored-steady, known, normal-is, normal-not}
+use Rattle.machine.proofs.Calling.{puts-is, stored-steady, known, normal-is, normal-not}
 use Rattle.machine.proofs.Kept.{running-caller, waiters-created}
 use Rattle.machine.proofs.Bounds.{within-in, named-in, created-in, buffer-in, semaphore-in, event-in, blackboard-in}
 use Rattle.machine.proofs.Queues.{event-queue, blackboard-queue, first-created}

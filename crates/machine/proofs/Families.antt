@@ -43,7 +43,7 @@ use Rattle.machine.proofs.Moves as Mo
 use Rattle.machine.proofs.Keeping.{stored-rest, changed-rest}
 use Rattle.machine.proofs.Sound.{carried-sound}
 use Rattle.machine.proofs.Calling.{field-number, calling-sound, calling-valid, calling-place, decides, gives, own-after}
-use Rattle.machine.proofs.Corners.{known}
+use Rattle.machine.proofs.Calling.{known}
 use Rattle.machine.proofs.Reached.{valid-sound, reached-valid}
 use Rattle.machine.proofs.Queues.{rest-objects, noted-objects, changes-queue, queue-after, blackboard-queue, first-created, ended-is, time-out, a-message, ends-handed, queued-last, first-served-by, none-served, all-served-by, wait-semaphore, wait-event, signal-first, signal-none, set-event}
 use Rattle.machine.proofs.Available.{none-waits}

@@ -52,7 +52,7 @@ use Rattle.machine.proofs.Sound.{ready-off}
 use Rattle.machine.proofs.Reached.{at-set, plain-part, tick-module-plain, place, made, made-sound, made-body, part-sound, erased-sound, refilled-keeps, on-queue, valid-sound, reached-valid, decided-sound}
 use Rattle.machine.proofs.Answers.{decided-table}
 use Rattle.machine.proofs.Calling.{field-number, number-of, calling-sound, calling-valid, gives, own-after}
-use Rattle.machine.proofs.Corners.{stored-leaves, puts-is, normal-is, normal-not}
+use Rattle.machine.proofs.Calling.{stored-leaves, puts-is, normal-is, normal-not}
 use Rattle.machine.proofs.Starred.{own-restarted}
 use Rattle.machine.proofs.Isolation.{left-right}
 

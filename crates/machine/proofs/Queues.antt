@@ -65,7 +65,7 @@ use Rattle.machine.proofs.Dispatch.{by-call, Calls, by-event}
 use Rattle.machine.proofs.Bodies.{Bodily, bodyRefusal}
 use Rattle.machine.proofs.Kept.{tick-valid, change-valid, nothing-valid, Caller, running-caller, waiters-distinct, waiters-exact, waiters-on, waiters-created, firsts-created, let-in-valid, ended-valid, end-same}
 use Rattle.machine.proofs.Calling.{field-number, from-zero, calling-valid, asked, decides, gives, own-after}
-use Rattle.machine.proofs.Corners.{known}
+use Rattle.machine.proofs.Calling.{known}
 use Rattle.machine.proofs.Reached.{at-set, plain-part, tick-module-plain, place, context-sound, made, made-sound, made-body, decided-sound, valid-sound, reached-valid, part-sound, erased-sound, refilled-keeps, on-queue, transfer-sound}
 use Rattle.machine.proofs.Answers.{decided-table}
 use Rattle.machine.proofs.Plain.{by-id-plain, stored-plain}

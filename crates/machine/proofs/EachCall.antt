@@ -1,15 +1,15 @@
 -- What each call does: its checks in the order written, and the whole record after it. Assumes nothing.
 use Prim.Native.Nat.{ℕ, zero, suc, _+_, _-_, _%_, _≤_, _<_, max}
-use mathlib.Core.Path.{_≡_, refl, sym, ap, _∙_}
-use mathlib.Core.Bool.{Bool, true, false, cond, not, _&&_, _||_, and-true}
+use mathlib.Core.Path.{_≡_, refl, sym, ap, _∙_, ap₂}
+use mathlib.Core.Bool.{Bool, true, false, cond, not, _&&_, _||_, and-true, and-false}
 use mathlib.Core.List.{List, [], _∷_, _++_, map}
-use mathlib.Core.Logic.{inl, inr}
+use mathlib.Core.Logic.{inl, inr, ⊎-elim}
 use native.Mathlib.Omega.{arith}
-use lib.ListN.{length, getD, take, drop, length-take, List·getD-map}
-use lib.Seq.{getD-take}
+use lib.ListN.{length, getD, take, drop, length-take, List·getD-map, length-set}
+use lib.Seq.{getD-take, ext-getD, getD-set-other, getD-set-same, set-getD}
 use lib.IntN.{ℤ, pos, negsuc}
 use lib.Dec.{leb, ltb, eqb}
-use borrow.Author.Tests.{eq-eqb, ne-eqb, eqb-true, le-leb, lt-leb, eqb-false, leb-true, leb-false, ltb-true, ltb-false, lt-ltb, not-false}
+use borrow.Author.Tests.{eq-eqb, ne-eqb, eqb-true, le-leb, lt-leb, eqb-false, leb-true, leb-false, ltb-true, ltb-false, lt-ltb, not-false, le-ltb}
 use Rattle.machine.specs.declared.Process.{Process}
 use Rattle.machine.specs.declared.Partition.{Partition}
 use Rattle.machine.specs.declared.Transfer.{Transfer}
@@ -28,10 +28,10 @@ use Rattle.machine.specs.declared.Wait.the-variants.{None, Normal, Delay
 use Rattle.machine.specs.declared.Time.{Time}
 use Rattle.machine.specs.declared.Time.the-variants.{Never, At}
 use Rattle.machine.specs.declared.Field.the-variants.{Number}
-use Rattle.machine.specs.Limits.{callLimit, durationLimit, timeLimit, greatestTime, greatestValue, processLimit, semaphoreLimit, eventLimit, bufferLimit, blackboardLimit, channelLimit, nameLimit, messageLimit, valueLimit, priorityLimit}
-use Rattle.machine.specs.Fields.{field, requestOf, between, isNumber, isTimeout, timeOf, numberOf}
-use Rattle.machine.specs.Process.{later, isNever, carried, nextRelease, entered, startRule, startedEarly, ready, periodic, waitsForNormal, createdProcess, blankProcess, object, served, handed, resumed, suspendedUntil, waitingFor}
-use Rattle.machine.specs.Partition.{normalMode, enteredNormal, withMode, byId, noSemaphore, noEvent, noBuffer, noBlackboard, process, semaphore, event, buffer, blackboard, firstWaiter, stored, storedSemaphore, storedEvent, storedBuffer, movedIn, storedBlackboard, waiters, applied, running, withLock}
+use Rattle.machine.specs.Limits.{callLimit, durationLimit, timeLimit, greatestTime, greatestValue, processLimit, semaphoreLimit, eventLimit, bufferLimit, blackboardLimit, channelLimit, nameLimit, messageLimit, valueLimit, priorityLimit, levelLimit, modeLimit}
+use Rattle.machine.specs.Fields.{field, requestOf, isNumber, isTimeout, timeOf, numberOf}
+use Rattle.machine.specs.Process.{later, isNever, carried, nextRelease, entered, startRule, startedEarly, ready, periodic, waitsForNormal, createdProcess, blankProcess, object, served, handed, resumed, suspendedUntil, waitingFor, onObject, waitsForNothing, withCurrent, withSuspended}
+use Rattle.machine.specs.Partition.{normalMode, enteredNormal, withMode, byId, noSemaphore, noEvent, noBuffer, noBlackboard, process, semaphore, event, buffer, blackboard, firstWaiter, stored, storedSemaphore, storedEvent, storedBuffer, movedIn, storedBlackboard, waiters, applied, running, withLock, eachFrom, nothingCreated, withModeAndLock}
 use Rattle.machine.specs.Objects as Ob
 use Rattle.machine.specs.Blackboards as Bb
 use Rattle.machine.specs.Buffers as Bu
@@ -40,30 +40,33 @@ use Rattle.machine.specs.Decisions as D
 use Rattle.machine.specs.Decisions.{replyOf}
 use Rattle.machine.specs.Calls as C
 use Rattle.machine.specs.Services.{Service, noService, services, serviceOf, callDecision}
-use Rattle.machine.specs.Messages.{held, sent, received, first}
+use Rattle.machine.specs.Messages.{held, sent, received, first, noQueue, queueOf}
 use Rattle.machine.specs.Places.{malformed, strayField}
-use Rattle.machine.specs.Module.{emptyModule, emptyTable, channel, message, queue, current, runningIn}
-use Rattle.machine.specs.Step.{contextOf, moduleAfter, step}
-use Rattle.machine.specs.Valid.{Between, Numbered, Valid, SoundModule, SoundMove, ValidModule, Reached, plainLater}
-use Rattle.machine.specs.Plain.{plainBetween, plainNumber, plainMinusOne, plainUnknown, plainStored, plainMoved, letGo}
-use Rattle.machine.specs.Starred.{own, callBy, Calling, Gives, Puts, atEnd, withSemaphoreAt, given, withProcess}
-use Rattle.machine.specs.EachCall.{idOf, timeIn, inD, inT, periodicAt, tooLong, named, used, stray, malformedAt, EachEvent, Checks, nowDormant, with, startedAt, withPriority, withEventAt, withBufferAt, withBoardAt, aboveIn, admitted, Starts, Waiting, Stop, StopSelf, Suspend, Resume, GetStatus, SuspendSelf, TimedWait, ResetEvent, SetEvent, Clear, Signal, Show, WaitSemaphore, WaitEvent, ReceiveBuffer, ReadBlackboard, SendBuffer, Write, Read, Send, Receive, Start, DelayedStart, SetPriority, PeriodicWait, CreateEvent, CreateBlackboard, CreateBuffer, CreateSemaphore, CreateProcess, SetMode, EachCall}
-use Rattle.machine.proofs.Tests.{Passed, and-left, and-right, or-left, or-right, not-both, passed-parts}
+use Rattle.machine.specs.Module.{emptyModule, emptyTable, channel, message, queue, current, runningIn, ticksLeft, withMessages, withPart, withQueue}
+use Rattle.machine.specs.Step.{contextOf, moduleAfter, step, restarted}
+use Rattle.machine.specs.Valid.{Between, Numbered, Valid, SoundModule, SoundMove, ValidModule, Reached, plainLater, settingOf}
+use Rattle.machine.specs.Plain.{plainBetween, plainNumber, plainMinusOne, plainUnknown, plainStored, plainMoved, letGo, plainEach, plainRefilledTo, waitOver}
+use Rattle.machine.specs.Starred.{own, callBy, Calling, Gives, Puts, atEnd, withSemaphoreAt, given, withProcess, awaitsNext, awaitsRelease}
+use Rattle.machine.specs.EachCall.{idOf, timeIn, inD, inT, periodicAt, tooLong, named, used, stray, malformedAt, EachEvent, Checks, nowDormant, with, startedAt, withPriority, withEventAt, withBufferAt, withBoardAt, aboveIn, admitted, Starts, Waiting, Stop, StopSelf, Suspend, Resume, GetStatus, SuspendSelf, TimedWait, ResetEvent, SetEvent, Clear, Signal, Show, WaitSemaphore, WaitEvent, ReceiveBuffer, ReadBlackboard, SendBuffer, Write, Read, Send, Receive, Start, DelayedStart, SetPriority, PeriodicWait, CreateEvent, CreateBlackboard, CreateBuffer, CreateSemaphore, CreateProcess, SetMode, EachCall, GetTicksLeft, LockPreemption, UnlockPreemption, entering, restartedAs, withoutInto}
+use Rattle.machine.proofs.Tests.{by-test, Passed, and-left, and-right, or-left, or-right, not-both, passed-parts}
 use Rattle.machine.proofs.Either.{either}
-use Rattle.machine.proofs.Calling.{field-number, empty-current, calling-sound, calling-valid, asked, decides, gives, own-after}
-use Rattle.machine.proofs.Keeping.{process-stored, stored-listed, each-process}
-use Rattle.machine.proofs.Calling.{puts-is, stored-steady, known, normal-is, normal-not}
-use Rattle.machine.proofs.Kept.{running-caller, waiters-created}
-use Rattle.machine.proofs.Bounds.{within-in, named-in, created-in, buffer-in, semaphore-in, event-in, blackboard-in}
+use Rattle.machine.proofs.Calling.{field-number, empty-current, calling-sound, calling-valid, asked, decides, gives, puts-is, stored-steady, known, normal-is, normal-not, calling-context, calling-low, calling-place, stored-leaves}
+use Rattle.machine.proofs.Keeping.{process-stored, stored-listed, process-other}
+use Rattle.machine.proofs.Kept.{running-caller, waiters-created, nothing-valid}
+use Rattle.machine.proofs.Bounds.{within-in, named-in, created-in, buffer-in, semaphore-in, event-in, blackboard-in, same-or-not}
 use Rattle.machine.proofs.Queues.{event-queue, blackboard-queue, first-created}
-use Rattle.machine.proofs.Reached.{queuing-plain, reached-valid}
-use Rattle.machine.proofs.Messages.{queue-first, moved-in-plain}
+use Rattle.machine.proofs.Reached.{queuing-plain, reached-valid, erased-sound, part-sound}
+use Rattle.machine.proofs.Messages.{queue-first, moved-in-plain, moved-plain}
 use Rattle.machine.proofs.Moves as Mo
-use Rattle.machine.proofs.Sound.{capacity-bound, carried-sound}
-use Rattle.machine.proofs.Starred.{waits}
+use Rattle.machine.proofs.Sound.{capacity-bound, carried-sound, ready-off}
 use Rattle.machine.proofs.Refusals.{places}
-use Rattle.machine.proofs.WindowLeft.{current-known}
-use Rattle.machine.proofs.Plain.{lossless, stored-plain, all-plain, arrived-plain, later-uncapped}
+use Rattle.machine.proofs.WindowLeft.{Covered, current-known, covered-or-none, window-left}
+use Rattle.machine.proofs.Plain.{lossless, stored-plain, all-plain, arrived-plain, later-uncapped, each-plain, next-deadline-plain, next-plain, refilled-all, release-deadline-plain, release-point-plain}
+use Rattle.machine.specs.declared.Message.{Message}
+use Rattle.machine.specs.declared.Queue.{Queue}
+use Rattle.machine.specs.Windows.{Uncovered, Release, windows}
+use Rattle.machine.specs.declared.Table.{Table}
+use Rattle.machine.proofs.Starts.{release-earliest, release-one}
 
 -- ---------------------------------------------------------------- numbers
 -- low..high
@@ -146,6 +149,21 @@ above-is (pos n) (negsuc l) a b = rw (field-number n (let r = in-range 1 9999999
 above-is (negsuc n) (pos l) a b = rw (field-number l (let s = in-range 1 9999999 l b in omega (arith, s .1))) (ap (λ y. true && (not (eqb n 0) && ltb y l)) (none-of n))
 above-is (negsuc n) (negsuc l) a b = rw (none-of n, none-of l)
 
+-- who waits for something
+pub waits : (w : Wait) → (w ≡ None → ⊥) → waitsForNothing w ≡ false
+waits None h = absurd (h refl)
+waits Normal h = refl
+waits Delay h = refl
+waits Timed h = refl
+waits Period h = refl
+waits (Semaphore j) h = refl
+waits (Event j) h = refl
+waits (Sending j m) h = refl
+waits (Receiving j) h = refl
+waits (Blackboard j) h = refl
+waits (Source j m) h = refl
+waits (Destination j) h = refl
+
 -- who waits for NORMAL
 not-normal : (w : Wait) → (w ≡ Normal → ⊥) → waitsForNormal w ≡ false
 not-normal None h = refl
@@ -167,6 +185,62 @@ at-most n h = omega arith
 first-passed : (test : Bool) (code : ℕ) (l : List (Bool × ℕ)) → Passed ((test, code) ∷ l) → test ≡ false
 unfolding Passed
 first-passed test code l q = q .0
+
+in-modes : (a : ℤ) → plainBetween 0 3 a ≡ true → idOf a ≤ modeLimit
+in-modes (pos n) h = in-range 0 3 n h .1
+in-modes (negsuc n) h = not-both _ h refl
+
+-- a change of each process of a partition goes by what it makes of those there
+each-alike : (f g : Process → Process) (n id : ℕ) (p : Partition) → ((y : ℕ) → id ≤ y → y < id + n → f (process y p) ≡ g (process y p)) → eachFrom f n id p ≡ eachFrom g n id p
+unfolding eachFrom
+each-alike f g zero id p same = refl
+each-alike f g (suc n) id p same =
+    ap (λ (x : Process). eachFrom f n (id + 1) (stored id x p)) (same id (omega arith) (omega arith))
+    ∙ each-alike f g n (id + 1) (stored id (g (process id p)) p) (λ y lo hi.
+    let other = process-other p id (g (process id p)) y (λ e. omega arith) in
+    rw other (same y (omega arith) (omega arith)))
+
+kept-length : (T : Table) (k n : ℕ) (l : List Message) → length (Ch.keptTo T k n l) ≡ length l
+unfolding Ch.keptTo
+kept-length T k zero l = refl
+kept-length T k (suc n) l = by-test (λ (r : List Message). length r ≡ length l) (eqb (channel T n .destination) k) (λ _. simp length-set (kept-length T k n l)) (λ _. kept-length T k n l)
+
+-- the messages without those on channels into a partition, at each place
+pub kept-at : (T : Table) (k n : ℕ) (l : List Message) (j : ℕ) → j < length l → getD (Ch.keptTo T k n l) j D.noMessage ≡ cond (ltb j n && eqb (channel T j .destination) k) D.noMessage (getD l j D.noMessage)
+unfolding Ch.keptTo
+kept-at T k zero l j h = rw (le-ltb j 0 (omega arith))
+kept-at T k (suc n) l j h =
+    by-test (λ (r : List Message). getD r j D.noMessage ≡ cond (ltb j (suc n) && eqb (channel T j .destination) k) D.noMessage (getD l j D.noMessage)) (eqb (channel T n .destination) k)
+    (λ q. ⊎-elim
+    (λ (e : j ≡ n). rw (e, lt-ltb n (suc n) (omega arith), q) (getD-set-same (Ch.keptTo T k n l) n D.noMessage D.noMessage (rw (kept-length T k n l) (omega arith))))
+    (λ (ne : j ≡ n → ⊥). getD-set-other (Ch.keptTo T k n l) n j D.noMessage D.noMessage ne ∙ kept-at T k n l j h ∙ ap (λ b. cond (b && eqb (channel T j .destination) k) D.noMessage (getD l j D.noMessage)) (below ne))
+    (same-or-not j n))
+    (λ q. kept-at T k n l j h ∙ ⊎-elim
+    (λ (e : j ≡ n). rw (e, q, and-false (ltb n n), and-false (ltb n (suc n))))
+    (λ (ne : j ≡ n → ⊥). ap (λ b. cond (b && eqb (channel T j .destination) k) D.noMessage (getD l j D.noMessage)) (below ne))
+    (same-or-not j n))
+  where
+    below : (j ≡ n → ⊥) → ltb j n ≡ ltb j (suc n)
+    below ne = either (ltb j n)
+        (λ e. rw (e, lt-ltb j (suc n) (omega (arith, ltb-true j n e))))
+        (λ e. rw (e, le-ltb j (suc n) (omega (arith, ltb-false j n e, ne))))
+
+without-size : (T : Table) (k i : ℕ) (l : List Message) → length (withoutInto T k i l) ≡ length l
+unfolding withoutInto
+without-size T k i [] = refl
+without-size T k i (x ∷ l) = ap suc (without-size T k (i + 1) l)
+
+without-at : (T : Table) (k i : ℕ) (l : List Message) (j : ℕ) → j < length l → getD (withoutInto T k i l) j D.noMessage ≡ cond (eqb (channel T (i + j) .destination) k) D.noMessage (getD l j D.noMessage)
+unfolding withoutInto
+without-at T k i [] j h = absurd (omega arith)
+without-at T k i (x ∷ l) zero h = let e : i ≡ i + 0 = omega arith in ap (λ n. cond (eqb (channel T n .destination) k) D.noMessage x) e
+without-at T k i (x ∷ l) (suc j) h = let e : i + 1 + j ≡ i + suc j = omega arith in without-at T k (i + 1) l j (omega arith) ∙ ap (λ n. cond (eqb (channel T n .destination) k) D.noMessage (getD l j D.noMessage)) e
+
+erased-is : (T : Table) (k : ℕ) (l : List Message) → length l ≡ channelLimit → Ch.keptTo T k channelLimit l ≡ withoutInto T k 0 l
+erased-is T k l size = ext-getD D.noMessage (Ch.keptTo T k channelLimit l) (withoutInto T k 0 l) (kept-length T k channelLimit l ∙ sym (without-size T k 0 l)) (λ j h.
+    let lt : j < length l = rw (kept-length T k channelLimit l) at h in
+    let z : 0 + j ≡ j = omega arith in
+    kept-at T k channelLimit l j lt ∙ rw (lt-ltb j channelLimit (omega (arith, lt, size))) (sym (without-at T k 0 l j lt ∙ rw z)))
 
 module _ (m : Module) (k : ℕ) (u : SoundModule m) (h : Calling m k) where
   abbrev p : Partition
@@ -355,14 +429,15 @@ module _ (m : Module) (k : ℕ) (u : SoundModule m) (h : Calling m k) where
     waiting : (a : ℤ) (before : List (Bool × ℕ)) (ok available : Bool) (success : Decision) (w : Wait) (S : Type 0)
         → decides m k u h n x y z e lo hi ≡ D.checked Refused (before ++ ((not (eqb (p .mode) 3), 5) ∷ (not ok, 3) ∷ [])) (cond available success (D.queued (contextOf m k) (field a) w p))
         → (ok ≡ true → inT a ≡ true)
-        → (ok ≡ true → available ≡ true → Gives m (callBy k n x y z e) (replyOf success .code) (replyOf success .value) (replyOf success .extra) (moduleAfter m k success) → S)
+        → (Passed before → ok ≡ true → available ≡ true → Gives m (callBy k n x y z e) (replyOf success .code) (replyOf success .value) (replyOf success .extra) (moduleAfter m k success) → S)
         → Waiting m k (callBy k n x y z e) before ok a available S w
     unfolding Passed D.queued D.blocked D.checked
     waiting a before ok available success w S is t f =
         by-list n x y z e lo hi stray _ (cond available success (D.queued (contextOf m k) (field a) w p)) _ is (λ q g.
-        let r = passed-parts before ((not (eqb (p .mode) 3), 5) ∷ (not ok, 3) ∷ []) q .1 in
+        let passed = passed-parts before ((not (eqb (p .mode) 3), 5) ∷ (not ok, 3) ∷ []) q in
+        let r = passed .1 in
         let until = until-plain a (t (not-false _ (r .1 .0))) in (
-          λ av. f (not-false _ (r .1 .0)) av (rw av at g),
+          λ av. f (passed .0) (not-false _ (r .1 .0)) av (rw av at g),
           λ av. by-list n x y z e lo hi stray _ (Blocked (running p) (waitingFor w (plainLater (At (m .t)) (timeIn a)) (process (running p) p))) _
               (is ∙ passed-is (before ++ ((not (eqb (p .mode) 3), 5) ∷ (not ok, 3) ∷ [])) (cond available success (D.queued (contextOf m k) (field a) w p)) q ∙ rw (av, until, lossless a .isNumber 0 (omega arith)))
               (λ _ g. puts-stored _ 7 (running p) _ (caller (eqb-true _ 3 (not-false _ (r .0))) .0) g),
@@ -372,6 +447,10 @@ module _ (m : Module) (k : ℕ) (u : SoundModule m) (h : Calling m k) where
   buffer-at j r a s =
       let count : max (p .bufferCount) j ≡ p .bufferCount = omega (arith, r .1) in
       buffer-in j _ p (within-in bufferLimit j (r .0) (omega (arith, r .1, v .objects .buffers .numbered .few))) ∙ rw (count, moved-in-plain (buffer j p) (v .objects .buffers .each j r) a s)
+
+  -- another form of the record
+  gives-is : {e : EventT} {code value : ℕ} {extra : Time} {q r : Module} → Gives m e code value extra q → q ≡ r → Gives m e code value extra r
+  gives-is g is = record { codeIs = g .codeIs; valueIs = g .valueIs; extraIs = g .extraIs; state = g .state ∙ is }
 
   -- another value
   gives-value : {e : EventT} {x y : ℕ} {q : Module} → x ≡ y → Gives m e 0 x (At 0) q → Gives m e 0 y (At 0) q
@@ -384,21 +463,21 @@ module _ (m : Module) (k : ℕ) (u : SoundModule m) (h : Calling m k) where
   unfolding callDecision services strayField D.checked D.awaiting Ob.waitSemaphore
   wait-semaphore-law (pos j) a = by-then 15 j a (pos 0) (pos 0) (omega arith) (omega arith) (p .semaphoreCount) few-semaphores _ _ refl (λ t. rw (unknown-is (pos j) (p .semaphoreCount) few-semaphores, t)) (λ f r.
       waiting 15 (pos j) a (pos 0) (pos 0) (omega arith) (omega arith) refl a [] (inT a) (ltb 0 (semaphore j p .value)) (D.changed (Ob.withValue j (semaphore j p .value - 1) p)) (Semaphore j) _
-      (rw (f, known m k u h j (p .semaphoreCount) r, timeout-is a)) (λ o. o) (λ _ _ g. puts-is m k _ _ g (semaphore-at j r (semaphore j p .value - 1))))
+      (rw (f, known m k u h j (p .semaphoreCount) r, timeout-is a)) (λ o. o) (λ _ _ _ g. puts-is m k _ _ g (semaphore-at j r (semaphore j p .value - 1))))
   wait-semaphore-law (negsuc j) a = by-none 15 j a (pos 0) (pos 0) (omega arith) (omega arith) (p .semaphoreCount) few-semaphores _ _ refl (rw (unknown-is (negsuc j) (p .semaphoreCount) few-semaphores))
 
   wait-event-law : WaitEvent m k
   unfolding callDecision services strayField D.checked D.awaiting Ob.waitEvent
   wait-event-law (pos j) a = by-then 20 j a (pos 0) (pos 0) (omega arith) (omega arith) (p .eventCount) few-events _ _ refl (λ t. rw (unknown-is (pos j) (p .eventCount) few-events, t)) (λ f r.
       waiting 20 (pos j) a (pos 0) (pos 0) (omega arith) (omega arith) refl a [] (inT a) (event j p .up) D.unchanged (Event j) _
-      (rw (f, known m k u h j (p .eventCount) r, timeout-is a)) (λ o. o) (λ _ _ g. g))
+      (rw (f, known m k u h j (p .eventCount) r, timeout-is a)) (λ o. o) (λ _ _ _ g. g))
   wait-event-law (negsuc j) a = by-none 20 j a (pos 0) (pos 0) (omega arith) (omega arith) (p .eventCount) few-events _ _ refl (rw (unknown-is (negsuc j) (p .eventCount) few-events))
 
   receive-buffer-law : ReceiveBuffer m k
   unfolding callDecision services strayField D.checked D.awaiting Bu.receiveBuffer received
   receive-buffer-law (pos j) a = by-then 25 j a (pos 0) (pos 0) (omega arith) (omega arith) (p .bufferCount) few-buffers _ _ refl (λ t. rw (unknown-is (pos j) (p .bufferCount) few-buffers, t)) (λ f r.
       waiting 25 (pos j) a (pos 0) (pos 0) (omega arith) (omega arith) refl a [] (inT a) (ltb 0 (buffer j p .queue .len)) (Bu.receives (firstWaiter (object (Sending j 0)) p) j p) (Receiving j) _
-      (rw (f, known m k u h j (p .bufferCount) r, timeout-is a)) (λ o. o) (λ _ av g b l is.
+      (rw (f, known m k u h j (p .bufferCount) r, timeout-is a)) (λ o. o) (λ _ _ av g b l is.
       let s = v .objects .buffers .each j r in
       let some : 1 ≤ buffer j p .queue .len = ltb-true 0 (buffer j p .queue .len) av in
       let value = queue-first (buffer j p .limit) (buffer j p .queue) (s .queue) ∙ ap (λ (t : List ℕ). getD t 0 0) is in (
@@ -419,14 +498,14 @@ module _ (m : Module) (k : ℕ) (u : SoundModule m) (h : Calling m k) where
   unfolding callDecision services strayField D.checked D.awaiting Bb.readBlackboard
   read-blackboard-law (pos j) a = by-then 28 j a (pos 0) (pos 0) (omega arith) (omega arith) (p .blackboardCount) few-blackboards _ _ refl (λ t. rw (unknown-is (pos j) (p .blackboardCount) few-blackboards, t)) (λ f r.
       waiting 28 (pos j) a (pos 0) (pos 0) (omega arith) (omega arith) refl a [] (inT a) (blackboard j p .shown) (Unchanged (blackboard j p .message) (At 0)) (Blackboard j) _
-      (rw (f, known m k u h j (p .blackboardCount) r, timeout-is a)) (λ o. o) (λ _ _ g. g))
+      (rw (f, known m k u h j (p .blackboardCount) r, timeout-is a)) (λ o. o) (λ _ _ _ g. g))
   read-blackboard-law (negsuc j) a = by-none 28 j a (pos 0) (pos 0) (omega arith) (omega arith) (p .blackboardCount) few-blackboards _ _ refl (rw (unknown-is (negsuc j) (p .blackboardCount) few-blackboards))
 
   send-buffer-law : SendBuffer m k
   unfolding callDecision services strayField D.checked D.awaiting Bu.sendBuffer sent
   send-buffer-law (pos j) b a = by-then 24 j b a (pos 0) (omega arith) (omega arith) (p .bufferCount) few-buffers _ _ refl (λ t. rw (unknown-is (pos j) (p .bufferCount) few-buffers, t)) (λ f r.
       waiting 24 (pos j) b a (pos 0) (omega arith) (omega arith) refl a [] (inD b && inT a) (ltb (buffer j p .queue .len) (buffer j p .limit)) (D.changed (Moved j (sent (firstWaiter (object (Receiving j)) p) (idOf b)))) (Sending j (idOf b)) _
-      (either (inD b) (λ o. rw (f, known m k u h j (p .bufferCount) r, number-in 0 durationLimit b (omega arith) o, lossless b .between 0 durationLimit (omega arith), o, timeout-is a)) (λ o. rw (f, known m k u h j (p .bufferCount) r, lossless b .between 0 durationLimit (omega arith), o))) (λ o. and-right (inD b) _ o) (λ o av g. (
+      (either (inD b) (λ o. rw (f, known m k u h j (p .bufferCount) r, number-in 0 durationLimit b (omega arith) o, lossless b .between 0 durationLimit (omega arith), o, timeout-is a)) (λ o. rw (f, known m k u h j (p .bufferCount) r, lossless b .between 0 durationLimit (omega arith), o))) (λ o. and-right (inD b) _ o) (λ _ o av g. (
         λ w. puts-is m k _ _ (rw w at g) (buffer-at j r (Put (idOf b)) (ltb-true _ _ av, in-D b (and-left (inD b) _ o))),
         λ id rest w.
             let c = first-created (object (Receiving j)) (λ z. omega arith) p (v .lists) id rest w in
@@ -443,20 +522,31 @@ module _ (m : Module) (k : ℕ) (u : SoundModule m) (h : Calling m k) where
 
   -- a channel by its number
   module _ (j : ℕ) (r : Between 1 count j) where
-    there : j - 1 < count
-    there = omega (arith, r .0, r .1)
+    there-is : j - 1 < count
+    there-is = omega (arith, r .0, r .1)
 
     kind : Ch.queuing (channel (m .table) (j - 1)) ≡ ltb 0 (channel (m .table) (j - 1) .size)
-    kind = queuing-plain (m .table) (u .table) (j - 1) there
+    kind = queuing-plain (m .table) (u .table) (j - 1) there-is
 
     exists : (leb 1 j && leb j count) ≡ true
     exists = rw (le-leb 1 j (r .0), le-leb j count (r .1))
 
     low : ltb (j - 1) channelLimit ≡ true
-    low = lt-ltb (j - 1) channelLimit (omega (arith, there, u .table .channelCount))
+    low = lt-ltb (j - 1) channelLimit (omega (arith, there-is, u .table .channelCount))
 
     place : j - 1 + 1 ≡ j
     place = omega (arith, r .0)
+
+    few-messages : channel (m .table) (j - 1) .size ≤ messageLimit
+    few-messages = let g = u .table .eachChannel (j - 1) there-is .room in omega arith
+
+    -- at the destination it is not the source
+    apart-ends : (k : ℕ) → eqb (channel (m .table) (j - 1) .destination) k ≡ true → eqb (channel (m .table) (j - 1) .source) k ≡ false
+    apart-ends k t = ne-eqb _ k (λ z. u .table .eachChannel (j - 1) there-is .apart (z ∙ sym (eqb-true _ k t)))
+
+  -- the partition at the other end
+  other-valid : (n : ℕ) → Between 1 (m .table .size) n → Valid (m .table .frame) (m .t) (own m n)
+  other-valid n b = u .eachPartition (n - 1) (omega (arith, b .0, b .1))
 
   write-law : Write m k
   unfolding callDecision services strayField D.checked Passed D.awaiting Ch.channelChecks Ch.write
@@ -476,22 +566,36 @@ module _ (m : Module) (k : ℕ) (u : SoundModule m) (h : Calling m k) where
   read-law (negsuc j) = by-none 22 j (pos 0) (pos 0) (pos 0) (omega arith) (omega arith) count few-channels _ _ refl (rw (lossless (negsuc j) .between 1 count few-channels))
 
   send-law : Send m k
-  unfolding callDecision services strayField D.checked Passed D.awaiting Ch.channelChecks Ch.send
+  unfolding callDecision services strayField D.checked Passed D.awaiting Ch.channelChecks Ch.send sent
   send-law (pos j) b a = by-then 30 j b a (pos 0) (omega arith) (omega arith) count few-channels _ _ refl (λ t. rw (lossless (pos j) .between 1 count few-channels, t)) (λ f r.
       let c = channel (m .table) (j - 1) in
       waiting 30 (pos j) b a (pos 0) (omega arith) (omega arith) refl a ((not (ltb 0 (c .size)), 3) ∷ (not (eqb (c .source) k) && not (eqb (c .destination) k), 3) ∷ (not (eqb (c .source) k), 5) ∷ []) (inD b && inT a)
       (ltb (queue m (j - 1) .len) (c .size)) (PassedOn (j - 1) (sent (firstWaiter (object (Destination (j - 1 + 1))) (own m (c .destination))) (idOf b)) 0) (Source j (idOf b)) _
       (either (inD b)
       (λ o. either (ltb 0 (c .size)) (λ s. either (eqb (c .source) k)
-      (λ t. rw (f, exists j r, lt-ltb (j - 1) count (there j r), kind j r, low j r, s, t, number-in 0 durationLimit b (omega arith) o, lossless b .between 0 durationLimit (omega arith), o, timeout-is a) (rw (place j r)))
+      (λ t. rw (f, exists j r, lt-ltb (j - 1) count (there-is j r), kind j r, low j r, s, t, number-in 0 durationLimit b (omega arith) o, lossless b .between 0 durationLimit (omega arith), o, timeout-is a) (rw (place j r)))
       (λ t. rw (f, exists j r, kind j r, low j r, s, t)))
       (λ s. rw (f, exists j r, kind j r, s)))
       (λ o. rw (f, exists j r, kind j r, low j r, lossless b .between 0 durationLimit (omega arith), o) (rw (and-true (ltb 0 (c .size))))))
-      (λ o. and-right (inD b) _ o) (λ _ _ g. g .codeIs))
+      (λ o. and-right (inD b) _ o) (λ before o av g.
+      let from = not-false (eqb (c .source) k) (before .1 .1 .0) in
+      let q = queue m (j - 1) in
+      let sound = u .eachQueue (j - 1) in
+      let fits = few-messages j r in
+      let there = own m (c .destination) in (
+        λ w. gives-is (rw (place j r, w) at g) (ap (λ (y : Queue). withQueue (j - 1) y m) (moved-plain (c .size) q sound fits (Put (idOf b)) (ltb-true (q .len) (c .size) av, in-D b (and-left (inD b) (inT a) o)))),
+        λ id rest w.
+            let v = other-valid (c .destination) (u .table .eachChannel (j - 1) (there-is j r) .destination) in
+            let created = first-created (object (Destination j)) (λ z. omega arith) there (v .lists) id rest w in
+            let x = waitOver 0 (idOf b) (process id there) in
+            gives-is (rw (place j r, w, ne-eqb id 0 (λ z. omega (arith, created .0)), from) at g)
+            (ap (λ (l : List Queue). withPart (c .destination - 1) (stored id x there) (record { table = m .table; t = m .t; messages = m .messages; queues = l; partitions = m .partitions })) (set-getD (m .queues) (j - 1) noQueue)
+            ∙ ap (λ (y : Partition). withPart (c .destination - 1) y m) (stored-plain there (v .lists) id created x)),
+      )))
   send-law (negsuc j) b a = by-none 30 j b a (pos 0) (omega arith) (omega arith) count few-channels _ _ refl (rw (lossless (negsuc j) .between 1 count few-channels))
 
   receive-law : Receive m k
-  unfolding callDecision services strayField D.checked Passed D.awaiting Ch.channelChecks Ch.receive
+  unfolding callDecision services strayField D.checked Passed D.awaiting Ch.channelChecks Ch.receive received
   receive-law (pos j) a = by-then 31 j a (pos 0) (pos 0) (omega arith) (omega arith) count few-channels _ _ refl (λ t. rw (lossless (pos j) .between 1 count few-channels, t)) (λ f r.
       let c = channel (m .table) (j - 1) in
       let id = firstWaiter (object (Source (j - 1 + 1) 0)) (own m (c .source)) in
@@ -499,11 +603,30 @@ module _ (m : Module) (k : ℕ) (u : SoundModule m) (h : Calling m k) where
       (ltb 0 (queue m (j - 1) .len)) (PassedOn (j - 1) (received id (carried (process id (own m (c .source))))) (first (queue m (j - 1)))) (Destination j) _
       (either (ltb 0 (c .size)) (λ s. either (eqb (c .destination) k)
       (λ t.
-      let other : eqb (c .source) k ≡ false = ne-eqb (c .source) k (λ z. u .table .eachChannel (j - 1) (there j r) .apart (z ∙ sym (eqb-true _ k t))) in
-      rw (f, exists j r, lt-ltb (j - 1) count (there j r), kind j r, low j r, s, t, other, timeout-is a) (rw (place j r)))
+      let other = apart-ends j r k t in
+      rw (f, exists j r, lt-ltb (j - 1) count (there-is j r), kind j r, low j r, s, t, other, timeout-is a) (rw (place j r)))
       (λ t. rw (f, exists j r, kind j r, low j r, s, t)))
       (λ s. rw (f, exists j r, kind j r, s)))
-      (λ o. o) (λ _ _ g. g .codeIs))
+      (λ o. o) (λ before _ av g b l is.
+      let to = not-false (eqb (c .destination) k) (before .1 .1 .0) in
+      let other : eqb (c .source) k ≡ false = apart-ends j r k to in
+      let q = queue m (j - 1) in
+      let sound = u .eachQueue (j - 1) in
+      let fits = few-messages j r in
+      let some = ltb-true 0 (q .len) av in
+      let there = own m (c .source) in
+      let value : first q ≡ b = queue-first (c .size) q sound ∙ ap (λ (t : List ℕ). getD t 0 0) is in (
+        λ w. gives-value value (gives-is (rw (place j r, w) at g) (ap (λ (y : Queue). withQueue (j - 1) y m) (moved-plain (c .size) q sound fits Taken some ∙ ap (λ (t : List ℕ). queueOf (drop 1 t)) is))),
+        λ id rest w.
+            let v = other-valid (c .source) (u .table .eachChannel (j - 1) (there-is j r) .source) in
+            let created = first-created (object (Source j 0)) (λ z. omega arith) there (v .lists) id rest w in
+            let x = letGo (process id there) in
+            let n = carried (process id there) in
+            let small = carried-sound _ (process id there) (v .eachProcess id created) in
+            gives-value value (gives-is (rw (place j r, w, ne-eqb id 0 (λ z. omega (arith, created .0)), other) at g)
+            (ap (λ (y : Queue). withPart (c .source - 1) (stored id x there) (withQueue (j - 1) y m)) (moved-plain (c .size) q sound fits (LetIn id n) (some, small) ∙ ap (λ (t : List ℕ). queueOf (drop 1 t ++ (n ∷ []))) is)
+            ∙ ap (λ (y : Partition). withPart (c .source - 1) y (withQueue (j - 1) (queueOf (l ++ (n ∷ []))) m)) (stored-plain there (v .lists) id created x))),
+      )))
   receive-law (negsuc j) a = by-none 31 j a (pos 0) (pos 0) (omega arith) (omega arith) count few-channels _ _ refl (rw (lossless (negsuc j) .between 1 count few-channels))
 
   -- ---------------------------------------------------------------- starting
@@ -524,6 +647,23 @@ module _ (m : Module) (k : ℕ) (u : SoundModule m) (h : Calling m k) where
       let d = later-uncapped (timeLimit + durationLimit) durationLimit (At (m .t + n)) c (omega (arith, u .time)) (capacity-bound (x .given .period) c (v .eachProcess j b .lasting .given .capacity)) (omega arith) in
       rw (never, at, d) (either (eqb n 0) (λ e. rw e) (λ e. rw e))
 
+  period-low : (id n : ℕ) → Between 1 (p .processCount) id → process id p .given .period ≡ At n → Between 1 durationLimit n
+  period-low id n b e = (rw e at (v .eachProcess id b .lasting .given .period)) .0
+
+  -- the start rule of a periodic process, where r is the next release point
+  released-is : (r : ℕ) → Release (m .table) k (m .t) r → (id delay n : ℕ) → Between 1 (p .processCount) id → process id p .given .period ≡ At n → delay ≤ durationLimit
+      → startRule (contextOf m k) delay (process id p) ≡ awaitsRelease (r + delay) (process id p .times .delay) (process id p .given .base) false false (process id p)
+  unfolding startRule
+  released-is r f id delay n b e short =
+      let l = v .eachProcess id b .lasting in
+      let c = contextOf m k in
+      let is : c .release ≡ r = release-one (m .table) (u .table) (m .t) k _ r (release-earliest (m .table) (u .table) (m .t) k (h .some, calling-low m k u h) (u .time)) f in
+      rw (e, release-deadline-plain c p (calling-context m k u h) (process id p) l delay short, release-point-plain c p (calling-context m k u h) (process id p) l delay short, is)
+
+  -- a DORMANT process is stored: it is not READY and waits on no object, before and after
+  dormant-stored : (id : ℕ) → Between 1 (p .processCount) id → process id p .started ≡ false → (x : Process) → ready x ≡ false → onObject x ≡ false → stored id x p ≡ withProcess id x (p .arrival) p
+  dormant-stored id b off x unready free = stored-steady p (v .lists) id b x (rw off (sym unready)) (rw (v .eachProcess id b .dormant off .wait) (sym free))
+
   module _ (n j : ℕ) (delay : ℤ) (lo : 1 ≤ n) (hi : n ≤ callLimit) (e : ℤ) (stray : strayField (serviceOf n .fields) (asked m k u h n (field (pos j)) (field e) (Number 0) (Number 0)) ≡ false) where
     starts-by : (not (plainBetween 1 (p .processCount) (pos j)) ≡ true → decides m k u h n (pos j) e (pos 0) (pos 0) lo hi ≡ Refused 3)
         → (field (pos j) ≡ Number j → decides m k u h n (pos j) e (pos 0) (pos 0) lo hi ≡ C.start (contextOf m k) j (field delay) p)
@@ -536,6 +676,7 @@ module _ (m : Module) (k : ℕ) (u : SoundModule m) (h : Calling m k) where
         let g = rw (number-in 0 durationLimit delay (omega arith) d) at g in (
           λ early. puts-stored _ 0 j _ b (rw (normal-not m k u h early) at g),
           λ normal never. puts-stored _ 0 j _ b (rw (normal-is m k u h normal, aperiodic-is j (idOf delay) b (in-D delay d) never) at g),
+          λ i r normal e f. puts-is m k _ _ (rw (normal-is m k u h normal, released-is r f j (idOf delay) i b e (in-D delay d)) at g) (dormant-stored j b (q .1 .0) _ refl refl),
         ))
 
   start-law : Start m k
@@ -567,8 +708,58 @@ module _ (m : Module) (k : ℕ) (u : SoundModule m) (h : Calling m k) where
   set-priority-law (negsuc j) a = by-none 12 j a (pos 0) (pos 0) (omega arith) (omega arith) (p .processCount) few _ _ refl (rw (unknown-is (negsuc j) (p .processCount) few))
 
   periodic-wait-law : PeriodicWait m k
-  unfolding callDecision services strayField D.checked D.blocked C.periodicWait
-  periodic-wait-law = by-list 10 (pos 0) (pos 0) (pos 0) (pos 0) (omega arith) (omega arith) refl _ (Blocked (running p) (nextRelease (process (running p) p))) _ (rw (periodic-is (process (running p) p))) (λ _ g. g .codeIs)
+  unfolding callDecision services strayField D.checked Passed D.blocked C.periodicWait
+  periodic-wait-law = by-list 10 (pos 0) (pos 0) (pos 0) (pos 0) (omega arith) (omega arith) refl _ (Blocked (running p) (nextRelease (process (running p) p))) _ (rw (periodic-is (process (running p) p))) (λ q g r n e f.
+      let normal = eqb-true _ 3 (not-false _ (or-left _ _ (q .0))) in
+      let c = caller normal in
+      let x = process (running p) p in
+      let s = settingOf (m .table .frame) (m .t) p in
+      let next = next-plain s x (v .eachProcess (running p) (c .0)) (normal-is m k u h normal) (c .1) (u .time) (rw f) ∙ ap₂ plainLater e f in
+      let last = next-deadline-plain s x (v .eachProcess (running p) (c .0)) (normal-is m k u h normal) (c .1) (u .time) (rw f) ∙ ap (λ (t : Time). plainLater t (x .given .capacity)) (ap₂ plainLater e f) in
+      puts-is m k _ _ (rw (last, next) at g) (stored-leaves p (v .lists) (running p) (c .0) (awaitsNext (r + n) x) (c .1) (rw (and-false (not (x .suspended))) (and-false (x .started))) (rw (ready-off x (c .1)))))
+
+  -- ---------------------------------------------------------------- the preemption lock, ticks left
+  lock-law : LockPreemption m k
+  unfolding callDecision services strayField D.checked C.lockPreemption
+  lock-law = by-list 32 (pos 0) (pos 0) (pos 0) (pos 0) (omega arith) (omega arith) refl _ (D.changed (LevelSet (p .level + 1) (cond (eqb (p .level) 0) (running p) (p .holder)))) _ (rw (full, holder)) (λ _ g. g)
+    where
+      full : leb levelLimit (p .level) ≡ eqb (p .level) 16
+      full = either (eqb (p .level) 16)
+          (λ e. rw (e, le-leb levelLimit (p .level) (omega (arith, eqb-true (p .level) 16 e))))
+          (λ e. rw (e, lt-leb levelLimit (p .level) (omega (arith, v .lock .few, eqb-false (p .level) 16 e))))
+
+      holder : cond (ltb 0 (p .level)) (p .holder) (running p) ≡ cond (eqb (p .level) 0) (running p) (p .holder)
+      holder = either (eqb (p .level) 0)
+          (λ e. rw (e, le-ltb 0 (p .level) (omega (arith, eqb-true (p .level) 0 e))))
+          (λ e. rw (e, lt-ltb 0 (p .level) (omega (arith, eqb-false (p .level) 0 e))))
+
+  unlock-law : UnlockPreemption m k
+  unfolding callDecision services strayField D.checked C.unlockPreemption
+  unlock-law = by-list 33 (pos 0) (pos 0) (pos 0) (pos 0) (omega arith) (omega arith) refl _ (D.changed (LevelSet (p .level - 1) (cond (eqb (p .level) 1) 0 (p .holder)))) _ (rw (free, holder)) (λ _ g. g)
+    where
+      free : not (ltb 0 (p .level)) ≡ eqb (p .level) 0
+      free = either (eqb (p .level) 0)
+          (λ e. rw (e, le-ltb 0 (p .level) (omega (arith, eqb-true (p .level) 0 e))))
+          (λ e. rw (e, lt-ltb 0 (p .level) (omega (arith, eqb-false (p .level) 0 e))))
+
+      holder : cond (ltb 0 (p .level - 1)) (p .holder) 0 ≡ cond (eqb (p .level) 1) 0 (p .holder)
+      holder = either (ltb 0 (p .level - 1))
+          (λ e. rw (e, ne-eqb (p .level) 1 (λ z. omega (arith, ltb-true 0 (p .level - 1) e))))
+          (λ e. either (eqb (p .level) 1) (λ o. rw (e, o)) (λ o. rw (e, o) (sym (v .lock .free (omega (arith, ltb-false 0 (p .level - 1) e, eqb-false (p .level) 1 o))))))
+
+  ticks-left-law : GetTicksLeft m k
+  unfolding callDecision services strayField C.getTicksLeft
+  ticks-left-law =
+      let x = m .t % m .table .frame in
+      let l = window-left (m .table) (u .table) (m .t) in (
+        gives m k u h 34 (pos 0) (pos 0) (pos 0) (pos 0) (omega arith) (omega arith) refl (Unchanged (ticksLeft m) (At 0)) refl,
+        ⊎-elim
+            (λ (c : Covered (windows (m .table)) x).
+            let e = l .window (c .at) (c .inside) (c .covered) in
+            record { at = c .at; inside = c .inside; owner = sym (e .0) ∙ h .now; covered = c .covered; ends = e .1 })
+            (λ (f : Uncovered (windows (m .table)) x). absurd (omega (arith, l .gap f .0, h .now, h .some)))
+            (covered-or-none x (windows (m .table))),
+      )
 
   -- ---------------------------------------------------------------- creating
   -- the names of those created
@@ -660,21 +851,44 @@ module _ (m : Module) (k : ℕ) (u : SoundModule m) (h : Calling m k) where
       puts-is m k _ _ (rw (number-in 1 255 name (omega arith) (and-left (plainBetween 1 255 name) _ ok), number-in 1 239 priority (omega arith) (and-left (plainBetween 1 239 priority) _ ok1), time-is period (weaker (plainMinusOne period) _ _ periods), time-is capacity capacities) at g)
       (created-in (p .processCount + 1) _ p (within-in processLimit (p .processCount + 1) (omega arith) (omega (arith, room))) ∙ rw (e .0, e .1)))
 
+  -- ---------------------------------------------------------------- modes
+  -- entering NORMAL, of one process
+  entered-is : (r : ℕ) → Release (m .table) k (m .t) r → (id : ℕ) → Between 1 (p .processCount) id → entered (contextOf m k) (process id p) ≡ entering (m .t) r (process id p)
+  unfolding entered
+  entered-is r f id b = either (waitsForNormal (process id p .wait)) (λ w. rw w (go (process id p .given .period) refl)) (λ w. rw w)
+    where
+      low : process id p .times .delay ≤ durationLimit
+      low = v .eachProcess id b .lasting .delay
+
+      go : (a : Time) → process id p .given .period ≡ a → let x = process id p in
+          withSuspended (x .suspended) (withCurrent (x .current) (startRule (contextOf m k) (x .times .delay) x))
+          ≡ cond (periodicAt (x .given .period)) (awaitsRelease (r + x .times .delay) (x .times .delay) (x .current) (x .suspended) false x) (startedAt (m .t) (x .times .delay) (x .current) (x .suspended) x)
+      go Never e = rw (aperiodic-is id (process id p .times .delay) b low e, e)
+      go (At n) e = rw (released-is r f id (process id p .times .delay) n b e low, e)
+
+  entered-normal : (r : ℕ) → Release (m .table) k (m .t) r → enteredNormal (contextOf m k) p ≡ plainEach (entering (m .t) r) (withModeAndLock 3 0 0 p)
+  unfolding enteredNormal
+  entered-normal r f =
+      each-alike (entered (contextOf m k)) (entering (m .t) r) (p .processCount) 1 (withMode 3 p) (λ y lo hi. entered-is r f y (lo, omega arith))
+      ∙ each-plain (entering (m .t) r) (withMode 3 p) (v .lists)
+
+  -- modes 0, 1, 2
+  restarted-is : (mode : ℕ) → mode ≤ modeLimit → restarted k (nothingCreated mode) m ≡ restartedAs k mode m
+  restarted-is mode low =
+      let erased = Ch.erasedTo k channelLimit m in
+      refilled-all k _ (part-sound erased (erased-sound k channelLimit m (omega arith) u) (k - 1) (calling-place m k u h) (nothingCreated mode) (nothing-valid (m .table .frame) (m .t) mode low))
+      ∙ ap (λ (l : List Message). plainRefilledTo k (m .table .channelCount) (withPart (k - 1) (nothingCreated mode) (withMessages l m))) (erased-is (m .table) k (m .messages) (u .messagesSize))
+
   set-mode-law : SetMode m k
-  unfolding callDecision services strayField D.checked Passed C.setMode enteredNormal entered
+  unfolding callDecision services strayField D.checked Passed C.setMode
   set-mode-law a =
       let three = lossless a .isNumber 3 (omega arith) in
       let d = cond (isNumber 3 (field a)) (D.changed (Entered (contextOf m k))) (Restarted (numberOf (field a))) in
       by-list 1 a (pos 0) (pos 0) (pos 0) (omega arith) (omega arith) refl _ d _
-      (rw (lossless a .between 0 3 (omega arith), three, lossless a .isNumber 2 (omega arith))) (λ q g. (
-        g .codeIs ∙ either (isNumber 3 (field a)) (λ z. rw z) (λ z. rw z),
-        λ z id b.
-            let x = process id p in
-            let g = rw (three, z) at g in
-            let is : process id (own (step m (callBy k 1 a (pos 0) (pos 0) (pos 0)) .state) k) ≡ entered (contextOf m k) x = ap (process id) (own-after m k u h _ g) ∙ each-process (entered (contextOf m k)) (withMode 3 p) (v .lists) id b in (
-              λ w never. is ∙ rw (aperiodic-is id (x .times .delay) b (v .eachProcess id b .lasting .delay) never, w),
-              λ w. is ∙ rw (not-normal (x .wait) w),
-            ),
+      (rw (lossless a .between 0 3 (omega arith), three, lossless a .isNumber 2 (omega arith))) (λ q g.
+      let in-range = not-false _ (q .0) in (
+        λ z r f. puts-is m k _ _ (rw (three, z) at g) (entered-normal r f),
+        λ z. gives-is (rw (three, z, number-in 0 3 a (omega arith) in-range) at g) (restarted-is (idOf a) (in-modes a in-range)),
       ))
 
 -- ---------------------------------------------------------------- every event
@@ -746,21 +960,24 @@ each-call m k h = let u = calling-sound m k h in record {
   setPriority = set-priority-law m k u h;
   status = status-law m k u h;
   createSemaphore = create-semaphore-law m k u h;
-  createEvent = create-event-law m k u h;
-  createBuffer = create-buffer-law m k u h;
-  createBlackboard = create-blackboard-law m k u h;
   waitSemaphore = wait-semaphore-law m k u h;
-  waitEvent = wait-event-law m k u h;
   signal = signal-law m k u h;
+  createEvent = create-event-law m k u h;
   setEvent = set-event-law m k u h;
   resetEvent = reset-event-law m k u h;
+  waitEvent = wait-event-law m k u h;
   write = write-law m k u h;
   read = read-law m k u h;
+  createBuffer = create-buffer-law m k u h;
   sendBuffer = send-buffer-law m k u h;
   receiveBuffer = receive-buffer-law m k u h;
-  readBlackboard = read-blackboard-law m k u h;
+  createBlackboard = create-blackboard-law m k u h;
   show = show-law m k u h;
+  readBlackboard = read-blackboard-law m k u h;
   clear = clear-law m k u h;
   send = send-law m k u h;
   receive = receive-law m k u h;
+  lockPreemption = lock-law m k u h;
+  unlockPreemption = unlock-law m k u h;
+  getTicksLeft = ticks-left-law m k u h;
 }

@@ -1,5 +1,5 @@
 -- The mistakes to shut out, proved, and the whole list of starred cases. Assumes nothing.
-use Prim.Native.Nat.{ℕ, zero, suc, _+_, _-_, _*_, _≤_, _<_, max}
+use Prim.Native.Nat.{ℕ, zero, suc, _+_, _-_, _*_, _≤_, _<_}
 use mathlib.Core.Path.{_≡_, refl, sym, ap, _∙_}
 use mathlib.Core.Bool.{Bool, true, false, cond, not, _||_, and-false, or-true, _&&_}
 use mathlib.Core.List.{List, [], _∷_, _++_, map}
@@ -58,6 +58,7 @@ use Rattle.machine.proofs.Reached.{reached-valid, valid-sound, plain-pa
 use Rattle.machine.proofs.Queues.{signal-first, set-event}
 use Rattle.machine.proofs.Calling.{field-number, from-zero, number-is, number-of, calling-sound, calling-place, calling-valid, gives}
 use Rattle.machine.proofs.Worked.{worked}
+use Rattle.machine.proofs.EachCall.{waits}
 use Rattle.machine.proofs.Corners.{releases-at, corners}
 
 -- ---------------------------------------------------------------- a neighbour's running process
@@ -189,20 +190,6 @@ restart-keeps-queue m e i no-send no-receive d =
     passed-by x n y j a v e b = rw e at b
 
 -- ---------------------------------------------------------------- waits
-pub waits : (w : Wait) → (w ≡ None → ⊥) → waitsForNothing w ≡ false
-waits None h = absurd (h refl)
-waits Normal h = refl
-waits Delay h = refl
-waits Timed h = refl
-waits Period h = refl
-waits (Semaphore j) h = refl
-waits (Event j) h = refl
-waits (Sending j m) h = refl
-waits (Receiving j) h = refl
-waits (Blackboard j) h = refl
-waits (Source j m) h = refl
-waits (Destination j) h = refl
-
 -- the wait that names semaphore j, event j
 semaphore-is : (w : Wait) (j : ℕ) → j ≤ 255 → object w ≡ object (Semaphore j) → w ≡ Semaphore j
 semaphore-is None j h e = absurd (omega arith)

@@ -1,6 +1,6 @@
 -- What every event answers before its body, and what each call does, as claims about `step`: its checks in the order written, then the answer and the
--- whole record after it. The premises speak of the event's numbers and of the record in which the call comes to its body. (LOCK_PREEMPTION and
--- UNLOCK_PREEMPTION: `Locks`; GET_TICKS_LEFT: `TicksLeft`; the hand-over of 30 and 31: `ChannelCalls` of `Queues`.)
+-- whole record after it. The premises speak of the event's numbers and of the record in which the call comes to its body. Each call stands here once,
+-- in the order of the documents; what the claims share with the machine's definitions is said in `Terms`.
 use Prim.Native.Nat.{ℕ, _+_, _-_, _%_}
 use mathlib.Core.Path.{_≡_}
 use mathlib.Core.Bool.{Bool, true, false, cond, not, _&&_, _||_}
@@ -18,17 +18,21 @@ use Rattle.machine.specs.declared.Channel.{Channel}
 use Rattle.machine.specs.declared.Event.{Event as EventT}
 use Rattle.machine.specs.declared.Module.{Module}
 use Rattle.machine.specs.declared.Wait.{Wait}
-use Rattle.machine.specs.declared.Wait.the-variants.{None, Normal, Delay, Timed, Semaphore, Event, Sending, Receiving, Blackboard, Source, Destination}
+use Rattle.machine.specs.declared.Wait.the-variants.{None, Delay, Timed, Semaphore, Event, Sending, Receiving, Blackboard, Source, Destination}
 use Rattle.machine.specs.declared.Time.{Time}
 use Rattle.machine.specs.declared.Time.the-variants.{Never, At}
-use Rattle.machine.specs.Process.{object, carried, ready}
-use Rattle.machine.specs.Partition.{process, semaphore, event, buffer, blackboard, running, waiters, withLock, withProcesses, withEvents, withBuffers, withBlackboards}
+use Rattle.machine.specs.Process.{object, carried, ready, waitsForNormal}
+use Rattle.machine.specs.Partition.{process, semaphore, event, buffer, blackboard, running, waiters, withLock, withProcesses, withEvents, withBuffers, withBlackboards, nothingCreated, withModeAndLock}
 use Rattle.machine.specs.Messages.{held, queueOf}
-use Rattle.machine.specs.Module.{channel, message, queue, current, runningIn, withMessage}
+use Rattle.machine.specs.Module.{channel, message, queue, current, runningIn, withMessage, withMessages, withPart, withQueue, ticksLeft}
 use Rattle.machine.specs.Step.{step}
-use Rattle.machine.specs.Valid.{Between, plainLater}
-use Rattle.machine.specs.Plain.{plainBetween, plainNumber, plainMinusOne, plainStored, plainAll, waitOver, letGo}
-use Rattle.machine.specs.Starred.{own, callBy, Gives, Refuses, Puts, withProcess, atEnd, given, withNew, withNewSemaphore, withNewEvent, withNewBuffer, withNewBlackboard, withSemaphoreAt, awaitsNormal}
+use Rattle.machine.specs.Valid.{plainLater}
+use Rattle.machine.specs.Plain.{plainBetween, plainNumber, plainMinusOne, plainStored, plainAll, waitOver, letGo, plainEach, plainRefilledTo}
+use Rattle.machine.specs.Starred.{own, callBy, Gives, Refuses, Puts, withProcess, atEnd, given, withNew, withNewSemaphore, withNewEvent, withNewBuffer, withNewBlackboard, withSemaphoreAt, awaitsNormal, awaitsNext, awaitsRelease, without}
+use Rattle.machine.specs.TicksLeft.{EndsIn}
+use Rattle.machine.specs.declared.Message.{Message}
+use Rattle.machine.specs.Windows.{Release}
+use Rattle.machine.specs.declared.Table.{Table}
 
 -- ---------------------------------------------------------------- an event's numbers
 -- the id that a number names; 0 is none
@@ -132,6 +136,26 @@ withBufferAt j l p = withBuffers (set (p .buffers) (j - 1) (record { name = buff
 abbrev pub withBoardAt : ℕ → Bool → ℕ → Partition → Partition
 withBoardAt j shown m p = withBlackboards (set (p .blackboards) (j - 1) (record { name = blackboard j p .name; shown = shown; message = m })) (p .blackboardCount) p
 
+-- ---------------------------------------------------------------- modes
+-- what entering NORMAL at t makes of a process, where r is its partition's next release point
+abbrev pub entering : ℕ → ℕ → Process → Process
+entering t r x =
+    cond (waitsForNormal (x .wait))
+    (cond (periodicAt (x .given .period))
+    (awaitsRelease (r + x .times .delay) (x .times .delay) (x .current) (x .suspended) false x)
+    (startedAt t (x .times .delay) (x .current) (x .suspended) x))
+    x
+
+-- messages on channels into partition k erased, from channel number i + 1 on
+unfoldable pub withoutInto : Table → ℕ → ℕ → List Message → List Message
+withoutInto T k i [] = []
+withoutInto T k i (x ∷ l) = cond (eqb (channel T i .destination) k) (record { present = false; value = 0; written = 0 }) x ∷ withoutInto T k (i + 1) l
+
+-- Modes 0, 1, 2: nothing is created in partition k, no message lies on a sampling channel into it; queuing channels into it are emptied, and waiting senders
+-- let in until it is full, channels by ascending number
+abbrev pub restartedAs : ℕ → ℕ → Module → Module
+restartedAs k mode m = plainRefilledTo k (m .table .channelCount) (withPart (k - 1) (nothingCreated mode) (withMessages (withoutInto (m .table) k 0 (m .messages)) m))
+
 -- ---------------------------------------------------------------- families
 -- START id; DELAYED_START id, delay
 abbrev pub Starts : Module → ℕ → EventT → ℤ → ℤ → Type 0
@@ -140,7 +164,9 @@ Starts m k e id delay =
     let x = process (idOf id) p in
     Checks m e ((not (plainBetween 1 (p .processCount) id), 3) ∷ (not (inD delay) || tooLong (idOf delay) (x .given .period), 3) ∷ (x .started, 1) ∷ [])
     (((p .mode ≡ 3 → ⊥) → Puts m e 0 0 k (plainStored (idOf id) (awaitsNormal (idOf delay) x) p))
-    × (p .mode ≡ 3 → x .given .period ≡ Never → Puts m e 0 0 k (plainStored (idOf id) (startedAt (m .t) (idOf delay) (x .given .base) false x) p)))
+    × (p .mode ≡ 3 → x .given .period ≡ Never → Puts m e 0 0 k (plainStored (idOf id) (startedAt (m .t) (idOf delay) (x .given .base) false x) p))
+    × ((n r : ℕ) → p .mode ≡ 3 → x .given .period ≡ At n → Release (m .table) k (m .t) r
+    → Puts m e 0 0 k (withProcess (idOf id) (awaitsRelease (r + idOf delay) (x .times .delay) (x .given .base) false false x) (p .arrival) p)))
 
 -- creating: 4: all exist. 1: name exists among its kind. 3: not admitted. 5: NORMAL. Value: id
 abbrev pub Creates : Module → ℕ → EventT → ℕ → ℕ → List ℕ → ℤ → Bool → Partition → Type 0
@@ -177,17 +203,15 @@ admitted M name priority period capacity =
     && ((plainMinusOne capacity || plainBetween 1 9999999 capacity) && not (aboveIn capacity period))))
 
 -- ---------------------------------------------------------------- each call
--- 1 SET_PARTITION_MODE a. 3: not 0..3. 1: 3 in NORMAL. 5: 2 in COLD_START. 5: 3 with no process (modes 0, 1, 2: `Mistakes`; a periodic process on
--- entering NORMAL: `ReleasesAt`). Mode 3: an aperiodic one waiting for NORMAL takes the start rule with its delay, keeping its suspended mark and current
--- priority; who does not wait for NORMAL stays
+-- 1 SET_PARTITION_MODE a. 3: not 0..3. 1: 3 in NORMAL. 5: 2 in COLD_START. 5: 3 with no process. Mode 3: mode set, level 0; every process waiting for
+-- NORMAL, by id, takes the start rule with its delay, keeping its suspended mark and current priority; r is the partition's next release point. Modes 0,
+-- 1, 2: mode set; everything erased
 abbrev pub SetMode : Module → ℕ → Type 0
 SetMode m k = (a : ℤ) → let p = own m k in
     let e = callBy k 1 a (pos 0) (pos 0) (pos 0) in
     Checks m e ((not (plainBetween 0 3 a), 3) ∷ (plainNumber 3 a && eqb (p .mode) 3, 1) ∷ (plainNumber 2 a && eqb (p .mode) 1, 5) ∷ (plainNumber 3 a && eqb (p .processCount) 0, 5) ∷ [])
-    ((step m e .answer .code ≡ 0) × (plainNumber 3 a ≡ true → (id : ℕ) → let x = process id p in
-    let y = process id (own (step m e .state) k) in
-    Between 1 (p .processCount) id
-    → (x .wait ≡ Normal → x .given .period ≡ Never → y ≡ startedAt (m .t) (x .times .delay) (x .current) (x .suspended) x) × ((x .wait ≡ Normal → ⊥) → y ≡ x)))
+    ((plainNumber 3 a ≡ true → (r : ℕ) → Release (m .table) k (m .t) r → Puts m e 0 0 k (plainEach (entering (m .t) r) (withModeAndLock 3 0 0 p)))
+    × (plainNumber 3 a ≡ false → Gives m e 0 0 (At 0) (restartedAs k (idOf a) m)))
 
 -- 2 CREATE_PROCESS name, priority, period, capacity
 abbrev pub CreateProcess : Module → ℕ → Type 0
@@ -195,7 +219,7 @@ CreateProcess m k = (name priority period capacity : ℤ) → let p = own m k in
     Creates m k (callBy k 2 name priority period capacity) 16 (p .processCount) (map (λ (x : Process). x .given .name) (take (p .processCount) (p .processes))) name
     (admitted (m .table .frame) name priority period capacity) (withNew (given (idOf name) (idOf priority) (timeIn period) (timeIn capacity)) p)
 
--- 3 START id, 4 DELAYED_START id, delay (periodic in NORMAL: `ReleasesAt`)
+-- 3 START id; 4 DELAYED_START id, delay
 abbrev pub Start : Module → ℕ → Type 0
 Start m k = (id : ℤ) → Starts m k (callBy k 3 id (pos 0) (pos 0) (pos 0)) id (pos 0)
 
@@ -209,7 +233,7 @@ Stop m k = (id : ℤ) → let p = own m k in
     let e = callBy k 5 id (pos 0) (pos 0) (pos 0) in
     Checks m e ((not (plainBetween 1 (p .processCount) id), 3) ∷ (eqb (idOf id) (running p), 3) ∷ (not (x .started), 1) ∷ []) (Puts m e 0 0 k (plainStored (idOf id) (nowDormant x) p))
 
--- 6 STOP_SELF. 5: start mode. The same for the caller
+-- 6 STOP_SELF. 5: start mode. The same for the caller; level 0
 abbrev pub StopSelf : Module → ℕ → Type 0
 StopSelf m k = let p = own m k in
     let e = callBy k 6 (pos 0) (pos 0) (pos 0) (pos 0) in
@@ -241,11 +265,13 @@ TimedWait m k = (a : ℤ) → let p = own m k in
     ((plainNumber 0 a ≡ true → Puts m e 0 0 k (withProcesses (p .processes) (p .processCount) (atEnd (running p) (p .arrival)) (p .waiting) p))
     × (plainNumber 0 a ≡ false → Puts m e 7 0 k (plainStored (running p) (with (x .suspended) (At (m .t + idOf a)) (x .code) Timed x) p)))
 
--- 10 PERIODIC_WAIT. 5: start mode or aperiodic. 5: locked. Code 7 (the record: `Corners`)
+-- 10 PERIODIC_WAIT. 5: start mode or aperiodic. 5: locked. r rises by period; w = r, d = r + capacity or −1; waits, code 7, even if r ≤ t
 abbrev pub PeriodicWait : Module → ℕ → Type 0
 PeriodicWait m k = let p = own m k in
+    let x = process (running p) p in
     let e = callBy k 10 (pos 0) (pos 0) (pos 0) (pos 0) in
-    Checks m e ((not (eqb (p .mode) 3) || not (periodicAt (process (running p) p .given .period)), 5) ∷ (ltb 0 (p .level), 5) ∷ []) (step m e .answer .code ≡ 7)
+    Checks m e ((not (eqb (p .mode) 3) || not (periodicAt (x .given .period)), 5) ∷ (ltb 0 (p .level), 5) ∷ [])
+    ((r n : ℕ) → x .times .release ≡ At r → x .given .period ≡ At n → Puts m e 7 0 k (withProcess (running p) (awaitsNext (r + n) x) (without (running p) (p .arrival)) p))
 
 -- 11 RESUME id. 3: the caller. 5: DORMANT or periodic. 1: not suspended. Clears the mark; if no wait, w = −1, wake code 0
 abbrev pub Resume : Module → ℕ → Type 0
@@ -271,37 +297,17 @@ GetStatus m k = (id : ℤ) → let p = own m k in
     let e = callBy k 13 id (pos 0) (pos 0) (pos 0) in
     Checks m e ((not (plainBetween 1 (p .processCount) id), 3) ∷ []) (Gives m e 0 (cond (x .started) (cond (eqb (idOf id) (running p)) 2 (cond (ready x) 1 3)) 0) (x .times .deadline) m)
 
--- 14 CREATE_SEMAPHORE name, start, max; 17 CREATE_EVENT name; 23 CREATE_BUFFER name, limit; 26 CREATE_BLACKBOARD name
+-- 14 CREATE_SEMAPHORE name, start, max
 abbrev pub CreateSemaphore : Module → ℕ → Type 0
 CreateSemaphore m k = (name start max : ℤ) → let p = own m k in
     Creates m k (callBy k 14 name start max (pos 0)) 8 (p .semaphoreCount) (map (λ (x : SemaphoreT). x .name) (take (p .semaphoreCount) (p .semaphores))) name
     (plainBetween 1 255 name && (plainBetween 1 32767 max && plainBetween 0 (idOf max) start)) (withNewSemaphore (idOf name) (idOf start) (idOf max) p)
 
-abbrev pub CreateEvent : Module → ℕ → Type 0
-CreateEvent m k = (name : ℤ) → let p = own m k in
-    Creates m k (callBy k 17 name (pos 0) (pos 0) (pos 0)) 8 (p .eventCount) (map (λ (x : EventState). x .name) (take (p .eventCount) (p .events))) name
-    (plainBetween 1 255 name) (withNewEvent (idOf name) p)
-
-abbrev pub CreateBuffer : Module → ℕ → Type 0
-CreateBuffer m k = (name limit : ℤ) → let p = own m k in
-    Creates m k (callBy k 23 name limit (pos 0) (pos 0)) 8 (p .bufferCount) (map (λ (x : Buffer). x .name) (take (p .bufferCount) (p .buffers))) name
-    (plainBetween 1 255 name && plainBetween 1 16 limit) (withNewBuffer (idOf name) (idOf limit) p)
-
-abbrev pub CreateBlackboard : Module → ℕ → Type 0
-CreateBlackboard m k = (name : ℤ) → let p = own m k in
-    Creates m k (callBy k 26 name (pos 0) (pos 0) (pos 0)) 8 (p .blackboardCount) (map (λ (x : BlackboardT). x .name) (take (p .blackboardCount) (p .blackboards))) name
-    (plainBetween 1 255 name) (withNewBlackboard (idOf name) p)
-
--- 15 WAIT_SEMAPHORE id, a: value > 0: one less. 20 WAIT_EVENT id, a: event UP: nothing changes
+-- 15 WAIT_SEMAPHORE id, a: value > 0: one less
 abbrev pub WaitSemaphore : Module → ℕ → Type 0
 WaitSemaphore m k = (j a : ℤ) → let p = own m k in
     let e = callBy k 15 j a (pos 0) (pos 0) in
     Waiting m k e ((not (plainBetween 1 (p .semaphoreCount) j), 3) ∷ []) (inT a) a (ltb 0 (semaphore (idOf j) p .value)) (Puts m e 0 0 k (withSemaphoreAt (idOf j) (semaphore (idOf j) p .value - 1) p)) (Semaphore (idOf j))
-
-abbrev pub WaitEvent : Module → ℕ → Type 0
-WaitEvent m k = (j a : ℤ) → let p = own m k in
-    let e = callBy k 20 j a (pos 0) (pos 0) in
-    Waiting m k e ((not (plainBetween 1 (p .eventCount) j), 3) ∷ []) (inT a) a (event (idOf j) p .up) (Gives m e 0 0 (At 0) m) (Event (idOf j))
 
 -- 16 SIGNAL id. 1: value = max. First waiter's wait ends (w −1, wake code 0); none: value + 1
 abbrev pub Signal : Module → ℕ → Type 0
@@ -311,6 +317,12 @@ Signal m k = (j : ℤ) → let p = own m k in
     Checks m e ((not (plainBetween 1 (p .semaphoreCount) j), 3) ∷ (eqb (s .value) (s .max), 1) ∷ [])
     ((waiters (object (Semaphore (idOf j))) p ≡ [] → Puts m e 0 0 k (withSemaphoreAt (idOf j) (s .value + 1) p))
     × ((id : ℕ) (rest : List ℕ) → waiters (object (Semaphore (idOf j))) p ≡ id ∷ rest → Puts m e 0 0 k (plainStored id (letGo (process id p)) p)))
+
+-- 17 CREATE_EVENT name (DOWN)
+abbrev pub CreateEvent : Module → ℕ → Type 0
+CreateEvent m k = (name : ℤ) → let p = own m k in
+    Creates m k (callBy k 17 name (pos 0) (pos 0) (pos 0)) 8 (p .eventCount) (map (λ (x : EventState). x .name) (take (p .eventCount) (p .events))) name
+    (plainBetween 1 255 name) (withNewEvent (idOf name) p)
 
 -- 18 SET_EVENT id: UP, all waiters' waits end in queue order the same way. 19 RESET_EVENT id: DOWN
 abbrev pub SetEvent : Module → ℕ → Type 0
@@ -323,6 +335,12 @@ ResetEvent m k = (j : ℤ) → let p = own m k in
     let e = callBy k 19 j (pos 0) (pos 0) (pos 0) in
     Checks m e ((not (plainBetween 1 (p .eventCount) j), 3) ∷ []) (Puts m e 0 0 k (withEventAt (idOf j) false p))
 
+-- 20 WAIT_EVENT id, a: event UP: nothing changes
+abbrev pub WaitEvent : Module → ℕ → Type 0
+WaitEvent m k = (j a : ℤ) → let p = own m k in
+    let e = callBy k 20 j a (pos 0) (pos 0) in
+    Waiting m k e ((not (plainBetween 1 (p .eventCount) j), 3) ∷ []) (inT a) a (event (idOf j) p .up) (Gives m e 0 0 (At 0) m) (Event (idOf j))
+
 -- 21 WRITE channel, a. 3: a not in D. Stores a and t. 22 READ channel. 1: no message. Value a, extra 1 if t − written ≤ refresh, else 0
 abbrev pub Write : Module → ℕ → Type 0
 Write m k = (i a : ℤ) → let e = callBy k 21 i a (pos 0) (pos 0) in
@@ -333,8 +351,14 @@ Read m k = (i : ℤ) → let x = message m (idOf i - 1) in
     let e = callBy k 22 i (pos 0) (pos 0) (pos 0) in
     Checks m e (channelTests m k i true (λ c. c .destination) ++ ((not (x .present), 1) ∷ [])) (Gives m e 0 (x .value) (At (cond (leb (m .t - x .written) (channel (m .table) (idOf i - 1) .refresh)) 1 0)) m)
 
+-- 23 CREATE_BUFFER name, limit
+abbrev pub CreateBuffer : Module → ℕ → Type 0
+CreateBuffer m k = (name limit : ℤ) → let p = own m k in
+    Creates m k (callBy k 23 name limit (pos 0) (pos 0)) 8 (p .bufferCount) (map (λ (x : Buffer). x .name) (take (p .bufferCount) (p .buffers))) name
+    (plainBetween 1 255 name && plainBetween 1 16 limit) (withNewBuffer (idOf name) (idOf limit) p)
+
 -- 24 SEND_BUFFER id, message, time-out: straight into the first waiting receiver's record; none: the last message. 25 RECEIVE_BUFFER id, time-out: the
--- first message is the value, and the first waiting sender's is let in. 28 READ_BLACKBOARD id, time-out: a message read is the value
+-- first message is the value, and the first waiting sender's is let in
 abbrev pub SendBuffer : Module → ℕ → Type 0
 SendBuffer m k = (j b a : ℤ) → let p = own m k in
     let e = callBy k 24 j b a (pos 0) in
@@ -350,31 +374,67 @@ ReceiveBuffer m k = (j a : ℤ) → let p = own m k in
     → (waiters (object (Sending (idOf j) 0)) p ≡ [] → Puts m e 0 b k (withBufferAt (idOf j) l p))
     × ((id : ℕ) (rest : List ℕ) → waiters (object (Sending (idOf j) 0)) p ≡ id ∷ rest → Puts m e 0 b k (plainStored id (letGo (process id p)) (withBufferAt (idOf j) (l ++ (carried (process id p) ∷ [])) p)))) (Receiving (idOf j))
 
-abbrev pub ReadBlackboard : Module → ℕ → Type 0
-ReadBlackboard m k = (j a : ℤ) → let p = own m k in
-    let e = callBy k 28 j a (pos 0) (pos 0) in
-    Waiting m k e ((not (plainBetween 1 (p .blackboardCount) j), 3) ∷ []) (inT a) a (blackboard (idOf j) p .shown) (Gives m e 0 (blackboard (idOf j) p .message) (At 0) m) (Blackboard (idOf j))
+-- 26 CREATE_BLACKBOARD name
+abbrev pub CreateBlackboard : Module → ℕ → Type 0
+CreateBlackboard m k = (name : ℤ) → let p = own m k in
+    Creates m k (callBy k 26 name (pos 0) (pos 0) (pos 0)) 8 (p .blackboardCount) (map (λ (x : BlackboardT). x .name) (take (p .blackboardCount) (p .blackboards))) name
+    (plainBetween 1 255 name) (withNewBlackboard (idOf name) p)
 
--- 27 SHOW id, message: shown, and all waiters' waits end in queue order, the message kept in each one's record. 29 CLEAR id: nothing is shown
+-- 27 SHOW id, message: shown, and all waiters' waits end in queue order, the message kept in each one's record
 abbrev pub Show : Module → ℕ → Type 0
 Show m k = (j b : ℤ) → let p = own m k in
     let e = callBy k 27 j b (pos 0) (pos 0) in
     Checks m e ((not (plainBetween 1 (p .blackboardCount) j), 3) ∷ (not (inD b), 3) ∷ [])
     (Puts m e 0 0 k (plainAll (waitOver 0 (idOf b)) (waiters (object (Blackboard (idOf j))) p) (withBoardAt (idOf j) true (idOf b) p)))
 
+-- 28 READ_BLACKBOARD id, time-out: a message read is the value
+abbrev pub ReadBlackboard : Module → ℕ → Type 0
+ReadBlackboard m k = (j a : ℤ) → let p = own m k in
+    let e = callBy k 28 j a (pos 0) (pos 0) in
+    Waiting m k e ((not (plainBetween 1 (p .blackboardCount) j), 3) ∷ []) (inT a) a (blackboard (idOf j) p .shown) (Gives m e 0 (blackboard (idOf j) p .message) (At 0) m) (Blackboard (idOf j))
+
+-- 29 CLEAR id: nothing is shown
 abbrev pub Clear : Module → ℕ → Type 0
 Clear m k = (j : ℤ) → let p = own m k in
     let e = callBy k 29 j (pos 0) (pos 0) (pos 0) in
     Checks m e ((not (plainBetween 1 (p .blackboardCount) j), 3) ∷ []) (Puts m e 0 0 k (withBoardAt (idOf j) false 0 p))
 
--- 30 SEND channel, message, time-out; 31 RECEIVE channel, time-out
+-- 30 SEND channel, message, time-out; 31 RECEIVE channel, time-out: as 24 and 25, with those who wait in the partition at the other end
 abbrev pub Send : Module → ℕ → Type 0
-Send m k = (i b a : ℤ) → let e = callBy k 30 i b a (pos 0) in
-    Waiting m k e (channelTests m k i false (λ c. c .source)) (inD b && inT a) a (ltb (queue m (idOf i - 1) .len) (channel (m .table) (idOf i - 1) .size)) (step m e .answer .code ≡ 0) (Source (idOf i) (idOf b))
+Send m k = (i b a : ℤ) → let c = channel (m .table) (idOf i - 1) in
+    let q = queue m (idOf i - 1) in
+    let there = own m (c .destination) in
+    let e = callBy k 30 i b a (pos 0) in
+    Waiting m k e (channelTests m k i false (λ c. c .source)) (inD b && inT a) a (ltb (q .len) (c .size))
+    ((waiters (object (Destination (idOf i))) there ≡ [] → Gives m e 0 0 (At 0) (withQueue (idOf i - 1) (queueOf (held q ++ (idOf b ∷ []))) m))
+    × ((id : ℕ) (rest : List ℕ) → waiters (object (Destination (idOf i))) there ≡ id ∷ rest → Puts m e 0 0 (c .destination) (plainStored id (waitOver 0 (idOf b) (process id there)) there))) (Source (idOf i) (idOf b))
 
 abbrev pub Receive : Module → ℕ → Type 0
-Receive m k = (i a : ℤ) → let e = callBy k 31 i a (pos 0) (pos 0) in
-    Waiting m k e (channelTests m k i false (λ c. c .destination)) (inT a) a (ltb 0 (queue m (idOf i - 1) .len)) (step m e .answer .code ≡ 0) (Destination (idOf i))
+Receive m k = (i a : ℤ) → let c = channel (m .table) (idOf i - 1) in
+    let q = queue m (idOf i - 1) in
+    let there = own m (c .source) in
+    let e = callBy k 31 i a (pos 0) (pos 0) in
+    Waiting m k e (channelTests m k i false (λ c. c .destination)) (inT a) a (ltb 0 (q .len))
+    ((b : ℕ) (l : List ℕ) → held q ≡ b ∷ l
+    → (waiters (object (Source (idOf i) 0)) there ≡ [] → Gives m e 0 b (At 0) (withQueue (idOf i - 1) (queueOf l) m))
+    × ((id : ℕ) (rest : List ℕ) → waiters (object (Source (idOf i) 0)) there ≡ id ∷ rest
+    → Gives m e 0 b (At 0) (withPart (c .source - 1) (plainStored id (letGo (process id there)) there) (withQueue (idOf i - 1) (queueOf (l ++ (carried (process id there) ∷ []))) m)))) (Destination (idOf i))
+
+-- 32 LOCK_PREEMPTION. 1: outside NORMAL. 4: at 16. The level rises by one; the process that raised it from 0 is the holder. 33 UNLOCK_PREEMPTION.
+-- 1: outside NORMAL. 1: at level 0. The level falls by one; at 0 there is no holder
+abbrev pub LockPreemption : Module → ℕ → Type 0
+LockPreemption m k = let p = own m k in
+    let e = callBy k 32 (pos 0) (pos 0) (pos 0) (pos 0) in
+    Checks m e ((not (eqb (p .mode) 3), 1) ∷ (eqb (p .level) 16, 4) ∷ []) (Puts m e 0 0 k (withLock (p .level + 1) (cond (eqb (p .level) 0) (running p) (p .holder)) p))
+
+abbrev pub UnlockPreemption : Module → ℕ → Type 0
+UnlockPreemption m k = let p = own m k in
+    let e = callBy k 33 (pos 0) (pos 0) (pos 0) (pos 0) in
+    Checks m e ((not (eqb (p .mode) 3), 1) ∷ (eqb (p .level) 0, 1) ∷ []) (Puts m e 0 0 k (withLock (p .level - 1) (cond (eqb (p .level) 1) 0 (p .holder)) p))
+
+-- 34 GET_TICKS_LEFT: the ticks until the partition's window ends
+abbrev pub GetTicksLeft : Module → ℕ → Type 0
+GetTicksLeft m k = Gives m (callBy k 34 (pos 0) (pos 0) (pos 0) (pos 0)) 0 (ticksLeft m) (At 0) m × EndsIn (m .table) (m .t % m .table .frame) k (ticksLeft m)
 
 -- ---------------------------------------------------------------- the whole
 -- of every call that comes to its body
@@ -393,20 +453,23 @@ pub record EachCall (m : Module) (k : ℕ) : Type 0 where
   pub setPriority : SetPriority m k
   pub status : GetStatus m k
   pub createSemaphore : CreateSemaphore m k
-  pub createEvent : CreateEvent m k
-  pub createBuffer : CreateBuffer m k
-  pub createBlackboard : CreateBlackboard m k
   pub waitSemaphore : WaitSemaphore m k
-  pub waitEvent : WaitEvent m k
   pub signal : Signal m k
+  pub createEvent : CreateEvent m k
   pub setEvent : SetEvent m k
   pub resetEvent : ResetEvent m k
+  pub waitEvent : WaitEvent m k
   pub write : Write m k
   pub read : Read m k
+  pub createBuffer : CreateBuffer m k
   pub sendBuffer : SendBuffer m k
   pub receiveBuffer : ReceiveBuffer m k
-  pub readBlackboard : ReadBlackboard m k
+  pub createBlackboard : CreateBlackboard m k
   pub show : Show m k
+  pub readBlackboard : ReadBlackboard m k
   pub clear : Clear m k
   pub send : Send m k
   pub receive : Receive m k
+  pub lockPreemption : LockPreemption m k
+  pub unlockPreemption : UnlockPreemption m k
+  pub getTicksLeft : GetTicksLeft m k

@@ -1,7 +1,7 @@
 -- Nobody waits for what is there: on every reached record, for every kind of object at once. Assumes nothing.
 use Prim.Native.Nat.{ℕ, _+_, _-_, _≤_, _<_}
 use mathlib.Core.Path.{_≡_, refl, ap, sym, _∙_}
-use mathlib.Core.Bool.{Bool, true, false, cond, not}
+use mathlib.Core.Bool.{Bool, true, false, cond}
 use mathlib.Core.List.{List, [], _∷_}
 use mathlib.Core.Logic.{_⊎_, inl, inr, ⊎-elim}
 use native.Mathlib.Omega.{arith}
@@ -31,7 +31,7 @@ use Rattle.machine.specs.declared.Module.{Module}
 use Rattle.machine.specs.Limits.{processLimit, semaphoreLimit, eventLimit, bufferLimit, blackboardLimit, durationLimit, partitionLimit, channelLimit}
 use Rattle.machine.specs.Messages.{sent, received, moved, endsWait}
 use Rattle.machine.specs.Process.{Class, classOf, objectIn, object, later, carried, ready, served, handed, withCurrent, suspendedUntil, nextRelease, waitingFor, entered, ticked}
-use Rattle.machine.specs.Partition.{within, byId, noSemaphore, noEvent, noBuffer, noBlackboard, process, event, buffer, blackboard, normalMode, movedIn, endedBy, firstWaiter, withMode, stored, storedSemaphore, storedEvent, storedBuffer, storedBlackboard, created, arrivedLast, waiters, changedAll, each, enteredNormal, tickPartition, applied, nothingCreated, noted, freshPartition}
+use Rattle.machine.specs.Partition.{within, byId, noSemaphore, noEvent, noBuffer, noBlackboard, process, event, buffer, blackboard, normalMode, movedIn, endedBy, firstWaiter, withMode, stored, storedSemaphore, storedEvent, storedBuffer, storedBlackboard, created, arrivedLast, waiters, changedAll, enteredNormal, tickPartition, applied, nothingCreated, noted, freshPartition}
 use Rattle.machine.specs.Fields.{isNumber, isMessage, numberOf, timeOf, requestOf}
 use Rattle.machine.specs.Decisions.{checked, changed, blocked, unknown, startMode, queued, awaiting}
 use Rattle.machine.specs.Calls.{setMode, createProcess, start, stop, stopSelf, suspend, suspendSelf, timedWait, periodicWait, resume, setPriority, getStatus, lockPreemption, unlockPreemption, getTicksLeft}
@@ -45,7 +45,7 @@ use Rattle.machine.specs.declared.Table.{Table}
 use Rattle.machine.specs.Table.{readTable}
 use Rattle.machine.specs.Module.{noPartition, emptyTable, emptyModule, freshModule, channel, part, withPart, withTime}
 use Rattle.machine.specs.Step.{contextOf, decision, moduleAfter, step}
-use Rattle.machine.specs.Valid.{Between, contains, KnownWait, SoundBuffer, SoundMove, SoundEnd, ListedIn, settingOf, Valid, SoundContext, SoundDecision, SoundModule, Reached, plainTick}
+use Rattle.machine.specs.Valid.{Between, contains, KnownWait, SoundBuffer, SoundMove, SoundEnd, ListedIn, settingOf, Valid, SoundContext, SoundDecision, SoundModule, Reached, plainTick, SoundProcess}
 use Rattle.machine.specs.Queues.{available, queueNumber, NoneWaits, SameObjects}
 use Rattle.machine.proofs.Tests.{by-test, by-checks, Passed, not-both, and-left, and-right}
 use Rattle.machine.proofs.Bounds.{same-or-not, or-false-parts, known-id, within-in, within-out, named-out, named-same, named-other, semaphore-in, semaphore-out, event-in, event-out, buffer-in, buffer-out, blackboard-in, blackboard-out}
@@ -57,7 +57,7 @@ use Rattle.machine.proofs.Sound.{ready-off}
 use Rattle.machine.proofs.Dispatch.{by-call, Calls, by-event}
 use Rattle.machine.proofs.Bodies.{Bodily}
 use Rattle.machine.proofs.Kept.{Caller, waiters-created, waiters-exact, firsts-created, nothing-valid, change-valid, normal-caller, in-normal, sent-sound, received-sound, end-same}
-use Rattle.machine.proofs.Reached.{at-set, plain-part, tick-module-plain, place, context-sound, made, made-sound, made-body, port-sound, valid-sound, reached-valid, part-sound, erased-sound, refilled-keeps, on-queue, transfer-sound}
+use Rattle.machine.proofs.Reached.{at-set, plain-part, tick-module-plain, place, context-sound, made, made-sound, made-body, valid-sound, reached-valid, part-sound, erased-sound, refilled-keeps, on-queue, transfer-sound}
 use Rattle.machine.proofs.Answers.{decided-table}
 use Rattle.machine.proofs.Tables.{table-read}
 use Rattle.machine.proofs.Queues.{rest-objects, same-objects, Part, part-trans, same-queue, all-part, tick-part, ended-part, change-part, joins-last, Orderly, call-order, semaphore-queue, buffer-queue, ended-queue}
@@ -212,16 +212,19 @@ class-known counts low (Class.onto kind′ k′ m) h kind k some few e =
     let b : k′ ≡ k = omega (arith, h .0 .1) in
     rw (a, b) at (h .0)
 
--- the object of a process that waits has been created
+-- a process that waits on an object is started, in NORMAL
+pub wait-known : (frame t : ℕ) (p : Partition) (x : Process) → SoundProcess (settingOf frame t p) x → (object (x .wait) ≡ 0 → ⊥) → KnownWait (settingOf frame t p .counts) (classOf (x .wait))
+wait-known frame t p x h some = either (x .started)
+    (λ s. either (normalMode p)
+    (λ n. h .going s n .wait)
+    (λ n. absurd (some (ap object (h .early s n .wait)))))
+    (λ s. absurd (some (ap object (h .dormant s .wait))))
+
+-- and its object has been created
 pub waits-known : (frame t : ℕ) (p : Partition) → Valid frame t p → (id kind k : ℕ) → Between 1 (p .processCount) id → 1 ≤ kind → k ≤ 255 → object (process id p .wait) ≡ queueNumber kind k → Between 1 (settingOf frame t p .counts kind) k
 waits-known frame t p v id kind k b some few e =
     let x = process id p in
-    let h = v .eachProcess id b in
-    either (x .started)
-    (λ s. either (normalMode p)
-    (λ n. class-known _ (counts-low frame t p v) (classOf (x .wait)) (h .going s n .wait) kind k some few e)
-    (λ n. absurd (let z : object (x .wait) ≡ 0 = ap object (h .early s n .wait) in omega arith)))
-    (λ s. absurd (let z : object (x .wait) ≡ 0 = ap object (h .dormant s .wait) in omega arith))
+    class-known _ (counts-low frame t p v) (classOf (x .wait)) (wait-known frame t p x (v .eachProcess id b) (λ z. omega arith)) kind k some few e
 
 none-in : (l : List ℕ) → ((id : ℕ) → contains id l ≡ true → ⊥) → l ≡ []
 unfolding contains

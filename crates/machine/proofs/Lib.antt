@@ -52,3 +52,4 @@ pub mod Locks
 pub mod TicksLeft
 pub mod EachCall
 pub mod TableLines
+pub mod Terms

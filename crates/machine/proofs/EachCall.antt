@@ -47,7 +47,7 @@ use Rattle.machine.specs.Step.{contextOf, moduleAfter, step, restarted}
 use Rattle.machine.specs.Valid.{Between, Numbered, Valid, SoundModule, SoundMove, ValidModule, Reached, plainLater, settingOf}
 use Rattle.machine.specs.Plain.{plainBetween, plainNumber, plainMinusOne, plainUnknown, plainStored, plainMoved, letGo, plainEach, plainRefilledTo, waitOver}
 use Rattle.machine.specs.Starred.{own, callBy, Calling, Gives, Puts, atEnd, withSemaphoreAt, given, withProcess, awaitsNext, awaitsRelease}
-use Rattle.machine.specs.EachCall.{idOf, timeIn, inD, inT, periodicAt, tooLong, named, used, stray, malformedAt, EachEvent, Checks, nowDormant, with, startedAt, withPriority, withEventAt, withBufferAt, withBoardAt, aboveIn, admitted, Starts, Waiting, Stop, StopSelf, Suspend, Resume, GetStatus, SuspendSelf, TimedWait, ResetEvent, SetEvent, Clear, Signal, Show, WaitSemaphore, WaitEvent, ReceiveBuffer, ReadBlackboard, SendBuffer, Write, Read, Send, Receive, Start, DelayedStart, SetPriority, PeriodicWait, CreateEvent, CreateBlackboard, CreateBuffer, CreateSemaphore, CreateProcess, SetMode, EachCall, GetTicksLeft, LockPreemption, UnlockPreemption, entering, restartedAs, withoutInto}
+use Rattle.machine.specs.EachCall.{idOf, timeIn, inD, inT, periodicAt, tooLong, named, used, stray, malformedAt, EachEvent, Checks, nowDormant, with, startedAt, withPriority, withEventAt, withBufferAt, withBoardAt, aboveIn, processAdmitted, Starts, Waiting, Stop, StopSelf, Suspend, Resume, GetStatus, SuspendSelf, TimedWait, ResetEvent, SetEvent, Clear, Signal, Show, WaitSemaphore, WaitEvent, ReceiveBuffer, ReadBlackboard, SendBuffer, Write, Read, Send, Receive, Start, DelayedStart, SetPriority, PeriodicWait, CreateEvent, CreateBlackboard, CreateBuffer, CreateSemaphore, CreateProcess, SetMode, EachCall, GetTicksLeft, LockPreemption, UnlockPreemption, entering, restartedAs, withoutInto}
 use Rattle.machine.proofs.Tests.{by-test, Passed, and-left, and-right, or-left, or-right, not-both, passed-parts}
 use Rattle.machine.proofs.Either.{either}
 use Rattle.machine.proofs.Calling.{field-number, empty-current, calling-sound, calling-valid, asked, decides, gives, puts-is, stored-steady, known, normal-is, normal-not, calling-context, calling-low, calling-place, stored-leaves}
@@ -674,7 +674,7 @@ module _ (m : Module) (k : ℕ) (u : SoundModule m) (h : Calling m k) where
         (λ f b. is f ∙ rw (known m k u h j (p .processCount) b, lossless delay .between 0 durationLimit (omega arith), long-is delay (process j p .given .period), twice (process j p .started))) (λ b q g.
         let d = not-false _ (or-left _ _ (q .0)) in
         let g = rw (number-in 0 durationLimit delay (omega arith) d) at g in (
-          λ early. puts-stored _ 0 j _ b (rw (normal-not m k u h early) at g),
+          λ early. puts-is m k _ _ (rw (normal-not m k u h early) at g) (dormant-stored j b (q .1 .0) _ refl refl),
           λ normal never. puts-stored _ 0 j _ b (rw (normal-is m k u h normal, aperiodic-is j (idOf delay) b (in-D delay d) never) at g),
           λ i r normal e f. puts-is m k _ _ (rw (normal-is m k u h normal, released-is r f j (idOf delay) i b e (in-D delay d)) at g) (dormant-stored j b (q .1 .0) _ refl refl),
         ))
@@ -826,7 +826,7 @@ module _ (m : Module) (k : ℕ) (u : SoundModule m) (h : Calling m k) where
       let l = lossless z .between 1 durationLimit (omega arith) in
       either (plainBetween 1 9999999 z) (λ o. rw (l, o, some, number-in 1 9999999 z (omega arith) o)) (λ o. rw (l, o))
 
-  admitted-is : (name priority period capacity : ℤ) → C.admissible (contextOf m k) (asked m k u h 2 (field name) (field priority) (field period) (field capacity)) ≡ admitted (m .table .frame) name priority period capacity
+  admitted-is : (name priority period capacity : ℤ) → C.admissible (contextOf m k) (asked m k u h 2 (field name) (field priority) (field period) (field capacity)) ≡ processAdmitted (m .table .frame) name priority period capacity
   admitted-is name priority period capacity =
       rw (lossless name .between 1 nameLimit (omega arith), lossless priority .between 1 priorityLimit (omega arith), lossless period .isMinusOne, lossless capacity .isMinusOne, multiple-is period, lossless capacity .between 1 durationLimit (omega arith))
       (either (plainMinusOne period || (plainBetween 1 9999999 period && eqb (idOf period % m .table .frame) 0))

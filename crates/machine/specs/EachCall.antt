@@ -163,15 +163,15 @@ Starts m k e id delay =
     let p = own m k in
     let x = process (idOf id) p in
     Checks m e ((not (plainBetween 1 (p .processCount) id), 3) ∷ (not (inD delay) || tooLong (idOf delay) (x .given .period), 3) ∷ (x .started, 1) ∷ [])
-    (((p .mode ≡ 3 → ⊥) → Puts m e 0 0 k (plainStored (idOf id) (awaitsNormal (idOf delay) x) p))
+    (((p .mode ≡ 3 → ⊥) → Puts m e 0 0 k (withProcess (idOf id) (awaitsNormal (idOf delay) x) (p .arrival) p))
     × (p .mode ≡ 3 → x .given .period ≡ Never → Puts m e 0 0 k (plainStored (idOf id) (startedAt (m .t) (idOf delay) (x .given .base) false x) p))
     × ((n r : ℕ) → p .mode ≡ 3 → x .given .period ≡ At n → Release (m .table) k (m .t) r
     → Puts m e 0 0 k (withProcess (idOf id) (awaitsRelease (r + idOf delay) (x .times .delay) (x .given .base) false false x) (p .arrival) p)))
 
 -- creating: 4: all exist. 1: name exists among its kind. 3: not admitted. 5: NORMAL. Value: id
 abbrev pub Creates : Module → ℕ → EventT → ℕ → ℕ → List ℕ → ℤ → Bool → Partition → Type 0
-Creates m k e limit count names name admitted q =
-    Checks m e ((leb limit count, 4) ∷ (named name names, 1) ∷ (not admitted, 3) ∷ (eqb (own m k .mode) 3, 5) ∷ [])
+Creates m k e limit count names name ok q =
+    Checks m e ((leb limit count, 4) ∷ (named name names, 1) ∷ (not ok, 3) ∷ (eqb (own m k .mode) 3, 5) ∷ [])
     (Puts m e 0 (count + 1) k q)
 
 -- a call that waits on w, with time-out a: checks of its own. 5: start mode. 3: not ok. Where it need not wait, success. 2: a = 0. 5: preemption is
@@ -196,8 +196,8 @@ channelTests m k i sampling end =
 abbrev pub aboveIn : ℤ → ℤ → Bool
 aboveIn capacity period = not (plainMinusOne capacity) && (not (plainMinusOne period) && ltb (idOf period) (idOf capacity))
 
-abbrev pub admitted : ℕ → ℤ → ℤ → ℤ → ℤ → Bool
-admitted M name priority period capacity =
+abbrev pub processAdmitted : ℕ → ℤ → ℤ → ℤ → ℤ → Bool
+processAdmitted M name priority period capacity =
     plainBetween 1 255 name && (plainBetween 1 239 priority
     && ((plainMinusOne period || (plainBetween 1 9999999 period && eqb (idOf period % M) 0))
     && ((plainMinusOne capacity || plainBetween 1 9999999 capacity) && not (aboveIn capacity period))))
@@ -217,7 +217,7 @@ SetMode m k = (a : ℤ) → let p = own m k in
 abbrev pub CreateProcess : Module → ℕ → Type 0
 CreateProcess m k = (name priority period capacity : ℤ) → let p = own m k in
     Creates m k (callBy k 2 name priority period capacity) 16 (p .processCount) (map (λ (x : Process). x .given .name) (take (p .processCount) (p .processes))) name
-    (admitted (m .table .frame) name priority period capacity) (withNew (given (idOf name) (idOf priority) (timeIn period) (timeIn capacity)) p)
+    (processAdmitted (m .table .frame) name priority period capacity) (withNew (given (idOf name) (idOf priority) (timeIn period) (timeIn capacity)) p)
 
 -- 3 START id; 4 DELAYED_START id, delay
 abbrev pub Start : Module → ℕ → Type 0

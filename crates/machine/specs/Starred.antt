@@ -293,8 +293,8 @@ pub record Corners (m : Module) (k : ℕ) : Type 0 where
       → (m .t ≡ x .written + refresh → Gives m (callBy k 22 (pos i) (pos 0) (pos 0) (pos 0)) 0 (x .value) (At 1) m)
       × (m .t ≡ x .written + refresh + 1 → Gives m (callBy k 22 (pos i) (pos 0) (pos 0) (pos 0)) 0 (x .value) (At 0) m)
   -- timeout 0: SUSPEND_SELF changes nothing and TIMED_WAIT puts the caller last (both at level 0 of the preemption lock), WAIT_SEMAPHORE and
-  -- WAIT_EVENT answer 2 where they would wait, and succeed where they need not; the calls of document 02 that wait answer 2 too (where they need not wait, and
-  -- 30 and 31: `MessageCalls` and `ChannelCalls` of Queues)
+  -- WAIT_EVENT answer 2 where they would wait, and succeed where they need not; the calls of document 02 that wait answer 2 too (30 and 31, and the three
+  -- while preemption is locked: `EachCall`)
   pub suspendSelf : let p = own m k in
       p .mode ≡ 3 → p .level ≡ 0 → process (running p) p .given .period ≡ Never
       → Gives m (callBy k 8 (pos 0) (pos 0) (pos 0) (pos 0)) 0 0 (At 0) m
@@ -327,18 +327,6 @@ pub record Corners (m : Module) (k : ℕ) : Type 0 where
       let x = process id p in
       p .mode ≡ 3 → p .level ≡ 0 → x .times .release ≡ At r → x .given .period ≡ At n
       → Puts m (callBy k 10 (pos 0) (pos 0) (pos 0) (pos 0)) 7 0 k (withProcess id (awaitsNext (r + n) x) (without id (p .arrival)) p)
-  -- while preemption is locked the three answer 5 after their other checks, time 0 included (document 02, e); the time-out 0 of the waits above
-  -- stays 2, and where they need not wait they succeed, whatever the level
-  pub suspendSelfLocked : (a : ℤ) → let p = own m k in
-      p .mode ≡ 3 → 0 < p .level → process (running p) p .given .period ≡ Never
-      → (TimeOut a → Refuses m (callBy k 8 a (pos 0) (pos 0) (pos 0)) 5)
-      × (NoTimeOut a → Refuses m (callBy k 8 a (pos 0) (pos 0) (pos 0)) 3)
-  pub timedWaitLocked : (a : ℤ) → let p = own m k in
-      p .mode ≡ 3 → 0 < p .level
-      → (plainBetween 0 durationLimit a ≡ true → Refuses m (callBy k 9 a (pos 0) (pos 0) (pos 0)) 5)
-      × (plainBetween 0 durationLimit a ≡ false → Refuses m (callBy k 9 a (pos 0) (pos 0) (pos 0)) 3)
-  pub periodicWaitLocked : let p = own m k in
-      p .mode ≡ 3 → 0 < p .level → Refuses m (callBy k 10 (pos 0) (pos 0) (pos 0) (pos 0)) 5
 
 -- ---------------------------------------------------------------- mistakes to shut out
 -- what a wake time that has come makes of x: a wait ends with w −1 and this wake code, and the mark stays

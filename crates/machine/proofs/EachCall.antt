@@ -5,7 +5,7 @@ use mathlib.Core.Bool.{Bool, true, false, cond, not, _&&_, _||_, and-true, and-f
 use mathlib.Core.List.{List, [], _∷_, _++_, map}
 use mathlib.Core.Logic.{inl, inr, ⊎-elim}
 use native.Mathlib.Omega.{arith}
-use lib.ListN.{length, getD, take, drop, length-take, List·getD-map, length-set}
+use lib.ListN.{length, getD, take, drop, length-take, List·getD-map, length-set, List·getD-eq-default}
 use lib.Seq.{getD-take, ext-getD, getD-set-other, getD-set-same, set-getD}
 use lib.IntN.{ℤ, pos, negsuc}
 use lib.Dec.{leb, ltb, eqb}
@@ -206,16 +206,16 @@ kept-length T k zero l = refl
 kept-length T k (suc n) l = by-test (λ (r : List Message). length r ≡ length l) (eqb (channel T n .destination) k) (λ _. simp length-set (kept-length T k n l)) (λ _. kept-length T k n l)
 
 -- the messages without those on channels into a partition, at each place
-pub kept-at : (T : Table) (k n : ℕ) (l : List Message) (j : ℕ) → j < length l → getD (Ch.keptTo T k n l) j D.noMessage ≡ cond (ltb j n && eqb (channel T j .destination) k) D.noMessage (getD l j D.noMessage)
+kept-in : (T : Table) (k n : ℕ) (l : List Message) (j : ℕ) → j < length l → getD (Ch.keptTo T k n l) j D.noMessage ≡ cond (ltb j n && eqb (channel T j .destination) k) D.noMessage (getD l j D.noMessage)
 unfolding Ch.keptTo
-kept-at T k zero l j h = rw (le-ltb j 0 (omega arith))
-kept-at T k (suc n) l j h =
+kept-in T k zero l j h = rw (le-ltb j 0 (omega arith))
+kept-in T k (suc n) l j h =
     by-test (λ (r : List Message). getD r j D.noMessage ≡ cond (ltb j (suc n) && eqb (channel T j .destination) k) D.noMessage (getD l j D.noMessage)) (eqb (channel T n .destination) k)
     (λ q. ⊎-elim
     (λ (e : j ≡ n). rw (e, lt-ltb n (suc n) (omega arith), q) (getD-set-same (Ch.keptTo T k n l) n D.noMessage D.noMessage (rw (kept-length T k n l) (omega arith))))
-    (λ (ne : j ≡ n → ⊥). getD-set-other (Ch.keptTo T k n l) n j D.noMessage D.noMessage ne ∙ kept-at T k n l j h ∙ ap (λ b. cond (b && eqb (channel T j .destination) k) D.noMessage (getD l j D.noMessage)) (below ne))
+    (λ (ne : j ≡ n → ⊥). getD-set-other (Ch.keptTo T k n l) n j D.noMessage D.noMessage ne ∙ kept-in T k n l j h ∙ ap (λ b. cond (b && eqb (channel T j .destination) k) D.noMessage (getD l j D.noMessage)) (below ne))
     (same-or-not j n))
-    (λ q. kept-at T k n l j h ∙ ⊎-elim
+    (λ q. kept-in T k n l j h ∙ ⊎-elim
     (λ (e : j ≡ n). rw (e, q, and-false (ltb n n), and-false (ltb n (suc n))))
     (λ (ne : j ≡ n → ⊥). ap (λ b. cond (b && eqb (channel T j .destination) k) D.noMessage (getD l j D.noMessage)) (below ne))
     (same-or-not j n))
@@ -224,6 +224,14 @@ kept-at T k (suc n) l j h =
     below ne = either (ltb j n)
         (λ e. rw (e, lt-ltb j (suc n) (omega (arith, ltb-true j n e))))
         (λ e. rw (e, le-ltb j (suc n) (omega (arith, ltb-false j n e, ne))))
+
+pub kept-at : (T : Table) (k n : ℕ) (l : List Message) (j : ℕ) → getD (Ch.keptTo T k n l) j D.noMessage ≡ cond (ltb j n && eqb (channel T j .destination) k) D.noMessage (getD l j D.noMessage)
+kept-at T k n l j = either (ltb j (length l))
+    (λ e. kept-in T k n l j (ltb-true j (length l) e))
+    (λ e.
+    let past = ltb-false j (length l) e in
+    List·getD-eq-default (Ch.keptTo T k n l) D.noMessage (rw (kept-length T k n l) past)
+    ∙ sym (rw (List·getD-eq-default l D.noMessage past) (by-test (λ (x : Message). x ≡ D.noMessage) (ltb j n && eqb (channel T j .destination) k) (λ _. refl) (λ _. refl))))
 
 without-size : (T : Table) (k i : ℕ) (l : List Message) → length (withoutInto T k i l) ≡ length l
 unfolding withoutInto
@@ -240,7 +248,7 @@ erased-is : (T : Table) (k : ℕ) (l : List Message) → length l ≡ channelLim
 erased-is T k l size = ext-getD D.noMessage (Ch.keptTo T k channelLimit l) (withoutInto T k 0 l) (kept-length T k channelLimit l ∙ sym (without-size T k 0 l)) (λ j h.
     let lt : j < length l = rw (kept-length T k channelLimit l) at h in
     let z : 0 + j ≡ j = omega arith in
-    kept-at T k channelLimit l j lt ∙ rw (lt-ltb j channelLimit (omega (arith, lt, size))) (sym (without-at T k 0 l j lt ∙ rw z)))
+    kept-at T k channelLimit l j ∙ rw (lt-ltb j channelLimit (omega (arith, lt, size))) (sym (without-at T k 0 l j lt ∙ rw z)))
 
 module _ (m : Module) (k : ℕ) (u : SoundModule m) (h : Calling m k) where
   abbrev p : Partition

@@ -6,14 +6,13 @@ use mathlib.Core.List.{List, [], _∷_, _++_, map}
 use mathlib.Core.Logic.{inr, ⊎-elim}
 use native.Mathlib.Omega.{arith}
 use lib.IntN.{pos}
-use lib.ListN.{getD, length, take, length-set}
+use lib.ListN.{getD, take}
 use lib.Seq.{getD-set-same, getD-set-other}
-use lib.Dec.{eqb}
+use lib.Dec.{eqb, ltb}
 use borrow.Author.Tests.{eqb-true, eqb-false, eq-eqb, ne-eqb, le-leb, lt-ltb, not-true}
 use Rattle.machine.specs.declared.Process.{Process}
 use Rattle.machine.specs.declared.Partition.{Partition}
 use Rattle.machine.specs.declared.Event.{Event as EventT}
-use Rattle.machine.specs.declared.Table.{Table}
 use Rattle.machine.specs.declared.Module.{Module}
 use Rattle.machine.specs.declared.Port.{Port}
 use Rattle.machine.specs.declared.Message.{Message}
@@ -45,8 +44,8 @@ use Rattle.machine.specs.Step as St
 use Rattle.machine.specs.Starred.{own, callBy, tick, Gives, Calling, WaitEnded, ReadyUnmarked, Ticks, Mistakes, Starred}
 use Rattle.machine.specs.Valid.{Between, SoundModule, contains, plainTick}
 use Rattle.machine.specs.Plain.{letGo}
-use Rattle.machine.proofs.Tests.{by-test, and-left, and-right, not-both}
-use Rattle.machine.proofs.Bounds.{not-so, same-or-not}
+use Rattle.machine.proofs.Tests.{by-test, and-left, and-right}
+use Rattle.machine.proofs.Bounds.{not-so}
 use Rattle.machine.proofs.Dispatch.{by-event, by-decision, ticks-decided}
 use Rattle.machine.proofs.Bodies.{FromSource, Sends, Receives, OnQueue, Bodily, call-body}
 use Rattle.machine.proofs.Refusals.{refused-same, places, call-in-range}
@@ -58,7 +57,7 @@ use Rattle.machine.proofs.Reached.{reached-valid, valid-sound, plain-pa
 use Rattle.machine.proofs.Queues.{signal-first, set-event}
 use Rattle.machine.proofs.Calling.{field-number, from-zero, number-is, number-of, calling-sound, calling-place, calling-valid, gives}
 use Rattle.machine.proofs.Worked.{worked}
-use Rattle.machine.proofs.EachCall.{waits}
+use Rattle.machine.proofs.EachCall.{waits, kept-at}
 use Rattle.machine.proofs.Corners.{releases-at, corners}
 
 -- ---------------------------------------------------------------- a neighbour's running process
@@ -102,32 +101,11 @@ neighbour-in-eight m e h =
 -- ---------------------------------------------------------------- messages
 -- erasing messages into partition k leaves those of channels into another
 erased-other : (k n : ℕ) (m : Module) (i : ℕ) → eqb (M.channel (m .table) i .destination) k ≡ false → M.message (Ch.erasedTo k n m) i ≡ M.message m i
-unfolding Ch.keptTo
-erased-other k zero m i h = refl
-erased-other k (suc n) m i h =
-    by-test (λ (l : List Message). getD l i D.noMessage ≡ M.message m i) (eqb (M.channel (m .table) n .destination) k)
-    (λ q. getD-set-other (Ch.erasedTo k n m .messages) n i D.noMessage D.noMessage (λ e. not-both (eqb (M.channel (m .table) n .destination) k) q (rw e at h)) ∙ erased-other k n m i h)
-    (λ q. erased-other k n m i h)
+erased-other k n m i h = kept-at (m .table) k n (m .messages) i ∙ rw (h, and-false (ltb i n))
 
 -- and those into partition k are gone
-erased-own : (k n : ℕ) (m : Module) (i : ℕ) → i < n → n ≤ length (m .messages) → M.channel (m .table) i .destination ≡ k → M.message (Ch.erasedTo k n m) i ≡ D.noMessage
-unfolding Ch.keptTo
-erased-own k zero m i h long d = absurd (omega arith)
-erased-own k (suc n) m i h long d =
-    let size = kept-size (m .table) k n (m .messages) in
-    by-test (λ (l : List Message). getD l i D.noMessage ≡ D.noMessage) (eqb (M.channel (m .table) n .destination) k)
-    (λ q. ⊎-elim
-    (λ (e : i ≡ n). rw e (getD-set-same (Ch.keptTo (m .table) k n (m .messages)) n D.noMessage D.noMessage (omega arith)))
-    (λ (ne : i ≡ n → ⊥). getD-set-other (Ch.keptTo (m .table) k n (m .messages)) n i D.noMessage D.noMessage ne ∙ erased-own k n m i (omega (arith, ne)) (omega arith) d)
-    (same-or-not i n))
-    (λ q. erased-own k n m i (below q) (omega arith) d)
-  where
-    below : eqb (M.channel (m .table) n .destination) k ≡ false → i < n
-    below q = let ne : i ≡ n → ⊥ = λ e. eqb-false (M.channel (m .table) n .destination) k q (rw e at d) in omega (arith, ne)
-
-    kept-size : (T : Table) (k n : ℕ) (l : List Message) → length (Ch.keptTo T k n l) ≡ length l
-    kept-size T k zero l = refl
-    kept-size T k (suc n) l = by-test (λ (r : List Message). length r ≡ length l) (eqb (M.channel T n .destination) k) (λ _. simp length-set (kept-size T k n l)) (λ _. kept-size T k n l)
+erased-own : (k n : ℕ) (m : Module) (i : ℕ) → i < n → M.channel (m .table) i .destination ≡ k → M.message (Ch.erasedTo k n m) i ≡ D.noMessage
+erased-own k n m i h d = kept-at (m .table) k n (m .messages) i ∙ rw (lt-ltb i n h, eq-eqb (M.channel (m .table) i .destination) k d)
 
 tick-messages : (n : ℕ) (m : Module) → Ti.tickTo n m .messages ≡ m .messages
 unfolding Ti.tickTo Ti.tickAt
@@ -355,7 +333,7 @@ module _ (m : Module) (k : ℕ) (u : SoundModule m) (h : Calling m k) where
         getD-set-other (m .partitions) (k - 1) (M.channel (m .table) i .source - 1) (noted p) M.noPartition (λ z. c .apart (omega (arith, c .source .0, c .destination .0, d))) in (
           g .codeIs,
           ap (λ (n : Module). own n k) (g .state) ∙ own-restarted mode (omega arith),
-          λ i b d. ap (λ (n : Module). M.message n i .present) (g .state) ∙ ap (λ (l : List Message). getD l i D.noMessage .present) messages ∙ ap (λ (x : Message). x .present) (erased-own k channelLimit m i (omega (arith, u .table .channelCount)) (omega (arith, u .messagesSize)) d),
+          λ i b d. ap (λ (n : Module). M.message n i .present) (g .state) ∙ ap (λ (l : List Message). getD l i D.noMessage .present) messages ∙ ap (λ (x : Message). x .present) (erased-own k channelLimit m i (omega (arith, u .table .channelCount)) d),
           λ i ne. ap (λ (n : Module). M.message n i) (g .state) ∙ ap (λ (l : List Message). getD l i D.noMessage) messages ∙ erased-other k channelLimit m i (ne-eqb _ k ne),
           λ i b full d.
               let f = fills i b full d in

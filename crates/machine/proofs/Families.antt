@@ -1,12 +1,12 @@
 -- Queue order, who waits, and what the calls of all four families do to their queues: the whole. Assumes nothing.
-use Prim.Native.Nat.{ℕ, suc, _+_, _-_, _≤_, _<_, max}
+use Prim.Native.Nat.{ℕ, suc, _-_, _≤_, _<_, max}
 use mathlib.Core.Path.{_≡_, refl, ap, sym, _∙_}
-use mathlib.Core.Bool.{Bool, true, false}
+use mathlib.Core.Bool.{Bool, true}
 use mathlib.Core.List.{List, [], _∷_, _++_}
 use native.Mathlib.Omega.{arith}
 use lib.ListN.{length, getD, set, drop}
 use lib.IntN.{ℤ, pos}
-use borrow.Author.Tests.{eq-eqb, ne-eqb, lt-ltb, le-ltb, ltb-false}
+use borrow.Author.Tests.{eq-eqb, ne-eqb, lt-ltb, ltb-false}
 use Rattle.machine.specs.declared.Process.{Process}
 use Rattle.machine.specs.declared.Partition.{Partition}
 use Rattle.machine.specs.declared.Blackboard.{Blackboard as BlackboardT}
@@ -14,7 +14,7 @@ use Rattle.machine.specs.declared.Transfer.{Transfer}
 use Rattle.machine.specs.declared.Transfer.the-variants.{Put, Taken, LetIn}
 use Rattle.machine.specs.declared.Change.the-variants.{Nothing, Moved, StoredBlackboard, Handed}
 use Rattle.machine.specs.declared.Decision.{Decision}
-use Rattle.machine.specs.declared.Decision.the-variants.{Unchanged, Changed}
+use Rattle.machine.specs.declared.Decision.the-variants.{Changed}
 use Rattle.machine.specs.declared.Wait.the-variants.{Sending, Receiving, Blackboard}
 use Rattle.machine.specs.declared.Time.the-variants.{At}
 use Rattle.machine.specs.declared.Field.the-variants.{Number}
@@ -24,17 +24,17 @@ use Rattle.machine.specs.Limits.{blackboardLimit, durationLimit}
 use Rattle.machine.specs.Fields.{field}
 use Rattle.machine.specs.Messages.{held, first, sent, received}
 use Rattle.machine.specs.Process.{object, carried, served, handed}
-use Rattle.machine.specs.Partition.{noBlackboard, process, buffer, blackboard, withBlackboards, stored, storedBuffer, movedIn, storedBlackboard, waiters, firstWaiter, changedAll, applied}
+use Rattle.machine.specs.Partition.{noBlackboard, process, buffer, blackboard, withBlackboards, stored, storedBuffer, movedIn, storedBlackboard, waiters, changedAll, applied}
 use Rattle.machine.specs.Decisions.{checked, changed, awaiting}
 use Rattle.machine.specs.Buffers.{hasRoom, holds, sendBuffer, receives, receiveBuffer}
-use Rattle.machine.specs.Blackboards.{show, readBlackboard, clear}
+use Rattle.machine.specs.Blackboards.{show}
 use Rattle.machine.specs.Services.{services, callDecision}
 use Rattle.machine.specs.Places.{strayField}
 use Rattle.machine.specs.Module.{part, withPart}
 use Rattle.machine.specs.Step.{step}
 use Rattle.machine.specs.Valid.{Between, SoundBuffer, Valid, SoundModule}
-use Rattle.machine.specs.Starred.{own, callBy, WaitsFor, TimeOut, Calling, Gives}
-use Rattle.machine.specs.Queues.{SameObjects, WouldWait, FirstServed, NoneServed, AllServed, has, Queues}
+use Rattle.machine.specs.Starred.{own, callBy, TimeOut, Calling, Gives}
+use Rattle.machine.specs.Queues.{SameObjects, FirstServed, NoneServed, AllServed, has, Queues}
 use Rattle.machine.proofs.Bounds.{within-in, named-same, blackboard-in}
 use Rattle.machine.proofs.Either.{either}
 use Rattle.machine.proofs.Messages.{queue-first}
@@ -42,10 +42,9 @@ use Rattle.machine.proofs.Lists.{cons-not}
 use Rattle.machine.proofs.Moves as Mo
 use Rattle.machine.proofs.Keeping.{stored-rest, changed-rest}
 use Rattle.machine.proofs.Sound.{carried-sound}
-use Rattle.machine.proofs.Calling.{field-number, calling-sound, calling-valid, calling-place, decides, gives, own-after}
-use Rattle.machine.proofs.Calling.{known}
+use Rattle.machine.proofs.Calling.{field-number, calling-sound, calling-valid, calling-place, decides, gives, own-after, known}
 use Rattle.machine.proofs.Reached.{valid-sound, reached-valid}
-use Rattle.machine.proofs.Queues.{rest-objects, noted-objects, changes-queue, queue-after, blackboard-queue, first-created, ended-is, time-out, a-message, ends-handed, queued-last, first-served-by, none-served, all-served-by, wait-semaphore, wait-event, signal-first, signal-none, set-event}
+use Rattle.machine.proofs.Queues.{rest-objects, noted-objects, changes-queue, queue-after, blackboard-queue, first-created, ended-is, time-out, a-message, ends-handed, first-served-by, none-served, all-served-by, signal-first, signal-none, set-event}
 use Rattle.machine.proofs.Available.{none-waits}
 use Rattle.machine.proofs.Ends.{channel-ends}
 use Rattle.machine.proofs.Transfers.{channel-calls}
@@ -73,19 +72,6 @@ module _ (m : Module) (k : ℕ) (u : SoundModule m) (h : Calling m k) where
 
     abbrev moving : Transfer → Partition
     moving a = storedBuffer j (movedIn a (buffer j p)) p
-
-    send-waits : (x : ℕ) (a : ℤ) → buffer j p .queue .len ≡ buffer j p .limit → x ≤ durationLimit → WaitsFor a → WouldWait m k (callBy k 24 (pos j) (pos x) a (pos 0)) (Sending j x)
-    unfolding callDecision services strayField sendBuffer
-    send-waits x a full ok t =
-        queued-last m k u h 24 j (pos x) a a (Sending j x) (omega arith) (omega arith) (λ e. omega arith) (p .bufferCount) (changed (Moved j (sent (firstWaiter (object (Receiving j)) p) x))) refl
-        (rw (is-field, field-number x (omega arith), a-message x ok, le-ltb (buffer j p .queue .len) (buffer j p .limit) (omega (arith, full)))) b normal t
-
-    receive-waits : (a : ℤ) → messages ≡ [] → WaitsFor a → WouldWait m k (callBy k 25 (pos j) a (pos 0) (pos 0)) (Receiving j)
-    unfolding callDecision services strayField receiveBuffer
-    receive-waits a empty t =
-        let none : buffer j p .queue .len ≡ 0 = sym size ∙ ap length empty in
-        queued-last m k u h 25 j a (pos 0) a (Receiving j) (omega arith) (omega arith) (λ e. omega arith) (p .bufferCount) (receives (firstWaiter (object (Sending j 0)) p) j p) refl
-        (rw (is-field, le-ltb 0 (buffer j p .queue .len) (omega (arith, none)))) b normal t
 
     -- SEND
     module _ (x : ℕ) (a : ℤ) (ok : x ≤ durationLimit) (t : TimeOut a) where
@@ -199,26 +185,6 @@ module _ (m : Module) (k : ℕ) (u : SoundModule m) (h : Calling m k) where
           rw (own-after m k u h q g) (ap (λ (z : Partition). blackboard j z) (changed-rest (handed x) (waiters o r) r) ∙ stored-has s),
         )
 
-    clear-one : let e = callBy k 29 (pos j) (pos 0) (pos 0) (pos 0) in (step m e .answer .code ≡ 0) × (blackboard j (own (step m e .state) k) ≡ board false 0)
-    unfolding callDecision services strayField clear checked
-    clear-one =
-        let s = board false 0 in
-        let q = storedBlackboard j s p in
-        let g = gives m k u h 29 (pos j) (pos 0) (pos 0) (pos 0) (omega arith) (omega arith) refl (changed (StoredBlackboard j s)) (rw (the-field, known m k u h j (p .blackboardCount) b)) in
-        (g .codeIs, rw (own-after m k u h q g) (stored-has s))
-
-    read-waits : p .mode ≡ 3 → (a : ℤ) → blackboard j p .shown ≡ false → WaitsFor a → WouldWait m k (callBy k 28 (pos j) a (pos 0) (pos 0)) (Blackboard j)
-    unfolding callDecision services strayField readBlackboard
-    read-waits normal a none t =
-        queued-last m k u h 28 j a (pos 0) a (Blackboard j) (omega arith) (omega arith) (λ e. omega arith) (p .blackboardCount) (Unchanged (blackboard j p .message) (At 0)) refl
-        (rw (the-field, none)) b normal t
-
-    read-shown : p .mode ≡ 3 → (a : ℤ) → blackboard j p .shown ≡ true → TimeOut a → Gives m (callBy k 28 (pos j) a (pos 0) (pos 0)) 0 (blackboard j p .message) (At 0) m
-    unfolding callDecision services strayField readBlackboard awaiting checked
-    read-shown normal a shown t =
-        gives m k u h 28 (pos j) a (pos 0) (pos 0) (omega arith) (omega arith) refl (Unchanged (blackboard j p .message) (At 0))
-        (rw (the-field, known m k u h j (p .blackboardCount) b, eq-eqb (p .mode) 3 normal, time-out a t, shown))
-
 -- Law. A waiter joins its object's queue last, ended waits leave it and the others keep their order, the first is served first, and nobody waits for
 -- what is there.
 pub queues : Queues
@@ -229,22 +195,15 @@ queues = record {
   ends = channel-ends;
   channels = channel-calls;
   calls = λ m k h j. let u = calling-sound m k h in record {
-    waitSemaphore = wait-semaphore m k u h j;
-    waitEvent = wait-event m k u h j;
     signalFirst = λ id rest b below. signal-first m k u h j b below id rest;
     signalNone = signal-none m k u h j;
     setEvent = set-event m k u h j;
   };
   messages = λ m k h j. let u = calling-sound m k h in record {
-    sendWaits = λ x a normal b. send-waits m k u h j normal b x a;
-    receiveWaits = λ a normal b. receive-waits m k u h j normal b a;
-    readWaits = λ a normal b. read-waits m k u h j b normal a;
     sendFirst = λ x id rest a normal b e ok t. send-first m k u h j normal b x a ok t id rest e;
     sendNone = λ x a normal b e room ok t. send-none m k u h j normal b x a ok t e room;
     receiveFirst = λ x l id rest a normal b is e t. receive-first m k u h j normal b a t x l is id rest e;
     receiveNone = λ x l a normal b is e t. receive-none m k u h j normal b a t x l is e;
     show = λ x b ok. show-all m k u h j b x ok;
-    readShown = λ a normal b. read-shown m k u h j b normal a;
-    clear = clear-one m k u h j;
   };
 }

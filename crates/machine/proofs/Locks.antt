@@ -6,9 +6,9 @@ use mathlib.Core.List.{List, [], _∷_}
 use mathlib.Core.Logic.{_⊎_, inl, inr, ⊎-elim}
 use native.Mathlib.Omega.{arith}
 use lib.ListN.{length, take}
-use lib.IntN.{ℤ, pos}
+use lib.IntN.{pos}
 use lib.Dec.{eqb, ltb}
-use borrow.Author.Tests.{eq-eqb, ne-eqb, eqb-true, lt-ltb, le-ltb, ltb-true, ltb-false, le-leb, lt-leb, not-false}
+use borrow.Author.Tests.{eq-eqb, ne-eqb, eqb-true, ltb-true, ltb-false}
 use Rattle.machine.specs.declared.Event.{Event as EventT}
 use Rattle.machine.specs.declared.Process.{Process}
 use Rattle.machine.specs.declared.Buffer.{Buffer}
@@ -22,38 +22,30 @@ use Rattle.machine.specs.declared.Change.{Change}
 use Rattle.machine.specs.declared.Change.the-variants.{Nothing, Stored, Created, Last, StoredSemaphore, StoredEvent, CreatedBuffer, Moved, StoredBlackboard, Ended, Handed, LevelSet, Entered}
 use Rattle.machine.specs.declared.Decision.{Decision}
 use Rattle.machine.specs.declared.Decision.the-variants.{Refused, Unchanged, Ticked, Blocked, Changed, Restarted, Written, Passed as PassedOn}
-use Rattle.machine.specs.Limits.{processLimit, semaphoreLimit, eventLimit, bufferLimit, blackboardLimit, modeLimit, levelLimit, channelLimit}
-use Rattle.machine.specs.Fields.{field, requestOf, numberOf, isNumber}
+use Rattle.machine.specs.Limits.{processLimit, semaphoreLimit, eventLimit, bufferLimit, blackboardLimit, channelLimit}
+use Rattle.machine.specs.Fields.{requestOf, numberOf}
 use Rattle.machine.specs.Messages.{endsWait, moved}
-use Rattle.machine.specs.Process.{served, handed, ticked, entered, stopped}
-use Rattle.machine.specs.Partition.{within, normalMode, process, buffer, emptyBuffer, movedIn, endedBy, stored, created, arrivedLast, storedSemaphore, storedEvent, storedBuffer, storedBlackboard, waiters, each, running, tickPartition, enteredNormal, nothingCreated, withLock, withMode, applied, noted}
+use Rattle.machine.specs.Process.{served, handed, ticked, entered}
+use Rattle.machine.specs.Partition.{within, normalMode, buffer, emptyBuffer, movedIn, endedBy, stored, created, arrivedLast, storedSemaphore, storedEvent, storedBuffer, storedBlackboard, waiters, each, tickPartition, enteredNormal, nothingCreated, withMode, applied, noted}
 use Rattle.machine.specs.Module.{part, queue, channel, current, withPart, withTime, withQueue, noPartition}
 use Rattle.machine.specs.Channels.{portOf, otherEnd, erasedTo}
-use Rattle.machine.specs.Decisions.{checked, replyOf, changed}
-use Rattle.machine.specs.Calls.{setMode, stopSelf, lockPreemption, unlockPreemption}
-use Rattle.machine.specs.Services.{callDecision, services}
-use Rattle.machine.specs.Places.{strayField}
 use Rattle.machine.specs.Step.{contextOf, decision, moduleAfter, sees, step}
 use Rattle.machine.specs.LeftRight.{after}
-use Rattle.machine.specs.Valid.{Between, ListedIn, SameHolder, SoundModule, SoundChange, SoundDecision, Reached, plainTick}
+use Rattle.machine.specs.Valid.{Between, SameHolder, SoundModule, SoundChange, SoundDecision, Reached, plainTick}
 use Rattle.machine.specs.Plain.{idsFrom}
-use Rattle.machine.specs.Starred.{own, callBy, Refuses, Puts, Gives, Calling, withProcess, without}
-use Rattle.machine.specs.Locks.{LockHolds, SameLock, NoLockCall, NoLockCalls, LockedThroughout, lock, unlock, Locks}
-use Rattle.machine.proofs.Tests.{by-test, by-codes, Passed, not-both}
+use Rattle.machine.specs.Starred.{own}
+use Rattle.machine.specs.Locks.{LockHolds, SameLock, NoLockCall, NoLockCalls, LockedThroughout, Locks}
+use Rattle.machine.proofs.Tests.{by-test, not-both}
 use Rattle.machine.proofs.Bounds.{not-so, so}
 use Rattle.machine.proofs.Either.{either}
-use Rattle.machine.proofs.Fields.{in-limits}
 use Rattle.machine.proofs.Dispatch.{Calls, by-event}
-use Rattle.machine.proofs.Bodies.{Bodily, leavesLevel, setsLevel, bodyRefusal}
+use Rattle.machine.proofs.Bodies.{Bodily, leavesLevel, setsLevel}
 use Rattle.machine.proofs.Keeping.{Rest, stored-rest, each-changed, changed-rest}
-use Rattle.machine.proofs.Kept.{running-caller, nothing-valid}
+use Rattle.machine.proofs.Kept.{nothing-valid}
 use Rattle.machine.proofs.Running.{holder-runs}
-use Rattle.machine.proofs.Sound.{ready-off}
 use Rattle.machine.proofs.Reached.{at-set, plain-part, tick-module-plain, place, made, made-sound, made-body, part-sound, erased-sound, refilled-keeps, on-queue, valid-sound, reached-valid, decided-sound}
 use Rattle.machine.proofs.Answers.{decided-table}
-use Rattle.machine.proofs.Calling.{field-number, number-of, calling-sound, calling-valid, gives, own-after}
-use Rattle.machine.proofs.Calling.{stored-leaves, puts-is, normal-is, normal-not}
-use Rattle.machine.proofs.Starred.{own-restarted}
+use Rattle.machine.proofs.Calling.{field-number, number-of}
 use Rattle.machine.proofs.Isolation.{left-right}
 
 -- ---------------------------------------------------------------- a partition
@@ -265,119 +257,11 @@ unfolding LockedThroughout
 list-holding k [] m h b t = refl
 list-holding k (e ∷ es) m h b t = list-holding k es (step m e .state) (Reached.stepped m e h) (inside m h k b e) (t .1) ∙ step-holding m h k b e (t .0) (locked-first k (step m e .state) es (t .1))
 
--- ---------------------------------------------------------------- the calls
-module _ (m : Module) (k : ℕ) (u : SoundModule m) (h : Calling m k) where
-  abbrev p : Partition
-  p = own m k
-
-  lists : ListedIn p
-  lists = calling-valid m k u h .lists
-
-  -- both calls: outside NORMAL 1
-  lock-early : (p .mode ≡ 3 → ⊥) → Refuses m (lock k) 1
-  unfolding callDecision services strayField lockPreemption checked
-  lock-early early = gives m k u h 32 (pos 0) (pos 0) (pos 0) (pos 0) (omega arith) (omega arith) refl (Refused 1) (rw (normal-not m k u h early))
-
-  unlock-early : (p .mode ≡ 3 → ⊥) → Refuses m (unlock k) 1
-  unfolding callDecision services strayField unlockPreemption checked
-  unlock-early early = gives m k u h 33 (pos 0) (pos 0) (pos 0) (pos 0) (omega arith) (omega arith) refl (Refused 1) (rw (normal-not m k u h early))
-
-  module _ (n : p .mode ≡ 3) where
-    lock-full : p .level ≡ levelLimit → Refuses m (lock k) 4
-    unfolding callDecision services strayField lockPreemption checked
-    lock-full z = gives m k u h 32 (pos 0) (pos 0) (pos 0) (pos 0) (omega arith) (omega arith) refl (Refused 4) (rw (normal-is m k u h n, le-leb levelLimit (p .level) (omega (arith, z))))
-
-    lock-first : p .level ≡ 0 → Puts m (lock k) 0 0 k (withLock 1 (running p) p)
-    unfolding callDecision services strayField lockPreemption checked
-    lock-first z = gives m k u h 32 (pos 0) (pos 0) (pos 0) (pos 0) (omega arith) (omega arith) refl (changed (LevelSet 1 (running p)))
-        (rw (normal-is m k u h n, lt-leb levelLimit (p .level) (omega (arith, z)), le-ltb 0 (p .level) (omega (arith, z))) (ap (λ level. changed (LevelSet (level + 1) (running p))) z))
-
-    lock-more : 0 < p .level → p .level < levelLimit → Puts m (lock k) 0 0 k (withLock (p .level + 1) (p .holder) p)
-    unfolding callDecision services strayField lockPreemption checked
-    lock-more some room = gives m k u h 32 (pos 0) (pos 0) (pos 0) (pos 0) (omega arith) (omega arith) refl (changed (LevelSet (p .level + 1) (p .holder))) (rw (normal-is m k u h n, lt-leb levelLimit (p .level) room, lt-ltb 0 (p .level) some))
-
-    unlock-free : p .level ≡ 0 → Refuses m (unlock k) 1
-    unfolding callDecision services strayField unlockPreemption checked
-    unlock-free z = gives m k u h 33 (pos 0) (pos 0) (pos 0) (pos 0) (omega arith) (omega arith) refl (Refused 1) (rw (normal-is m k u h n, le-ltb 0 (p .level) (omega (arith, z))))
-
-    unlock-last : p .level ≡ 1 → Puts m (unlock k) 0 0 k (withLock 0 0 p)
-    unfolding callDecision services strayField unlockPreemption checked
-    unlock-last z = gives m k u h 33 (pos 0) (pos 0) (pos 0) (pos 0) (omega arith) (omega arith) refl (changed (LevelSet 0 0))
-        (rw (normal-is m k u h n, lt-ltb 0 (p .level) (omega (arith, z)), le-ltb 0 (p .level - 1) (omega (arith, z))) (ap (λ level. changed (LevelSet (level - 1) 0)) z))
-
-    unlock-one : 1 < p .level → Puts m (unlock k) 0 0 k (withLock (p .level - 1) (p .holder) p)
-    unfolding callDecision services strayField unlockPreemption checked
-    unlock-one more = gives m k u h 33 (pos 0) (pos 0) (pos 0) (pos 0) (omega arith) (omega arith) refl (changed (LevelSet (p .level - 1) (p .holder))) (rw (normal-is m k u h n, lt-ltb 0 (p .level) (omega arith), lt-ltb 0 (p .level - 1) (omega arith)))
-
-    stop-self : let id = running p in Puts m (callBy k 6 (pos 0) (pos 0) (pos 0) (pos 0)) 0 0 k (withProcess id (stopped (process id p)) (without id (p .arrival)) (withLock 0 0 p))
-    unfolding callDecision services strayField stopSelf checked
-    stop-self =
-        let id = running p in
-        let x = process id p in
-        let c = running-caller p lists (calling-valid m k u h .lock) (h .runs n) in
-        puts-is m k _ _
-        (gives m k u h 6 (pos 0) (pos 0) (pos 0) (pos 0) (omega arith) (omega arith) refl (Changed (LevelSet 0 0) (Stored id (stopped x)) 0) (rw (normal-is m k u h n)))
-        (stored-leaves (withLock 0 0 p) lists id (c .created) (stopped x) (c .isReady) refl (rw (ready-off x (c .isReady))))
-
-  -- a mode change: what is decided of it, and what the answer tells of that
-  module _ (a : ℤ) where
-    abbrev asks : EventT
-    asks = callBy k 1 a (pos 0) (pos 0) (pos 0)
-
-    abbrev later : Partition
-    later = own (step m asks .state) k
-
-    record ModeSet (d : Decision) : Type 0 where
-      is : Gives m asks (replyOf d .code) (replyOf d .value) (replyOf d .extra) (moduleAfter m k d)
-          → (replyOf d .code ≡ 0 → (later .level ≡ 0) × (later .holder ≡ 0)) × ((replyOf d .code ≡ 0 → ⊥) → step m asks .state ≡ m)
-
-    mode-set : ModeSet (setMode (contextOf m k) (field a) p)
-    unfolding setMode Passed enteredNormal
-    mode-set = by-codes ModeSet bodyRefusal Refused _ _ refl
-        (λ c e. record { is = λ g. (λ z. not-both _ e (rw z), λ _. g .state) })
-        (λ f. by-test ModeSet (isNumber 3 (field a))
-        (λ _. record {
-          is = λ g.
-              let q = enteredNormal (contextOf m k) p in
-              let l = each-lock (entered (contextOf m k)) (withMode 3 p) in
-              let e = own-after m k u h q g in
-              (λ _. (ap (λ (y : Partition). y .level) e ∙ l .level, ap (λ (y : Partition). y .holder) e ∙ l .holder), λ some. absurd (some refl));
-        })
-        (λ _. record {
-          is = λ g.
-              let few = in-limits 0 modeLimit (field a) (not-false _ (f .0)) .1 in
-              let e = ap (λ (x : Module). own x k) (g .state) ∙ own-restarted m k u h (numberOf (field a)) few in
-              (λ _. (ap (λ (y : Partition). y .level) e, ap (λ (y : Partition). y .holder) e), λ some. absurd (some refl));
-        }))
-
-    mode-gives : let d = setMode (contextOf m k) (field a) p in Gives m asks (replyOf d .code) (replyOf d .value) (replyOf d .extra) (moduleAfter m k d)
-    unfolding callDecision services strayField
-    mode-gives = gives m k u h 1 a (pos 0) (pos 0) (pos 0) (omega arith) (omega arith) refl (setMode (contextOf m k) (field a) p) refl
-
-    mode-changed : step m asks .answer .code ≡ 0 → (later .level ≡ 0) × (later .holder ≡ 0)
-    mode-changed z = mode-set .is mode-gives .0 (sym (mode-gives .codeIs) ∙ z)
-
-    mode-refused : (step m asks .answer .code ≡ 0 → ⊥) → step m asks .state ≡ m
-    mode-refused some = mode-set .is mode-gives .1 (λ z. some (mode-gives .codeIs ∙ z))
-
 -- Law. The preemption lock.
 pub locks : Locks
 locks = record {
   reached = λ m h k b. holds m (sound m h k b) k b;
   shown = λ m h e k b. shown-holder m h k b e;
-  calls = λ m k h. let u = calling-sound m k h in record {
-    lockEarly = lock-early m k u h;
-    lockFull = lock-full m k u h;
-    lockFirst = lock-first m k u h;
-    lockMore = lock-more m k u h;
-    unlockEarly = unlock-early m k u h;
-    unlockFree = unlock-free m k u h;
-    unlockLast = unlock-last m k u h;
-    unlockOne = unlock-one m k u h;
-    stopSelf = stop-self m k u h;
-    modeChanged = mode-changed m k u h;
-    modeRefused = mode-refused m k u h;
-  };
   held = λ m h k b es t. list-holding k es m h b t;
   kept = λ m h k b es free. list-lock k es m h b free;
   apart = λ m S within closed left right q k s. let e = left-right m S within closed left right q .1 .records k s in record { level = ap (λ (x : Partition). x .level) (sym e); holder = ap (λ (x : Partition). x .holder) (sym e) };

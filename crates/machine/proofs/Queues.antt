@@ -9,7 +9,7 @@ use native.Mathlib.Omega.{arith}
 use lib.ListN.{length, getD, set, take}
 use lib.Dec.{eqb, leb}
 use lib.IntN.{ℤ, pos, negsuc}
-use borrow.Author.Tests.{lt-ltb, le-ltb, eq-eqb, ne-eqb, eqb-true, le-leb, leb-true, not-false}
+use borrow.Author.Tests.{lt-ltb, eq-eqb, ne-eqb, eqb-true, le-leb, leb-true, not-false}
 use Rattle.machine.specs.declared.Ids.{Ids}
 use Rattle.machine.specs.declared.Process.{Process}
 use Rattle.machine.specs.declared.Partition.{Partition}
@@ -33,27 +33,27 @@ use Rattle.machine.specs.declared.Port.{Port}
 use Rattle.machine.specs.declared.Request.{Request}
 use Rattle.machine.specs.declared.Event.{Event as EventT}
 use Rattle.machine.specs.declared.Module.{Module}
-use Rattle.machine.specs.Limits.{callLimit, processLimit, semaphoreLimit, eventLimit, bufferLimit, blackboardLimit, durationLimit, partitionLimit, channelLimit, greatestValue}
+use Rattle.machine.specs.Limits.{processLimit, semaphoreLimit, eventLimit, bufferLimit, blackboardLimit, durationLimit, partitionLimit, channelLimit, greatestValue}
 use Rattle.machine.specs.Messages.{moved, endsWait}
 use Rattle.machine.specs.Ids.{members, keptIf, kept, other}
-use Rattle.machine.specs.Process.{Class, classOf, objectIn, forNormal, blankProcess, later, object, onObject, periodic, ready, due, waitsForNothing, waitsForNormal, onlyMarked, served, handed, waitingFor, woken, expired, ticked, entered, startRule, startedEarly}
+use Rattle.machine.specs.Process.{Class, classOf, objectIn, forNormal, blankProcess, object, onObject, periodic, ready, due, waitsForNothing, waitsForNormal, onlyMarked, served, handed, woken, expired, ticked, entered, startRule, startedEarly}
 use Rattle.machine.specs.Partition.{within, nothingCreated, idleMode, normalMode, noSemaphore, noEvent, process, semaphore, event, stored, created, storedSemaphore, storedEvent, storedBuffer, storedBlackboard, emptyBuffer, movedIn, endedBy, buffer, arrivedLast, withLock, changedAll, waitsOn, waiters, running, applied, tickPartition, enteredNormal, withMode, withEvents, each, noted}
-use Rattle.machine.specs.Fields.{field, requestOf, isNumber, isTimeout, isMessage, numberOf, timeOf}
-use Rattle.machine.specs.Decisions.{checked, replyOf, changed, unchanged, unknown, blocked, startMode, queued, awaiting}
+use Rattle.machine.specs.Fields.{field, requestOf, isNumber, isTimeout, isMessage, numberOf}
+use Rattle.machine.specs.Decisions.{checked, replyOf, changed, blocked, startMode, queued, awaiting}
 use Rattle.machine.specs.Calls.{setMode, createProcess, start, stop, stopSelf, suspend, suspendSelf, timedWait, periodicWait, resume, setPriority, getStatus, lockPreemption, unlockPreemption, getTicksLeft}
-use Rattle.machine.specs.Objects.{oneMore, withValue, withUp, createSemaphore, waitSemaphore, signalled, signal, createEvent, setEvent, resetEvent, waitEvent}
+use Rattle.machine.specs.Objects.{oneMore, withUp, createSemaphore, waitSemaphore, signalled, signal, createEvent, setEvent, resetEvent, waitEvent}
 use Rattle.machine.specs.Channels.{otherEnd, portOf, channelChecks, write, read, send, receive, erasedTo}
 use Rattle.machine.specs.Buffers.{createBuffer, sendBuffer, receiveBuffer}
 use Rattle.machine.specs.Blackboards.{createBlackboard, show, readBlackboard, clear}
-use Rattle.machine.specs.Services.{services, serviceOf, callDecision}
+use Rattle.machine.specs.Services.{services, callDecision}
 use Rattle.machine.specs.Places.{strayField}
 use Rattle.machine.specs.Module.{noPartition, channel, part, queue, withPart, withQueue, withTime}
 use Rattle.machine.specs.Ticks.{tickModule}
 use Rattle.machine.specs.Step.{contextOf, decision, moduleAfter, step}
 use Rattle.machine.specs.Valid.{Between, contains, Distinct, ListedIn, Valid, SoundEnd, SoundChange, SoundDecision, SoundModule, Reached, plainTick}
 use Rattle.machine.specs.Plain.{plainById, followed, waitOver, plainStored}
-use Rattle.machine.specs.Starred.{own, callBy, WaitsFor, TimeOut, Calling, Gives}
-use Rattle.machine.specs.Queues.{SameObjects, has, Queue, KeepsOrEnds, NotExchanged, QueueChanges, joining, QueueAfter, Queued, WouldWait, FirstServed, NoneServed, AllServed, Queues}
+use Rattle.machine.specs.Starred.{own, callBy, TimeOut, Calling, Gives}
+use Rattle.machine.specs.Queues.{SameObjects, has, Queue, KeepsOrEnds, NotExchanged, QueueChanges, joining, QueueAfter, FirstServed, NoneServed, AllServed}
 use Rattle.machine.proofs.Tests.{by-test, not-both, or-left, or-right, and-left, and-right, Passed, passed-parts, by-checks}
 use Rattle.machine.proofs.Bounds.{same-or-not, not-so, within-in, within-out, named-same, named-other, semaphore-in, event-in, buffer-in, created-in, created-out}
 use Rattle.machine.proofs.Either.{either}
@@ -64,8 +64,7 @@ use Rattle.machine.proofs.Sound.{ready-off}
 use Rattle.machine.proofs.Dispatch.{by-call, Calls, by-event}
 use Rattle.machine.proofs.Bodies.{Bodily, bodyRefusal}
 use Rattle.machine.proofs.Kept.{tick-valid, change-valid, nothing-valid, Caller, running-caller, waiters-distinct, waiters-exact, waiters-on, waiters-created, firsts-created, let-in-valid, ended-valid, end-same}
-use Rattle.machine.proofs.Calling.{field-number, from-zero, calling-valid, asked, decides, gives, own-after}
-use Rattle.machine.proofs.Calling.{known}
+use Rattle.machine.proofs.Calling.{field-number, from-zero, calling-valid, gives, own-after, known}
 use Rattle.machine.proofs.Reached.{at-set, plain-part, tick-module-plain, place, context-sound, made, made-sound, made-body, decided-sound, valid-sound, reached-valid, part-sound, erased-sound, refilled-keeps, on-queue, transfer-sound}
 use Rattle.machine.proofs.Answers.{decided-table}
 use Rattle.machine.proofs.Plain.{by-id-plain, stored-plain}
@@ -710,14 +709,6 @@ all-served f ends o some p v =
 
 -- ---------------------------------------------------------------- the calls
 -- a time-out other than 0
-pub waits-for : (a : ℤ) → WaitsFor a → (isTimeout (field a) ≡ true) × (isNumber 0 (field a) ≡ false)
-waits-for (pos n) h =
-    let lo = leb-true 1 n (and-left (leb 1 n) (leb n durationLimit) h) in
-    let hi = leb-true n durationLimit (and-right (leb 1 n) (leb n durationLimit) h) in
-    rw (field-number n (omega arith)) (rw (from-zero n, le-leb n durationLimit hi), ne-eqb n 0 (λ z. omega arith))
-waits-for (negsuc zero) h = (refl, refl)
-waits-for (negsuc (suc n)) h = not-both _ h (rw (ne-eqb (suc n) 0 (λ z. omega arith)))
-
 pub time-out : (a : ℤ) → TimeOut a → isTimeout (field a) ≡ true
 time-out (pos n) h =
     let hi = leb-true n durationLimit (and-right (leb 0 n) (leb n durationLimit) h) in
@@ -764,50 +755,6 @@ module _ (m : Module) (k : ℕ) (u : SoundModule m) (h : Calling m k) where
 
   valid : Valid (m .table .frame) (m .t) p
   valid = calling-valid m k u h
-
-  -- a call that waits for the object that w names, where it has to wait
-  module _ (n j : ℕ) (x y a : ℤ) (w : Wait) (lo : 1 ≤ n) (hi : n ≤ callLimit) (some : object w ≡ 0 → ⊥) where
-    abbrev asks : EventT
-    asks = callBy k n (pos j) x y (pos 0)
-
-    abbrev then : Process
-    then = waitingFor w (later (At (m .t)) (timeOf (field a))) (process (running p) p)
-
-    joins : strayField (serviceOf n .fields) (asked m k u h n (field (pos j)) (field x) (field y) (Number 0)) ≡ false
-        → decides m k u h n (pos j) x y (pos 0) lo hi ≡ Blocked (running p) then → p .mode ≡ 3 → Queued m k asks w
-    joins stray is normal =
-        let c = running-caller p (valid .lists) (valid .lock) (h .runs normal) in
-        let q = stored (running p) then p in
-        let g = gives m k u h n (pos j) x y (pos 0) lo hi stray (Blocked (running p) then) is in
-        record {
-          code = g .codeIs;
-          wait = rw (own-after m k u h q g) (ap (λ (y : Process). y .wait) (process-stored p (running p) then (valid .lists) (c .created)));
-          queue = rw (own-after m k u h q g) (same-queue (object w) q (noted q) refl (λ _. refl) ∙ joins-last (object w) some p (valid .lists) (running p) (c .created) then (c .isReady) ∙ rw (eq-eqb (object w) (object w) refl));
-        }
-
-    pub queued-by : strayField (serviceOf n .fields) (asked m k u h n (field (pos j)) (field x) (field y) (Number 0)) ≡ false
-        → decides m k u h n (pos j) x y (pos 0) lo hi ≡ blocked (p .level) (running p) then → p .mode ≡ 3 → WouldWait m k asks w
-    unfolding blocked checked
-    queued-by stray is normal = record {
-      free = λ free. joins stray (is ∙ rw (le-ltb 0 (p .level) (omega (arith, free)))) normal;
-      locked = λ some. gives m k u h n (pos j) x y (pos 0) lo hi stray (Refused 5) (is ∙ rw (lt-ltb 0 (p .level) some));
-    }
-
-    pub queued-last : (count : ℕ) (success : Decision) → strayField (serviceOf n .fields) (asked m k u h n (field (pos j)) (field x) (field y) (Number 0)) ≡ false
-        → decides m k u h n (pos j) x y (pos 0) lo hi ≡ awaiting (contextOf m k) ((unknown j count, 3) ∷ []) true [] (field a) false success w p
-        → Between 1 count j → p .mode ≡ 3 → WaitsFor a → WouldWait m k asks w
-    unfolding awaiting queued checked
-    queued-last count success stray is b normal t =
-        let f = waits-for a t in
-        queued-by stray (is ∙ rw (known m k u h j count b, eq-eqb (p .mode) 3 normal, f .0, f .1)) normal
-
-  pub wait-semaphore : (j : ℕ) (a : ℤ) → p .mode ≡ 3 → Between 1 (p .semaphoreCount) j → semaphore j p .value ≡ 0 → WaitsFor a → WouldWait m k (callBy k 15 (pos j) a (pos 0) (pos 0)) (Semaphore j)
-  unfolding callDecision services strayField waitSemaphore
-  wait-semaphore j a n b z t = queued-last 15 j a (pos 0) a (Semaphore j) (omega arith) (omega arith) (λ e. omega arith) (p .semaphoreCount) (changed (withValue j (semaphore j p .value - 1) p)) refl (rw (field-number j (omega (arith, b .1, valid .objects .semaphores .numbered .few)), z)) b n t
-
-  pub wait-event : (j : ℕ) (a : ℤ) → p .mode ≡ 3 → Between 1 (p .eventCount) j → event j p .up ≡ false → WaitsFor a → WouldWait m k (callBy k 20 (pos j) a (pos 0) (pos 0)) (Event j)
-  unfolding callDecision services strayField waitEvent
-  wait-event j a n b z t = queued-last 20 j a (pos 0) a (Event j) (omega arith) (omega arith) (λ e. omega arith) (p .eventCount) unchanged refl (rw (field-number j (omega (arith, b .1, valid .objects .events .numbered .few)), z)) b n t
 
   -- a call that stores q: the first of queue o served, in a record r that differs from the caller's in no process
   pub first-served-by : (o : ℕ) (some : o ≡ 0 → ⊥) (r : Partition) → ListedIn r → ((y : ℕ) → process y r ≡ process y p) → (f : Process → Process) → Ends f

@@ -1,12 +1,12 @@
 -- A refused event leaves the whole record unchanged, and 13, 10, 8 and 9 are given exactly where their row's condition holds and no
 -- earlier row's does: for every record and every event. Assumes nothing.
-use Prim.Native.Nat.{ℕ, suc, _-_, _≤_}
-use mathlib.Core.Path.{_≡_, refl, sym, ap, _∙_}
-use mathlib.Core.Bool.{Bool, true, false, cond, not, _&&_, _||_, true≢false}
-use mathlib.Core.List.{List, [], _∷_}
+use Prim.Native.Nat.{ℕ, _-_, _≤_}
+use mathlib.Core.Path.{_≡_, refl, sym}
+use mathlib.Core.Bool.{Bool, true, false, cond, not, _&&_, true≢false}
+use mathlib.Core.List.{[], _∷_}
 use native.Mathlib.Omega.{arith}
 use lib.Dec.{eqb, leb}
-use borrow.Author.Tests.{eqb-true, eqb-false, eq-eqb, ne-eqb, leb-true, le-leb, not-false}
+use borrow.Author.Tests.{eqb-true, eqb-false, ne-eqb, leb-true, le-leb, not-false}
 use Rattle.machine.specs.declared.Module.{Module}
 use Rattle.machine.specs.declared.Table.{Table}
 use Rattle.machine.specs.declared.Field.{Field}
@@ -23,24 +23,23 @@ use Rattle.machine.specs.Module as M
 use Rattle.machine.specs.Places as Pl
 use Rattle.machine.specs.Channels as Ch
 use Rattle.machine.specs.Step as St
-use Rattle.machine.proofs.Tests.{and-left, and-right, or-left, or-right, not-both}
+use Rattle.machine.proofs.Tests.{and-right, or-left, or-right}
 use Rattle.machine.proofs.Bodies.{bodyCode, bodyRefusal, call-body, body-code}
 use Rattle.machine.proofs.Either.{either}
 
--- a decision that answers with a refusal leaves the module: by its shape
-refused-stays : (m : Module) (k : ℕ) (d : Decision) → St.refusal (replyOf d .code) ≡ true → St.moduleAfter m k d ≡ m
-unfolding St.refusal
-refused-stays m k (Refused n) h = refl
-refused-stays m k (Unchanged v e) h = refl
-refused-stays m k Ticked h = absurd (true≢false (sym h))
-refused-stays m k (Blocked id x) h = absurd (true≢false (sym h))
-refused-stays m k (Changed a b v) h = absurd (true≢false (sym h))
-refused-stays m k (Restarted mode) h = absurd (true≢false (sym h))
-refused-stays m k (Written i x) h = absurd (true≢false (sym h))
-refused-stays m k (Passed i a v) h = absurd (true≢false (sym h))
+-- a decision that answers neither 0 nor 7 leaves the module: by its shape
+refused-stays : (m : Module) (k : ℕ) (d : Decision) → (replyOf d .code ≡ 0 → ⊥) → (replyOf d .code ≡ 7 → ⊥) → St.moduleAfter m k d ≡ m
+refused-stays m k (Refused n) h w = refl
+refused-stays m k (Unchanged v e) h w = refl
+refused-stays m k Ticked h w = absurd (h refl)
+refused-stays m k (Blocked id x) h w = absurd (w refl)
+refused-stays m k (Changed a b v) h w = absurd (h refl)
+refused-stays m k (Restarted mode) h w = absurd (h refl)
+refused-stays m k (Written i x) h w = absurd (h refl)
+refused-stays m k (Passed i a v) h w = absurd (h refl)
 
--- Law 1. A refused event (1..5, 8, 9, 10, 13) leaves the whole record unchanged.
-pub refused-same : (m : Module) (e : Event) → St.refusal (St.step m e .answer .code) ≡ true → St.step m e .state ≡ m
+-- Law 1. Whatever code an event gets, the whole record stays unless it is 0 or 7.
+pub refused-same : (m : Module) (e : Event) → (St.step m e .answer .code ≡ 0 → ⊥) → (St.step m e .answer .code ≡ 7 → ⊥) → St.step m e .state ≡ m
 unfolding St.step
 refused-same m e = refused-stays m (numberOf (requestOf e .partition)) (St.decision m (requestOf e))
 

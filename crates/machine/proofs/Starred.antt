@@ -89,13 +89,9 @@ eight-unseen m e h =
     go MinusOne z c = refl
     go Other z c = refl
 
-eight-refuses : St.refusal 8 ≡ true
-unfolding St.refusal
-eight-refuses = refl
-
 neighbour-in-eight : (m : Module) (e : EventT) → St.step m e .answer .code ≡ 8 → St.step m e .answer .running ≡ 0
 neighbour-in-eight m e h =
-    let same : St.step m e .state ≡ m = refused-same m e (rw h eight-refuses) in
+    let same : St.step m e .state ≡ m = refused-same m e (λ z. omega (arith, h)) (λ z. omega (arith, h)) in
     unseen m e (ap (St.sees (requestOf e)) (answer-current m e ∙ ap M.current same) ∙ eight-unseen m e h)
 
 -- ---------------------------------------------------------------- messages

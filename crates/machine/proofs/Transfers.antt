@@ -8,14 +8,14 @@ use lib.ListN.{length, getD, drop}
 use lib.Seq.{getD-set-same, getD-set-other}
 use lib.Dec.{eqb, ltb}
 use lib.IntN.{ℤ, pos}
-use borrow.Author.Tests.{eq-eqb, ne-eqb, lt-ltb, le-ltb, ltb-true, ltb-false, le-leb}
+use borrow.Author.Tests.{eq-eqb, ne-eqb, lt-ltb, ltb-true, ltb-false, le-leb}
 use Rattle.machine.specs.declared.Partition.{Partition}
 use Rattle.machine.specs.declared.Channel.{Channel}
 use Rattle.machine.specs.declared.Table.{Table}
 use Rattle.machine.specs.declared.Queue.{Queue}
 use Rattle.machine.specs.declared.Transfer.{Transfer}
-use Rattle.machine.specs.declared.Transfer.the-variants.{Put, HandedTo, Taken, LetIn}
-use Rattle.machine.specs.declared.Decision.the-variants.{Refused, Passed}
+use Rattle.machine.specs.declared.Transfer.the-variants.{HandedTo, LetIn}
+use Rattle.machine.specs.declared.Decision.the-variants.{Passed}
 use Rattle.machine.specs.declared.Wait.the-variants.{Source, Destination}
 use Rattle.machine.specs.declared.Time.the-variants.{At}
 use Rattle.machine.specs.declared.Field.the-variants.{Number}
@@ -23,26 +23,26 @@ use Rattle.machine.specs.declared.Event.{Event as EventT}
 use Rattle.machine.specs.declared.Module.{Module}
 use Rattle.machine.specs.Limits.{channelLimit, messageLimit, durationLimit}
 use Rattle.machine.specs.Fields.{field, between}
-use Rattle.machine.specs.Messages.{noQueue, queueOf, held, first, sent, received, moved}
+use Rattle.machine.specs.Messages.{noQueue, held, first, sent, received, moved}
 use Rattle.machine.specs.Process.{object, carried, served, handed}
 use Rattle.machine.specs.Partition.{process, stored, waiters, noted}
-use Rattle.machine.specs.Decisions.{checked, awaiting, queued}
+use Rattle.machine.specs.Decisions.{checked, awaiting}
 use Rattle.machine.specs.Channels.{queuing, channelChecks, send, receive, passed}
 use Rattle.machine.specs.Services.{services, callDecision}
 use Rattle.machine.specs.Places.{strayField}
 use Rattle.machine.specs.Module.{noPartition, channel, queue, withPart, withQueue}
 use Rattle.machine.specs.Step.{step}
 use Rattle.machine.specs.Valid.{Between, SoundModule, SoundMove}
-use Rattle.machine.specs.Starred.{own, callBy, WaitsFor, TimeOut, Calling, Gives, Refuses}
-use Rattle.machine.specs.Queues.{WouldWait, FirstServed, has, EndOf, ChannelCalls}
+use Rattle.machine.specs.Starred.{own, callBy, TimeOut, Calling, Gives}
+use Rattle.machine.specs.Queues.{FirstServed, has, EndOf, ChannelCalls}
 use Rattle.machine.specs.Plain.{plainMoved}
 use Rattle.machine.proofs.Either.{either}
 use Rattle.machine.proofs.Lists.{cons-not}
-use Rattle.machine.proofs.Messages.{queue-first, queue-length, moved-plain, moved-held}
+use Rattle.machine.proofs.Messages.{queue-first, queue-length, moved-held}
 use Rattle.machine.proofs.Sound.{carried-sound}
 use Rattle.machine.proofs.Calling.{field-number, calling-sound, gives}
 use Rattle.machine.proofs.Reached.{queuing-plain}
-use Rattle.machine.proofs.Queues.{first-created, ended-is, waits-for, time-out, a-message, ends-handed, queued-by, served-in}
+use Rattle.machine.proofs.Queues.{first-created, ended-is, time-out, a-message, ends-handed, served-in}
 use Rattle.machine.proofs.Ends.{channel-ends}
 
 place : (i : ℕ) → i + 1 - 1 ≡ i
@@ -112,19 +112,6 @@ module _ (m : Module) (k : ℕ) (u : SoundModule m) (h : Calling m k) (normal : 
     apart : k ≡ to → ⊥
     apart e = u .table .eachChannel i there .apart (from ∙ e)
 
-    send-waits : (x : ℕ) (a : ℤ) → queue m i .len ≡ c .size → x ≤ durationLimit → WaitsFor a → WouldWait m k (callBy k 30 (pos (i + 1)) (pos x) a (pos 0)) (Source (i + 1) x)
-    unfolding callDecision services strayField send awaiting queued checked channelChecks
-    send-waits x a full ok t =
-        let f = waits-for a t in
-        queued-by m k u h 30 (i + 1) (pos x) a a (Source (i + 1) x) (omega arith) (omega arith) (λ e. omega arith) refl
-        (rw (number, field-number x (omega arith), place i, exists, lt-ltb i (T .channelCount) there, kind, lt-ltb i channelLimit low, eq-eqb (c .source) k from, eq-eqb (p .mode) 3 normal, a-message x ok, f .0, f .1, le-ltb (queue m i .len) (c .size) (omega (arith, full)))) normal
-
-    send-full : (x : ℕ) → queue m i .len ≡ c .size → x ≤ durationLimit → Refuses m (callBy k 30 (pos (i + 1)) (pos x) (pos 0) (pos 0)) 2
-    unfolding callDecision services strayField send awaiting queued checked channelChecks
-    send-full x full ok =
-        gives m k u h 30 (pos (i + 1)) (pos x) (pos 0) (pos 0) (omega arith) (omega arith) refl (Refused 2)
-        (rw (number, field-number x (omega arith), place i, exists, lt-ltb i (T .channelCount) there, kind, lt-ltb i channelLimit low, eq-eqb (c .source) k from, eq-eqb (p .mode) 3 normal, a-message x ok, le-ltb (queue m i .len) (c .size) (omega (arith, full))))
-
     module _ (x : ℕ) (a : ℤ) (ok : x ≤ durationLimit) (t : TimeOut a) where
       abbrev sends : EventT
       sends = callBy k 30 (pos (i + 1)) (pos x) a (pos 0)
@@ -151,10 +138,6 @@ module _ (m : Module) (k : ℕ) (u : SoundModule m) (h : Calling m k) (normal : 
             ap (λ (n : Module). own n k) is ∙ mine to inside apart y z,
           )
 
-      send-none : waiters receivers (own m to) ≡ [] → queue m i .len < c .size → Gives m sends 0 0 (At 0) (withQueue i (queueOf (messages ++ (x ∷ []))) m)
-      unfolding sent
-      send-none e room = rw (sym (moved-plain (c .size) (queue m i) (u .eachQueue i) few (Put x) (room, ok))) (send-gives [] e room)
-
   -- ---------------------------------------------------------------- RECEIVE
   module _ (to : c .destination ≡ k) where
     abbrev from : ℕ
@@ -171,21 +154,6 @@ module _ (m : Module) (k : ℕ) (u : SoundModule m) (h : Calling m k) (normal : 
 
     other : eqb from k ≡ false
     other = ne-eqb from k (λ e. source-apart (sym e))
-
-    receive-waits : (a : ℤ) → messages ≡ [] → WaitsFor a → WouldWait m k (callBy k 31 (pos (i + 1)) a (pos 0) (pos 0)) (Destination (i + 1))
-    unfolding callDecision services strayField receive awaiting queued checked channelChecks
-    receive-waits a empty t =
-        let f = waits-for a t in
-        let none : queue m i .len ≡ 0 = sym size ∙ ap length empty in
-        queued-by m k u h 31 (i + 1) a (pos 0) a (Destination (i + 1)) (omega arith) (omega arith) (λ e. omega arith) refl
-        (rw (number, place i, exists, lt-ltb i (T .channelCount) there, kind, lt-ltb i channelLimit low, other, eq-eqb (c .destination) k to, eq-eqb (p .mode) 3 normal, f .0, f .1, none)) normal
-
-    receive-empty : messages ≡ [] → Refuses m (callBy k 31 (pos (i + 1)) (pos 0) (pos 0) (pos 0)) 2
-    unfolding callDecision services strayField receive awaiting queued checked channelChecks
-    receive-empty empty =
-        let none : queue m i .len ≡ 0 = sym size ∙ ap length empty in
-        gives m k u h 31 (pos (i + 1)) (pos 0) (pos 0) (pos 0) (omega arith) (omega arith) refl (Refused 2)
-        (rw (number, place i, exists, lt-ltb i (T .channelCount) there, kind, lt-ltb i channelLimit low, other, eq-eqb (c .destination) k to, eq-eqb (p .mode) 3 normal, none))
 
     module _ (a : ℤ) (t : TimeOut a) (x : ℕ) (l : List ℕ) (first-is : messages ≡ x ∷ l) where
       abbrev takes : EventT
@@ -220,12 +188,6 @@ module _ (m : Module) (k : ℕ) (u : SoundModule m) (h : Calling m k) (normal : 
             ap (λ (n : Module). own n k) is ∙ mine from source-inside source-apart y (moved o (queue m i)),
           )
 
-      receive-none : waiters senders (own m from) ≡ [] → Gives m takes 0 x (At 0) (withQueue i (queueOf l) m)
-      unfolding received
-      receive-none e =
-          let is : moved Taken (queue m i) ≡ queueOf l = moved-plain (c .size) (queue m i) (u .eachQueue i) few Taken held-some ∙ ap (λ (s : List ℕ). queueOf (drop 1 s)) first-is in
-          rw (sym is) (receive-gives [] e)
-
 -- a channel by its place, and its end
 module _ (m : Module) (k : ℕ) (h : Calling m k) (i : ℕ) (end : Channel → ℕ) (q : EndOf (m .table) end (i + 1) (k - 1)) where
   is-there : i < m .table .channelCount
@@ -239,12 +201,6 @@ module _ (m : Module) (k : ℕ) (h : Calling m k) (i : ℕ) (end : Channel → �
 
 pub channel-calls : (m : Module) (k : ℕ) → Calling m k → (i : ℕ) → ChannelCalls m k i
 channel-calls m k h i = let u = calling-sound m k h in record {
-  sendWaits = λ x a normal q. send-waits m k u h normal i (is-there m k h i _ q) (is-queuing m k h i _ q) (is-here m k h i _ q) x a;
-  receiveWaits = λ a normal q. receive-waits m k u h normal i (is-there m k h i _ q) (is-queuing m k h i _ q) (is-here m k h i _ q) a;
-  sendFull = λ x normal q. send-full m k u h normal i (is-there m k h i _ q) (is-queuing m k h i _ q) (is-here m k h i _ q) x;
-  receiveEmpty = λ normal q. receive-empty m k u h normal i (is-there m k h i _ q) (is-queuing m k h i _ q) (is-here m k h i _ q);
   sendFirst = λ x id rest a normal q e ok t. send-first m k u h normal i (is-there m k h i _ q) (is-queuing m k h i _ q) (is-here m k h i _ q) x a ok t id rest e;
-  sendNone = λ x a normal q e room ok t. send-none m k u h normal i (is-there m k h i _ q) (is-queuing m k h i _ q) (is-here m k h i _ q) x a ok t e room;
   receiveFirst = λ x l id rest a normal q is e t. receive-first m k u h normal i (is-there m k h i _ q) (is-queuing m k h i _ q) (is-here m k h i _ q) a t x l is id rest e;
-  receiveNone = λ x l a normal q is e t. receive-none m k u h normal i (is-there m k h i _ q) (is-queuing m k h i _ q) (is-here m k h i _ q) a t x l is e;
 }

@@ -1,24 +1,24 @@
--- The preemption lock (document 02, e): what holds of it in every record that a run reaches, what its two calls, STOP_SELF and a mode change make of
--- it, and that nothing else reaches it, as claims about `step` and about lists of events. The premises speak of an event's numbers, the table, the
--- record, the current partition and the running process.
-use Prim.Native.Nat.{ℕ, _+_, _-_, _≤_, _<_}
+-- The preemption lock (document 02, e): what holds of it in every record that a run reaches, and that nothing but its two calls, STOP_SELF and a mode
+-- change (`EachCall`) reaches it, as claims about `step` and about lists of events. The premises speak of an event's numbers, the table, the record, the
+-- current partition and the running process.
+use Prim.Native.Nat.{ℕ, _≤_, _<_}
 use mathlib.Core.Path.{_≡_}
 use mathlib.Core.Bool.{Bool, true}
 use mathlib.Core.List.{List, [], _∷_}
 use mathlib.Core.Logic.{_⊎_}
-use lib.IntN.{ℤ, pos}
+use lib.IntN.{pos}
 use Rattle.machine.specs.declared.Event.{Event as EventT}
 use Rattle.machine.specs.declared.Partition.{Partition}
 use Rattle.machine.specs.declared.Module.{Module}
 use Rattle.machine.specs.Limits.{levelLimit}
-use Rattle.machine.specs.Process.{ready, stopped}
-use Rattle.machine.specs.Partition.{process, running, withLock}
+use Rattle.machine.specs.Process.{ready}
+use Rattle.machine.specs.Partition.{process}
 use Rattle.machine.specs.Module.{current, runningIn}
 use Rattle.machine.specs.Step.{step}
 use Rattle.machine.specs.TwoRuns.{keep}
 use Rattle.machine.specs.LeftRight.{common, after, Within, Closed}
 use Rattle.machine.specs.Valid.{Between, Reached}
-use Rattle.machine.specs.Starred.{own, callBy, Refuses, Puts, Calling, withProcess, without}
+use Rattle.machine.specs.Starred.{own}
 
 -- ---------------------------------------------------------------- every reached record
 pub record LockHolds (m : Module) (k : ℕ) : Type 0 where
@@ -50,38 +50,6 @@ unfoldable pub LockedThroughout : ℕ → Module → List EventT → Type 0
 LockedThroughout k m [] = 0 < own m k .level
 LockedThroughout k m (e ∷ es) = (0 < own m k .level) × LockedThroughout k (step m e .state) es
 
--- ---------------------------------------------------------------- the calls
-abbrev pub lock : ℕ → EventT
-lock k = callBy k 32 (pos 0) (pos 0) (pos 0) (pos 0)
-
-abbrev pub unlock : ℕ → EventT
-unlock k = callBy k 33 (pos 0) (pos 0) (pos 0) (pos 0)
-
-pub record LockCalls (m : Module) (k : ℕ) : Type 0 where
-  -- 32 LOCK_PREEMPTION: 1 outside NORMAL, 4 at 16; else one level more, and the process that raised it from 0 is the holder
-  pub lockEarly : (own m k .mode ≡ 3 → ⊥) → Refuses m (lock k) 1
-  pub lockFull : own m k .mode ≡ 3 → own m k .level ≡ levelLimit → Refuses m (lock k) 4
-  pub lockFirst : let p = own m k in
-      p .mode ≡ 3 → p .level ≡ 0 → Puts m (lock k) 0 0 k (withLock 1 (running p) p)
-  pub lockMore : let p = own m k in
-      p .mode ≡ 3 → 0 < p .level → p .level < levelLimit → Puts m (lock k) 0 0 k (withLock (p .level + 1) (p .holder) p)
-  -- 33 UNLOCK_PREEMPTION: 1 outside NORMAL, 1 at level 0; else one level less, and at 0 there is no holder
-  pub unlockEarly : (own m k .mode ≡ 3 → ⊥) → Refuses m (unlock k) 1
-  pub unlockFree : own m k .mode ≡ 3 → own m k .level ≡ 0 → Refuses m (unlock k) 1
-  pub unlockLast : let p = own m k in
-      p .mode ≡ 3 → p .level ≡ 1 → Puts m (unlock k) 0 0 k (withLock 0 0 p)
-  pub unlockOne : let p = own m k in
-      p .mode ≡ 3 → 1 < p .level → Puts m (unlock k) 0 0 k (withLock (p .level - 1) (p .holder) p)
-  -- STOP_SELF brings the level to 0: the caller is DORMANT then, and leaves the arrival list
-  pub stopSelf : let p = own m k in
-      let id = running p in
-      p .mode ≡ 3 → Puts m (callBy k 6 (pos 0) (pos 0) (pos 0) (pos 0)) 0 0 k (withProcess id (stopped (process id p)) (without id (p .arrival)) (withLock 0 0 p))
-  -- an accepted mode change brings the level to 0; a refused one leaves the whole record
-  pub modeChanged : (a : ℤ) → let e = callBy k 1 a (pos 0) (pos 0) (pos 0) in
-      step m e .answer .code ≡ 0 → (own (step m e .state) k .level ≡ 0) × (own (step m e .state) k .holder ≡ 0)
-  pub modeRefused : (a : ℤ) → let e = callBy k 1 a (pos 0) (pos 0) (pos 0) in
-      (step m e .answer .code ≡ 0 → ⊥) → step m e .state ≡ m
-
 -- ---------------------------------------------------------------- the whole
 pub record Locks : Type 0 where
   pub reached : (m : Module) → Reached m → (k : ℕ) → Between 1 (m .table .size) k → LockHolds m k
@@ -89,7 +57,6 @@ pub record Locks : Type 0 where
   pub shown : (m : Module) → Reached m → (e : EventT) (k : ℕ) → let q = step m e .state in
       Between 1 (m .table .size) k → (e .partition ≡ pos 0) ⊎ (e .partition ≡ pos k) → current q ≡ k → 0 < own q k .level
       → step m e .answer .running ≡ own q k .holder
-  pub calls : (m : Module) (k : ℕ) → Calling m k → LockCalls m k
   -- over every list of events the holder stays while the level is above 0, also where it locks further and unlocks
   pub held : (m : Module) → Reached m → (k : ℕ) → Between 1 (m .table .size) k → (es : List EventT) → LockedThroughout k m es → own (after m es) k .holder ≡ own m k .holder
   -- no other event reaches the lock of a partition, whatever it does to priorities and arrivals: with `reached`, the holder is READY, and it is the

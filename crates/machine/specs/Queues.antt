@@ -16,7 +16,6 @@ use Rattle.machine.specs.declared.EventState.{EventState}
 use Rattle.machine.specs.declared.Buffer.{Buffer}
 use Rattle.machine.specs.declared.Blackboard.{Blackboard as BlackboardT}
 use Rattle.machine.specs.declared.Change.the-variants.{Ended, Handed}
-use Rattle.machine.specs.declared.Wait.{Wait}
 use Rattle.machine.specs.declared.Wait.the-variants.{Semaphore, Event, Sending, Receiving, Blackboard, Source, Destination}
 use Rattle.machine.specs.declared.Channel.{Channel}
 use Rattle.machine.specs.declared.Table.{Table}
@@ -26,14 +25,13 @@ use Rattle.machine.specs.Limits.{durationLimit}
 use Rattle.machine.specs.Fields.{requestOf, numberOf}
 use Rattle.machine.specs.Ids.{members, kept}
 use Rattle.machine.specs.Process.{Class, objectIn, object, carried, due, ready}
-use Rattle.machine.specs.Messages.{held, queueOf}
-use Rattle.machine.specs.declared.Time.the-variants.{At}
+use Rattle.machine.specs.Messages.{held}
 use Rattle.machine.specs.Buffers.{hasRoom, holds}
 use Rattle.machine.specs.Partition.{normalMode, process, semaphore, event, buffer, blackboard, stored, storedSemaphore, storedEvent, created, storedBuffer, storedBlackboard, arrivedLast, withLock, applied, tickPartition, enteredNormal, running, waitsOn, waiters}
-use Rattle.machine.specs.Module.{channel, part, queue, withQueue}
+use Rattle.machine.specs.Module.{channel, part, queue}
 use Rattle.machine.specs.Step.{step}
 use Rattle.machine.specs.Valid.{Between, contains, Distinct, Reached}
-use Rattle.machine.specs.Starred.{own, callBy, WaitsFor, TimeOut, Calling, Gives, Refuses}
+use Rattle.machine.specs.Starred.{own, callBy, TimeOut, Calling}
 use Rattle.machine.specs.Plain.{followed, waitOver}
 
 -- ---------------------------------------------------------------- a queue
@@ -130,18 +128,7 @@ pub record QueueAfter (m : Module) (e : EventT) (i o : ℕ) : Type 0 where
       let q = part (step m e .state) i in
       waiters o q ≡ kept (waitsOn o q) (waiters o p) ++ joining (step m e .answer .code) (numberOf (requestOf e .partition)) i o p q
 
--- ---------------------------------------------------------------- the calls that make a process wait and that end waits
--- the caller, which is the running process, waits on w: 7, and it stands behind the queue of that object
-pub record Queued (m : Module) (k : ℕ) (e : EventT) (w : Wait) : Type 0 where
-  pub code : step m e .answer .code ≡ 7
-  pub wait : process (running (own m k)) (own (step m e .state) k) .wait ≡ w
-  pub queue : waiters (object w) (own (step m e .state) k) ≡ waiters (object w) (own m k) ++ (running (own m k) ∷ [])
-
--- the call would wait on w: it waits where preemption is not locked; while it is locked the answer is 5, and the whole record stays
-pub record WouldWait (m : Module) (k : ℕ) (e : EventT) (w : Wait) : Type 0 where
-  pub free : own m k .level ≡ 0 → Queued m k e w
-  pub locked : 0 < own m k .level → Refuses m e 5
-
+-- ---------------------------------------------------------------- the calls that end waits
 -- the wait of process id, the first of queue o, ends: it leaves the queue, this message is in its record then, all else in it stays (the mark too), and
 -- no other process changes
 pub record FirstServed (m : Module) (k : ℕ) (e : EventT) (o id : ℕ) (rest : List ℕ) (message : ℕ) : Type 0 where
@@ -168,15 +155,8 @@ pub record AllServed (m : Module) (k : ℕ) (e : EventT) (o : ℕ) (message : �
 abbrev pub has : Module → ℕ → ℕ → ℕ
 has m k id = process id (own m k) .message
 
--- semaphores and events
+-- semaphores and events (a call that waits joins last: `QueueAfter`; its record is `Waiting` of EachCall)
 pub record QueueCalls (m : Module) (k j : ℕ) : Type 0 where
-  -- 15 WAIT_SEMAPHORE of a value 0 and 20 WAIT_EVENT of an event DOWN: queued last, or 5 while preemption is locked
-  pub waitSemaphore : (a : ℤ) → let p = own m k in
-      p .mode ≡ 3 → Between 1 (p .semaphoreCount) j → semaphore j p .value ≡ 0 → WaitsFor a
-      → WouldWait m k (callBy k 15 (pos j) a (pos 0) (pos 0)) (Semaphore j)
-  pub waitEvent : (a : ℤ) → let p = own m k in
-      p .mode ≡ 3 → Between 1 (p .eventCount) j → event j p .up ≡ false → WaitsFor a
-      → WouldWait m k (callBy k 20 (pos j) a (pos 0) (pos 0)) (Event j)
   -- 16 SIGNAL below max: the first waiter's wait ends; none: value + 1
   pub signalFirst : (id : ℕ) (rest : List ℕ) → let p = own m k in
       let e = callBy k 16 (pos j) (pos 0) (pos 0) (pos 0) in
@@ -192,17 +172,6 @@ pub record QueueCalls (m : Module) (k j : ℕ) : Type 0 where
 
 -- buffers and blackboards; b is a message
 pub record MessageCalls (m : Module) (k j : ℕ) : Type 0 where
-  -- 24 SEND_BUFFER to a full buffer, 25 RECEIVE_BUFFER from an empty one, 28 READ_BLACKBOARD of one that shows nothing: queued last, or 5
-  -- while preemption is locked
-  pub sendWaits : (b : ℕ) (a : ℤ) → let p = own m k in
-      p .mode ≡ 3 → Between 1 (p .bufferCount) j → buffer j p .queue .len ≡ buffer j p .limit → b ≤ durationLimit → WaitsFor a
-      → WouldWait m k (callBy k 24 (pos j) (pos b) a (pos 0)) (Sending j b)
-  pub receiveWaits : (a : ℤ) → let p = own m k in
-      p .mode ≡ 3 → Between 1 (p .bufferCount) j → held (buffer j p .queue) ≡ [] → WaitsFor a
-      → WouldWait m k (callBy k 25 (pos j) a (pos 0) (pos 0)) (Receiving j)
-  pub readWaits : (a : ℤ) → let p = own m k in
-      p .mode ≡ 3 → Between 1 (p .blackboardCount) j → blackboard j p .shown ≡ false → WaitsFor a
-      → WouldWait m k (callBy k 28 (pos j) a (pos 0) (pos 0)) (Blackboard j)
   -- 24 SEND_BUFFER where receivers wait: the message goes straight into the first one's record, and no object changes
   pub sendFirst : (b id : ℕ) (rest : List ℕ) (a : ℤ) → let p = own m k in
       let e = callBy k 24 (pos j) (pos b) a (pos 0) in
@@ -226,44 +195,20 @@ pub record MessageCalls (m : Module) (k j : ℕ) : Type 0 where
   pub show : (b : ℕ) → let e = callBy k 27 (pos j) (pos b) (pos 0) (pos 0) in
       Between 1 (own m k .blackboardCount) j → b ≤ durationLimit
       → AllServed m k e (object (Blackboard j)) (λ _. b) × (blackboard j (own (step m e .state) k) ≡ record { name = blackboard j (own m k) .name; shown = true; message = b })
-  -- 28 READ_BLACKBOARD of what is shown: the value, and nothing changes
-  pub readShown : (a : ℤ) → let p = own m k in
-      p .mode ≡ 3 → Between 1 (p .blackboardCount) j → blackboard j p .shown ≡ true → TimeOut a
-      → Gives m (callBy k 28 (pos j) a (pos 0) (pos 0)) 0 (blackboard j p .message) (At 0) m
-  -- 29 CLEAR: it shows nothing
-  pub clear : let e = callBy k 29 (pos j) (pos 0) (pos 0) (pos 0) in
-      Between 1 (own m k .blackboardCount) j
-      → (step m e .answer .code ≡ 0) × (blackboard j (own (step m e .state) k) ≡ record { name = blackboard j (own m k) .name; shown = false; message = 0 })
 
 -- queuing channels: channel number i + 1; b is a message
 pub record ChannelCalls (m : Module) (k i : ℕ) : Type 0 where
-  -- 30 SEND to a full queue, 31 RECEIVE from an empty one: queued last, or 5 while preemption is locked
-  pub sendWaits : (b : ℕ) (a : ℤ) → own m k .mode ≡ 3 → EndOf (m .table) (λ c. c .source) (i + 1) (k - 1) → queue m i .len ≡ channel (m .table) i .size → b ≤ durationLimit → WaitsFor a
-      → WouldWait m k (callBy k 30 (pos (i + 1)) (pos b) a (pos 0)) (Source (i + 1) b)
-  pub receiveWaits : (a : ℤ) → own m k .mode ≡ 3 → EndOf (m .table) (λ c. c .destination) (i + 1) (k - 1) → held (queue m i) ≡ [] → WaitsFor a
-      → WouldWait m k (callBy k 31 (pos (i + 1)) a (pos 0) (pos 0)) (Destination (i + 1))
-  -- and with time-out 0: 2
-  pub sendFull : (b : ℕ) → own m k .mode ≡ 3 → EndOf (m .table) (λ c. c .source) (i + 1) (k - 1) → queue m i .len ≡ channel (m .table) i .size → b ≤ durationLimit
-      → Refuses m (callBy k 30 (pos (i + 1)) (pos b) (pos 0) (pos 0)) 2
-  pub receiveEmpty : own m k .mode ≡ 3 → EndOf (m .table) (λ c. c .destination) (i + 1) (k - 1) → held (queue m i) ≡ [] → Refuses m (callBy k 31 (pos (i + 1)) (pos 0) (pos 0) (pos 0)) 2
   -- 30 SEND where receivers wait: the message goes straight into the first one's record, in the partition at the destination; the queue and the
   -- caller's record stay
   pub sendFirst : (b id : ℕ) (rest : List ℕ) (a : ℤ) → let d = channel (m .table) i .destination in
       let e = callBy k 30 (pos (i + 1)) (pos b) a (pos 0) in
       own m k .mode ≡ 3 → EndOf (m .table) (λ c. c .source) (i + 1) (k - 1) → waiters (object (Destination (i + 1))) (own m d) ≡ id ∷ rest → b ≤ durationLimit → TimeOut a
       → FirstServed m d e (object (Destination (i + 1))) id rest b × (held (queue (step m e .state) i) ≡ held (queue m i)) × (own (step m e .state) k ≡ own m k)
-  -- where none waits and there is room: it is the queue's last message, and nothing else changes
-  pub sendNone : (b : ℕ) (a : ℤ) → let d = channel (m .table) i .destination in
-      own m k .mode ≡ 3 → EndOf (m .table) (λ c. c .source) (i + 1) (k - 1) → waiters (object (Destination (i + 1))) (own m d) ≡ [] → queue m i .len < channel (m .table) i .size → b ≤ durationLimit → TimeOut a
-      → Gives m (callBy k 30 (pos (i + 1)) (pos b) a (pos 0)) 0 0 (At 0) (withQueue i (queueOf (held (queue m i) ++ (b ∷ []))) m)
-  -- 31 RECEIVE: the first message; the first waiting sender's message is let in at the end; none: the others move up, and nothing else changes
+  -- 31 RECEIVE where senders wait: the first message; the first waiting sender's is let in at the end
   pub receiveFirst : (b : ℕ) (l : List ℕ) (id : ℕ) (rest : List ℕ) (a : ℤ) → let d = channel (m .table) i .source in
       let e = callBy k 31 (pos (i + 1)) a (pos 0) (pos 0) in
       own m k .mode ≡ 3 → EndOf (m .table) (λ c. c .destination) (i + 1) (k - 1) → held (queue m i) ≡ b ∷ l → waiters (object (Source (i + 1) 0)) (own m d) ≡ id ∷ rest → TimeOut a
       → FirstServed m d e (object (Source (i + 1) 0)) id rest (has m d id) × (step m e .answer .value ≡ b) × (held (queue (step m e .state) i) ≡ l ++ (carried (process id (own m d)) ∷ [])) × (own (step m e .state) k ≡ own m k)
-  pub receiveNone : (b : ℕ) (l : List ℕ) (a : ℤ) → let d = channel (m .table) i .source in
-      own m k .mode ≡ 3 → EndOf (m .table) (λ c. c .destination) (i + 1) (k - 1) → held (queue m i) ≡ b ∷ l → waiters (object (Source (i + 1) 0)) (own m d) ≡ [] → TimeOut a
-      → Gives m (callBy k 31 (pos (i + 1)) a (pos 0) (pos 0)) 0 b (At 0) (withQueue i (queueOf l) m)
 
 -- the whole
 pub record Queues : Type 0 where

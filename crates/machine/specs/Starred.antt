@@ -81,17 +81,9 @@ pub record Gives (m : Module) (e : EventT) (code value : ℕ) (extra : Time) (q 
 abbrev pub Refuses : Module → EventT → ℕ → Type 0
 Refuses m e code = Gives m e code 0 (At 0) m
 
--- a time-out other than 0: −1, or 1..9,999,999
-abbrev pub WaitsFor : ℤ → Type 0
-WaitsFor a = (plainMinusOne a || plainBetween 1 durationLimit a) ≡ true
-
 -- a time-out: −1, or 0..9,999,999
 abbrev pub TimeOut : ℤ → Type 0
 TimeOut a = (plainMinusOne a || plainBetween 0 durationLimit a) ≡ true
-
--- neither
-abbrev pub NoTimeOut : ℤ → Type 0
-NoTimeOut a = (plainMinusOne a || plainBetween 0 durationLimit a) ≡ false
 
 -- partition k has the record p from now on, and nothing else changes
 abbrev pub Puts : Module → EventT → ℕ → ℕ → ℕ → Partition → Type 0

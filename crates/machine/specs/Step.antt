@@ -1,7 +1,6 @@
 -- An event: what it decides, what the decision makes of the module, and the answer.
 use Prim.Native.Nat.{ℕ, _-_}
-use mathlib.Core.Bool.{Bool, true, cond, not, _&&_, _||_}
-use lib.Dec.{leb, eqb}
+use mathlib.Core.Bool.{Bool, cond, _||_}
 use Rattle.machine.specs.declared.Module.{Module}
 use Rattle.machine.specs.declared.Partition.{Partition}
 use Rattle.machine.specs.declared.Context.{Context}
@@ -77,7 +76,3 @@ stepped m r d =
 
 unfoldable pub step : Module → Event → Stepped
 step m e = let r = requestOf e in stepped m r (decision m r)
-
--- the numbers of the table "Numbers by place of check" that an event can get: each leaves the module same
-unfoldable pub refusal : ℕ → Bool
-refusal n = (leb 1 n && leb n 5) || (eqb n 8 || (eqb n 9 || (eqb n 10 || eqb n 13)))

@@ -1,24 +1,23 @@
--- Ticks left in the window (document 02, f): what they are in every record that a run reaches, what call 34 answers, and how they count down over
--- every list of events, as claims about `step` and about lists of events. The premises speak of an event's numbers, the table, the record and the
+-- Ticks left in the window (document 02, f): what they are in every record that a run reaches, and how they count down over every list of events, as
+-- claims about `step` and about lists of events (what call 34 answers: `EachCall`). The premises speak of an event's numbers, the table, the record and the
 -- current partition.
-use Prim.Native.Nat.{ℕ, _+_, _-_, _%_, _≤_, _<_}
+use Prim.Native.Nat.{ℕ, _+_, _-_, _%_, _<_}
 use mathlib.Core.Path.{_≡_}
 use mathlib.Core.Bool.{Bool, true}
 use mathlib.Core.List.{List}
 use mathlib.Core.Logic.{_⊎_}
-use lib.IntN.{ℤ, pos}
+use lib.IntN.{pos}
 use lib.ListN.{length, getD}
 use Rattle.machine.specs.declared.Event.{Event as EventT}
 use Rattle.machine.specs.declared.Module.{Module}
 use Rattle.machine.specs.declared.Table.{Table}
-use Rattle.machine.specs.declared.Time.the-variants.{At}
 use Rattle.machine.specs.Windows.{noWindow, windows, covers, lookup, StartAt, WindowLeft}
 use Rattle.machine.specs.Module.{window, current, ticksLeft}
 use Rattle.machine.specs.Step.{step}
 use Rattle.machine.specs.TwoRuns.{keep}
 use Rattle.machine.specs.LeftRight.{common, after, Within, Closed}
 use Rattle.machine.specs.Valid.{Between, Reached}
-use Rattle.machine.specs.Starred.{callBy, Gives, Refuses, Calling}
+use Rattle.machine.specs.Starred.{callBy, Calling}
 
 -- ---------------------------------------------------------------- the call
 -- 34 GET_TICKS_LEFT of partition k
@@ -33,14 +32,6 @@ pub record EndsIn (T : Table) (x k n : ℕ) : Type 0 where
   pub covered : covers (getD (windows T) at noWindow) x ≡ true
   pub ends : x + n ≡ getD (windows T) at noWindow .start + getD (windows T) at noWindow .duration
 
-pub record LeftCall (m : Module) (k : ℕ) : Type 0 where
-  -- in every mode: code 0, value the ticks left, extra 0; the whole record stays
-  pub given : Gives m (getLeft k) 0 (ticksLeft m) (At 0) m
-  -- without fields: with one that is not 0 it is 13
-  pub stray : (a b c e : ℤ) → ((a ≡ pos 0) × (b ≡ pos 0) × (c ≡ pos 0) × (e ≡ pos 0) → ⊥) → Refuses m (callBy k 34 a b c e) 13
-  -- the value is the end of the partition's own window minus t mod M
-  pub window : EndsIn (m .table) (m .t % m .table .frame) k (step m (getLeft k) .answer .value)
-
 -- ---------------------------------------------------------------- the whole
 pub record TicksLeft : Type 0 where
   -- 1 ≤ ticks left ≤ M in every reached record with M > 0
@@ -49,7 +40,6 @@ pub record TicksLeft : Type 0 where
   pub windowLeft : (m : Module) → Reached m → 0 < m .table .frame → (t : ℕ) → WindowLeft (m .table) t (lookup (m .table) t .left)
   -- the empty record gives 0, 0
   pub empty : (m : Module) → Reached m → m .table .frame ≡ 0 → (t : ℕ) → lookup (m .table) t ≡ record { partition = 0; left = 0 }
-  pub calls : (m : Module) (k : ℕ) → Calling m k → LeftCall m k
   -- over every list of events, n ticks left before it: j ticks later, j < n, the same partition is current with n − j
   pub lasts : (m : Module) → Reached m → (es : List EventT) (j : ℕ) → let q = after m es in
       q .t ≡ m .t + j → j < ticksLeft m → (current q ≡ current m) × (ticksLeft q ≡ ticksLeft m - j)

@@ -17,7 +17,7 @@ use Rattle.machine.specs.declared.Transfer.the-variants.{Put, Taken, Let
 use Rattle.machine.specs.declared.Event.{Event as EventT}
 use Rattle.machine.specs.declared.Module.{Module}
 use Rattle.machine.specs.declared.Decision.{Decision}
-use Rattle.machine.specs.declared.Decision.the-variants.{Refused, Unchanged, Blocked, Changed, Restarted, Written, Passed as PassedOn}
+use Rattle.machine.specs.declared.Decision.the-variants.{Refused, Unchanged, Blocked, Changed, Restarted, Written, Passed as PassedOn, Ticked}
 use Rattle.machine.specs.declared.Change.the-variants.{Nothing, Stored, Created, CreatedBuffer, Entered, Last, StoredSemaphore, StoredEvent, StoredBlackboard, Moved, Ended, Handed, LevelSet}
 use Rattle.machine.specs.declared.Semaphore.{Semaphore as SemaphoreT}
 use Rattle.machine.specs.declared.EventState.{EventState}
@@ -43,9 +43,9 @@ use Rattle.machine.specs.Services.{Service, noService, services, service
 use Rattle.machine.specs.Messages.{held, sent, received, first, noQueue, queueOf}
 use Rattle.machine.specs.Places.{malformed, strayField}
 use Rattle.machine.specs.Module.{emptyModule, emptyTable, channel, message, queue, current, runningIn, ticksLeft, withMessages, withPart, withQueue}
-use Rattle.machine.specs.Step.{contextOf, moduleAfter, step, restarted}
+use Rattle.machine.specs.Step.{contextOf, moduleAfter, step, restarted, decision}
 use Rattle.machine.specs.Valid.{Between, Numbered, Valid, SoundModule, SoundMove, ValidModule, Reached, plainLater, settingOf}
-use Rattle.machine.specs.Plain.{plainBetween, plainNumber, plainMinusOne, plainUnknown, plainStored, plainMoved, letGo, plainEach, plainRefilledTo, waitOver}
+use Rattle.machine.specs.Plain.{plainBetween, plainNumber, plainMinusOne, plainUnknown, plainStored, plainMoved, letGo, plainEach, plainRefilledTo, waitOver, plainTicked}
 use Rattle.machine.specs.Starred.{own, callBy, Calling, Gives, Puts, atEnd, withSemaphoreAt, given, withProcess, awaitsNext, awaitsRelease}
 use Rattle.machine.specs.EachCall.{idOf, timeIn, inD, inT, periodicAt, tooLong, named, used, stray, malformedAt, EachEvent, Checks, nowDormant, with, startedAt, withPriority, withEventAt, withBufferAt, withBoardAt, aboveIn, processAdmitted, Starts, Waiting, Stop, StopSelf, Suspend, Resume, GetStatus, SuspendSelf, TimedWait, ResetEvent, SetEvent, Clear, Signal, Show, WaitSemaphore, WaitEvent, ReceiveBuffer, ReadBlackboard, SendBuffer, Write, Read, Send, Receive, Start, DelayedStart, SetPriority, PeriodicWait, CreateEvent, CreateBlackboard, CreateBuffer, CreateSemaphore, CreateProcess, SetMode, EachCall, GetTicksLeft, LockPreemption, UnlockPreemption, entering, restartedAs, withoutInto}
 use Rattle.machine.proofs.Tests.{by-test, Passed, and-left, and-right, or-left, or-right, not-both, passed-parts}
@@ -59,14 +59,15 @@ use Rattle.machine.proofs.Reached.{queuing-plain, reached-valid, erased
 use Rattle.machine.proofs.Messages.{queue-first, moved-in-plain, moved-plain}
 use Rattle.machine.proofs.Moves as Mo
 use Rattle.machine.proofs.Sound.{capacity-bound, carried-sound, ready-off}
-use Rattle.machine.proofs.Refusals.{places}
+use Rattle.machine.proofs.Refusals.{places, refused-same}
 use Rattle.machine.proofs.WindowLeft.{Covered, current-known, covered-or-none, window-left}
-use Rattle.machine.proofs.Plain.{lossless, stored-plain, all-plain, arrived-plain, later-uncapped, each-plain, next-deadline-plain, next-plain, refilled-all, release-deadline-plain, release-point-plain}
+use Rattle.machine.proofs.Plain.{lossless, stored-plain, all-plain, arrived-plain, later-uncapped, each-plain, next-deadline-plain, next-plain, refilled-all, release-deadline-plain, release-point-plain, tick-plain}
 use Rattle.machine.specs.declared.Message.{Message}
 use Rattle.machine.specs.declared.Queue.{Queue}
 use Rattle.machine.specs.Windows.{Uncovered, Release, windows}
 use Rattle.machine.specs.declared.Table.{Table}
 use Rattle.machine.proofs.Starts.{release-earliest, release-one}
+use Rattle.machine.proofs.Dispatch.{ticks-decided}
 
 -- ---------------------------------------------------------------- numbers
 -- low..high
@@ -912,6 +913,10 @@ place-of P c (pos n) few h =
     (rw f, rw f (either (eqb c n) (λ e. rw (e, eq-eqb n c (sym (eqb-true c n e)))) (λ e. rw (e, ne-eqb n c (λ z. eqb-false c n e (sym z))))), rw f)
 place-of P c (negsuc n) few h = not-both _ h refl
 
+empty-size : emptyModule .table .size ≡ 0
+unfolding emptyModule emptyTable
+empty-size = refl
+
 module _ (m : Module) (e : EventT) (few : m .table .size ≤ 8) where
   abbrev P : ℕ
   P = m .table .size
@@ -921,6 +926,22 @@ module _ (m : Module) (e : EventT) (few : m .table .size ≤ 8) where
   malformed-is =
       rw (lossless (e .partition) .between 0 P (omega arith), lossless (e .call) .between 0 callLimit (omega arith), lossless (e .partition) .isNumber 0 (omega arith), lossless (e .call) .isNumber 0 (omega arith), lossless (e .a) .isNumber 0 (omega arith), lossless (e .b) .isNumber 0 (omega arith), lossless (e .c) .isNumber 0 (omega arith), lossless (e .e) .isNumber 0 (omega arith))
       (either (plainBetween 0 34 (e .call)) (λ o. rw (o, number-in 0 34 (e .call) (omega arith) o, fields-are (idOf (e .call)))) (λ o. rw o))
+
+  ticked-is : ValidModule m → malformedAt P e ≡ false → plainNumber 0 (e .partition) ≡ true → m .t < 99999999 → Gives m e 0 0 (At 0) (plainTicked m)
+  unfolding step
+  ticked-is valid good none room =
+      let w = place-of P 0 (e .partition) few (not-false _ (or-left _ _ (or-right (eqb P 0) _ good))) in
+      let d : decision m (requestOf e) ≡ Ticked = ticks-decided m (requestOf e) (malformed-is ∙ good) (w .0 ∙ none) room in
+      record {
+        codeIs = ap (λ (x : Decision). replyOf x .code) d;
+        valueIs = ap (λ (x : Decision). replyOf x .value) d;
+        extraIs = ap (λ (x : Decision). replyOf x .extra) d;
+        state = ap (moduleAfter m (numberOf (requestOf e .partition))) d ∙ tick-plain m (sound-of valid);
+      }
+    where
+      sound-of : ValidModule m → SoundModule m
+      sound-of (inl z) = absurd (eqb-false P 0 (or-left (eqb P 0) _ good) (ap (λ (x : Module). x .table .size) z ∙ empty-size))
+      sound-of (inr s) = s
 
   module _ (low : current (step m e .state) ≤ 8) where
     shown-is : let q = step m e .state in
@@ -932,15 +953,15 @@ module _ (m : Module) (e : EventT) (few : m .table .size ≤ 8) where
         low-current : {n : ℕ} → n ≤ 8 → n ≤ greatestTime
         low-current h = omega arith
 
-    event-is : EachEvent m e
-    event-is =
+    event-is : ValidModule m → EachEvent m e
+    event-is valid =
         let g = places m e in
         let bad = malformed-is in
         either (malformedAt P e)
-        (λ t. record { thirteen = g .thirteen ∙ bad; ten = g .ten ∙ rw (bad, t); eight = g .eight ∙ rw (bad, t); nine = g .nine ∙ rw (bad, t); shown = shown-is })
+        (λ t. record { thirteen = g .thirteen ∙ bad; ten = g .ten ∙ rw (bad, t); eight = g .eight ∙ rw (bad, t); nine = g .nine ∙ rw (bad, t); same = refused-same m e; ticked = ticked-is valid; shown = shown-is })
         (λ t.
         let w = place-of P (current m) (e .partition) few (not-false _ (or-left _ _ (or-right (eqb P 0) _ t))) in
-        record { thirteen = g .thirteen ∙ bad; ten = g .ten ∙ rw (bad, t, w .0); eight = g .eight ∙ rw (bad, t, w .0, w .1); nine = g .nine ∙ rw (bad, t, w .0, w .1, w .2); shown = shown-is })
+        record { thirteen = g .thirteen ∙ bad; ten = g .ten ∙ rw (bad, t, w .0); eight = g .eight ∙ rw (bad, t, w .0, w .1); nine = g .nine ∙ rw (bad, t, w .0, w .1, w .2); same = refused-same m e; ticked = ticked-is valid; shown = shown-is })
 
 few-partitions : (m : Module) → ValidModule m → (m .table .size ≤ 8) × (current m ≤ 8)
 unfolding emptyModule emptyTable
@@ -949,7 +970,7 @@ few-partitions m (inr s) = let c = current-known (m .table) (s .table) (m .t) in
 
 -- Law. What every event answers before its body, and its last three numbers.
 pub each-event : (m : Module) → Reached m → (e : EventT) → EachEvent m e
-each-event m h e = event-is m e (few-partitions m (reached-valid m h) .0) (few-partitions (step m e .state) (reached-valid (step m e .state) (Reached.stepped m e h)) .1)
+each-event m h e = event-is m e (few-partitions m (reached-valid m h) .0) (few-partitions (step m e .state) (reached-valid (step m e .state) (Reached.stepped m e h)) .1) (reached-valid m h)
 
 -- Law. What each call does.
 pub each-call : (m : Module) (k : ℕ) → Calling m k → EachCall m k

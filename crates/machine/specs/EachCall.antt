@@ -1,7 +1,7 @@
 -- What every event answers before its body, and what each call does, as claims about `step`: its checks in the order written, then the answer and the
 -- whole record after it. The premises speak of the event's numbers and of the record in which the call comes to its body. Each call stands here once,
 -- in the order of the documents; what the claims share with the machine's definitions is said in `Terms`.
-use Prim.Native.Nat.{ℕ, _+_, _-_, _%_}
+use Prim.Native.Nat.{ℕ, _+_, _-_, _%_, _<_}
 use mathlib.Core.Path.{_≡_}
 use mathlib.Core.Bool.{Bool, true, false, cond, not, _&&_, _||_}
 use mathlib.Core.List.{List, [], _∷_, _++_, map}
@@ -27,7 +27,7 @@ use Rattle.machine.specs.Messages.{held, queueOf}
 use Rattle.machine.specs.Module.{channel, message, queue, current, runningIn, withMessage, withMessages, withPart, withQueue, ticksLeft}
 use Rattle.machine.specs.Step.{step}
 use Rattle.machine.specs.Valid.{plainLater}
-use Rattle.machine.specs.Plain.{plainBetween, plainNumber, plainMinusOne, plainStored, plainAll, waitOver, letGo, plainEach, plainRefilledTo}
+use Rattle.machine.specs.Plain.{plainBetween, plainNumber, plainMinusOne, plainStored, plainAll, waitOver, letGo, plainEach, plainRefilledTo, plainTicked}
 use Rattle.machine.specs.Starred.{own, callBy, Gives, Refuses, Puts, withProcess, atEnd, given, withNew, withNewSemaphore, withNewEvent, withNewBuffer, withNewBlackboard, withSemaphoreAt, awaitsNormal, awaitsNext, awaitsRelease, without}
 use Rattle.machine.specs.TicksLeft.{EndsIn}
 use Rattle.machine.specs.declared.Message.{Message}
@@ -82,13 +82,15 @@ malformedAt P e =
 
 -- ---------------------------------------------------------------- every event
 -- 13, 10, 8 and 9 exactly in their places; t, current partition and running process are those after it, and the last reads 0 where the event's
--- partition is neither 0 nor current
+-- partition is neither 0 nor current. Any code but 0 and 7 leaves the whole record. A tick: code 0, t rises by one, and each NORMAL partition is ticked
 pub record EachEvent (m : Module) (e : EventT) : Type 0 where
   pub thirteen : eqb (step m e .answer .code) 13 ≡ malformedAt (m .table .size) e
   pub ten : eqb (step m e .answer .code) 10 ≡ (not (malformedAt (m .table .size) e) && (plainNumber 0 (e .partition) && leb 99999999 (m .t)))
   pub eight : eqb (step m e .answer .code) 8 ≡ (not (malformedAt (m .table .size) e) && (not (plainNumber 0 (e .partition)) && not (plainNumber (current m) (e .partition))))
   pub nine : let p = own m (idOf (e .partition)) in
       eqb (step m e .answer .code) 9 ≡ (not (malformedAt (m .table .size) e) && (not (plainNumber 0 (e .partition)) && (plainNumber (current m) (e .partition) && (eqb (p .mode) 0 || (eqb (p .mode) 3 && eqb (running p) 0)))))
+  pub same : (step m e .answer .code ≡ 0 → ⊥) → (step m e .answer .code ≡ 7 → ⊥) → step m e .state ≡ m
+  pub ticked : malformedAt (m .table .size) e ≡ false → plainNumber 0 (e .partition) ≡ true → m .t < 99999999 → Gives m e 0 0 (At 0) (plainTicked m)
   pub shown : let q = step m e .state in
       (step m e .answer .t ≡ q .t) × (step m e .answer .current ≡ current q)
       × (step m e .answer .running ≡ cond (plainNumber 0 (e .partition) || plainNumber (current q) (e .partition)) (runningIn (current q) q) 0)

@@ -1,29 +1,33 @@
 -- What each line of a table admits. Assumes nothing.
-use Prim.Native.Nat.{ℕ, _+_, _≤_}
+use Prim.Native.Nat.{ℕ, _+_, _≤_, _<_, zero, suc}
 use mathlib.Core.Path.{_≡_, refl}
-use mathlib.Core.Bool.{Bool, true, false, cond, not, _&&_, and-false}
+use mathlib.Core.Bool.{Bool, true, false, cond, not, _&&_, and-false, or-true}
 use native.Mathlib.Omega.{arith}
-use lib.ListN.{getD-replicate}
+use lib.ListN.{getD-replicate, getD, length}
 use lib.IntN.{ℤ, pos, negsuc}
 use lib.Dec.{leb, eqb}
-use borrow.Author.Tests.{eqb-true}
+use borrow.Author.Tests.{eqb-true, eq-eqb}
 use Rattle.machine.specs.declared.Numbers.{Numbers}
 use Rattle.machine.specs.declared.Draft.{Draft}
 use Rattle.machine.specs.Limits.{frameLimit, partitionLimit, windowLimit, channelLimit, durationLimit, sizeLimit}
 use Rattle.machine.specs.Fields.{field, rowOf, numberOf}
-use Rattle.machine.specs.Table.{headGood, headDraft, windowGood, withWindow, channelGood, withChannel, windowNext, tableFrom, tableOf}
+use Rattle.machine.specs.Table.{headGood, headDraft, windowGood, withWindow, channelGood, withChannel, windowNext, tableFrom, tableOf, flaggedFrom, hasFlagged}
 use Rattle.machine.specs.Messages.{noQueue}
 use Rattle.machine.specs.Decisions.{noMessage}
 use Rattle.machine.specs.Partition.{freshPartition}
 use Rattle.machine.specs.Module.{freshModule, noPartition}
 use Rattle.machine.specs.Plain.{plainBetween, plainNumber}
 use Rattle.machine.specs.EachCall.{idOf}
-use Rattle.machine.specs.TableLines.{firstLine, firstDraft, windowLine, windowDraft, channelLine, channelDraft, TableLines}
+use Rattle.machine.specs.TableLines.{firstLine, firstDraft, windowLine, windowDraft, channelLine, channelDraft, TableLines, FlaggedIn}
 use Rattle.machine.proofs.Tests.{and-left, and-right, not-both}
 use Rattle.machine.proofs.Bounds.{getD-replicate-any}
 use Rattle.machine.proofs.Either.{either}
 use Rattle.machine.proofs.EachCall.{number-in}
 use Rattle.machine.proofs.Plain.{lossless}
+use mathlib.Core.List.{List, [], _∷_}
+use Rattle.machine.specs.declared.Window.{Window}
+use Rattle.machine.proofs.Tables.{flagged-each}
+use Rattle.machine.specs.Windows.{flaggedFor, noWindow}
 
 first-is : (x : Numbers) → headGood (rowOf x) ≡ firstLine x
 first-is x = rw (lossless (x .n1) .between 1 frameLimit (omega arith), lossless (x .n2) .between 1 partitionLimit (omega arith), lossless (x .n3) .between 1 windowLimit (omega arith), lossless (x .n4) .between 0 channelLimit (omega arith), lossless (x .n5) .isNumber 0 (omega arith), lossless (x .n6) .isNumber 0 (omega arith))
@@ -88,6 +92,27 @@ module _ (d : Draft) (x : Numbers) (low : d .table .frame ≤ 10000) (few : d .t
       rw (number-in 1 P (x .n1) (omega arith) (and-left (plainBetween 1 P (x .n1)) _ ok), number-in 1 P (x .n2) (omega arith) (and-left (plainBetween 1 P (x .n2)) _ b), number-in 1 9999999 (x .n3) (omega arith) (and-left (plainBetween 1 9999999 (x .n3)) _ e), size-in (x .n5) (plainNumber 1 (x .n4)) (plainNumber 0 (x .n4)) (and-left (cond (plainNumber 1 (x .n4)) (plainBetween 1 8 (x .n5)) (plainNumber 0 (x .n4) && plainNumber 0 (x .n5))) _ g)))
       (λ no. rw no)
 
+-- ---------------------------------------------------------------- the final check
+has-flagged : (k : ℕ) (ws : List Window) → hasFlagged k ws ≡ true → FlaggedIn ws k
+unfolding hasFlagged
+has-flagged k [] h = not-both _ h refl
+has-flagged k (w ∷ ws) h = either (flaggedFor k w)
+    (λ e. record { at = 0; inside = omega arith; owner = eqb-true (w .partition) k (and-right (w .flag) _ e); flagIs = and-left (w .flag) _ e })
+    (λ e. let g = has-flagged k ws (rw e at h) in record { at = suc (g .at); inside = omega (arith, g .inside); owner = g .owner; flagIs = g .flagIs })
+
+flagged-has : (k : ℕ) (ws : List Window) (i : ℕ) → i < length ws → getD ws i noWindow .partition ≡ k → getD ws i noWindow .flag ≡ true → hasFlagged k ws ≡ true
+unfolding hasFlagged
+flagged-has k [] i h o f = absurd (omega arith)
+flagged-has k (w ∷ ws) zero h o f = rw (f, eq-eqb (w .partition) k o)
+flagged-has k (w ∷ ws) (suc i) h o f = rw (flagged-has k ws i (omega arith) o f) (or-true (flaggedFor k w))
+
+all-flagged : (n k : ℕ) (ws : List Window) → ((j : ℕ) → k ≤ j → j < k + n → FlaggedIn ws j) → flaggedFrom n k ws ≡ true
+unfolding flaggedFrom
+all-flagged zero k ws f = refl
+all-flagged (suc n) k ws f =
+    let g = f k (omega arith) (omega arith) in
+    rw (flagged-has k ws (g .at) (g .inside) (g .owner) (g .flagIs)) (all-flagged n (k + 1) ws (λ j lo hi. f j (omega arith) (omega arith)))
+
 -- Law. The lines of a table.
 pub table-lines : TableLines
 unfolding tableOf tableFrom freshModule freshPartition
@@ -101,6 +126,8 @@ table-lines = record {
       (λ w. rw (w, window-is d x low few) (window-kept d x low few (λ y. tableFrom n (line + 1) y ls) _))
       (λ w. rw (w, channel-is d x low few) (channel-kept d x low few (λ y. tableFrom n (line + 1) y ls) _));
   last = λ line d ls. refl;
+  flagged = λ P ws h k b. has-flagged k ws (flagged-each P 1 ws h k (b .0) (omega (arith, b .1)));
+  flaggedIf = λ P ws f. all-flagged P 1 ws (λ j lo hi. f j (lo, omega arith));
   fresh = λ T i h. let is = getD-replicate 8 i freshPartition noPartition h in (refl, refl, rw is, rw is);
   empty = λ T i h. (rw (getD-replicate-any 16 i noMessage), rw (getD-replicate-any 16 i noQueue));
 }

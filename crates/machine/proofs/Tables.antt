@@ -145,7 +145,7 @@ pub record TableRead (r : Reading) : Type 0 where
 table-refused : (code value : ℕ) → (code ≡ 0 → ⊥) → TableRead (T.refusedTable code value)
 table-refused code value h = record { accepted = λ q. absurd (h q); refused = λ _. refl }
 
-flagged-each : (n k : ℕ) (ws : List Window) → T.flaggedFrom n k ws ≡ true → (j : ℕ) → k ≤ j → j < k + n → T.hasFlagged j ws ≡ true
+pub flagged-each : (n k : ℕ) (ws : List Window) → T.flaggedFrom n k ws ≡ true → (j : ℕ) → k ≤ j → j < k + n → T.hasFlagged j ws ≡ true
 unfolding T.flaggedFrom
 flagged-each zero k ws h j lo hi = absurd (omega arith)
 flagged-each (suc n) k ws h j lo hi =

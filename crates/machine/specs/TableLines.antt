@@ -1,9 +1,9 @@
 -- What reading a table gives, line by line, on the six numbers of each line.
 use Prim.Native.Nat.{ℕ, suc, _+_, _≤_, _<_}
 use mathlib.Core.Path.{_≡_}
-use mathlib.Core.Bool.{Bool, false, cond, not, _&&_}
+use mathlib.Core.Bool.{Bool, false, cond, not, _&&_, true}
 use mathlib.Core.List.{List, [], _∷_}
-use lib.ListN.{set, replicate}
+use lib.ListN.{set, replicate, getD, length}
 use lib.Dec.{leb, ltb, eqb}
 use Rattle.machine.specs.declared.Numbers.{Numbers}
 use Rattle.machine.specs.declared.Draft.{Draft}
@@ -19,6 +19,7 @@ use Rattle.machine.specs.Module.{emptyModule, freshModule, noChannel, pa
 use Rattle.machine.specs.Table.{flaggedFrom, tableFrom, tableOf}
 use Rattle.machine.specs.Plain.{plainBetween, plainNumber}
 use Rattle.machine.specs.EachCall.{idOf}
+use Rattle.machine.specs.Valid.{Between}
 
 -- Line 1: M 1..10,000, P 1..8, windows 1..32, channels 0..16, 0, 0.
 abbrev pub firstLine : Numbers → Bool
@@ -71,6 +72,13 @@ channelDraft d x =
       channels = d .channels;
     }
 
+-- one of these windows is partition k's and has flag 1
+pub record FlaggedIn (ws : List Window) (k : ℕ) : Type 0 where
+  pub at : ℕ
+  pub inside : at < length ws
+  pub owner : getD ws at noWindow .partition ≡ k
+  pub flagIs : getD ws at noWindow .flag ≡ true
+
 pub record TableLines : Type 0 where
   -- Line by line, 11 before 12; a missing table line is 11; n is how many lines are to come, `line` how many there were
   pub none : tableOf [] ≡ noTable 11 1
@@ -89,6 +97,8 @@ pub record TableLines : Type 0 where
   -- last, every partition has a window with flag 1
   pub last : (line : ℕ) (d : Draft) (ls : List Line) → let T = d .table in
       tableFrom 0 line d ls ≡ cond (flaggedFrom (T .size) 1 (windows T)) (record { state = freshModule T; code = 0; value = 0; lines = line }) (noTable 12 0)
+  pub flagged : (P : ℕ) (ws : List Window) → flaggedFrom P 1 ws ≡ true → (k : ℕ) → Between 1 P k → FlaggedIn ws k
+  pub flaggedIf : (P : ℕ) (ws : List Window) → ((k : ℕ) → Between 1 P k → FlaggedIn ws k) → flaggedFrom P 1 ws ≡ true
   -- the record then: t 0, every partition in mode 1 with nothing created, no message
   pub fresh : (T : Table) (i : ℕ) → i < 8 → let p = part (freshModule T) i in
       (freshModule T .table ≡ T) × (freshModule T .t ≡ 0) × (p .mode ≡ 1) × (p .processCount + p .semaphoreCount + p .eventCount + p .bufferCount + p .blackboardCount ≡ 0)

@@ -226,7 +226,7 @@ waits-known frame t p v id kind k b some few e =
     let x = process id p in
     class-known _ (counts-low frame t p v) (classOf (x .wait)) (wait-known frame t p x (v .eachProcess id b) (λ z. omega arith)) kind k some few e
 
-none-in : (l : List ℕ) → ((id : ℕ) → contains id l ≡ true → ⊥) → l ≡ []
+pub none-in : (l : List ℕ) → ((id : ℕ) → contains id l ≡ true → ⊥) → l ≡ []
 unfolding contains
 none-in [] h = refl
 none-in (x ∷ l) h = absurd (h x (rw (eq-eqb x x refl)))

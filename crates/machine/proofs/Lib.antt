@@ -51,5 +51,6 @@ pub mod Channels
 pub mod Locks
 pub mod TicksLeft
 pub mod EachCall
+pub mod Entering
 pub mod TableLines
 pub mod Terms

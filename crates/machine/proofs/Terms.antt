@@ -14,7 +14,7 @@ use Rattle.machine.specs.declared.Wait.the-variants.{None, Normal, Delay
 use Rattle.machine.proofs.Tests.{and-left, and-right, not-both}
 use Rattle.machine.proofs.Available.{counts-low, wait-known}
 use borrow.Author.Tests.{eq-eqb, eqb-true, not-true}
-use Rattle.machine.specs.Partition.{nothingCreated, process, waiters}
+use Rattle.machine.specs.Partition.{process, waiters}
 use Rattle.machine.specs.Module.{part}
 use Rattle.machine.proofs.Reached.{reached-valid, valid-sound}
 use Rattle.machine.proofs.Kept.{waiters-created, waiters-exact}
@@ -113,15 +113,28 @@ module _ (m : Module) (s : SoundModule m) (i : ℕ) (l : i < m .table .size) (id
     destination = (in-queue 7 j (omega arith) few, λ e. queued _ (λ z. omega arith) (ap object e));
   }
 
+carries-none : (w : Wait) → object w ≡ 0 → carriedIn (classOf w) ≡ 0
+carries-none None e = refl
+carries-none Normal e = refl
+carries-none Delay e = refl
+carries-none Timed e = refl
+carries-none Period e = refl
+carries-none (Semaphore j) e = refl
+carries-none (Event j) e = refl
+carries-none (Sending j n) e = absurd (omega arith)
+carries-none (Receiving j) e = refl
+carries-none (Blackboard j) e = refl
+carries-none (Source j n) e = absurd (omega arith)
+carries-none (Destination j) e = refl
+
 -- Law. What the words mean.
 pub terms : Terms
-unfolding nothingCreated
 terms = record {
   readyIs = λ x h. let r = and-right (x .started) _ h in (and-left (x .started) _ h, not-true _ (and-left (not (x .suspended)) _ r), nothing-is (x .wait) (and-right (not (x .suspended)) _ r));
   readyIf = λ x on unmarked none. rw (on, unmarked, none);
   normal = normal-is;
   normalIf = refl;
   queues = λ m h i l id j. who-waits m (valid-sound m (reached-valid m h) i l) i l id j;
-  carries = record { sending = λ x j n e. rw e; source = λ x j n e. rw e };
+  carries = record { sending = λ x j n e. rw e; source = λ x j n e. rw e; none = λ x. carries-none (x .wait) };
   nothing = λ mode. refl;
 }

@@ -39,6 +39,8 @@ pub record WhoWaits (p : Partition) (id j : ℕ) : Type 0 where
 pub record Carries : Type 0 where
   pub sending : (x : Process) (j n : ℕ) → x .wait ≡ Sending j n → carried x ≡ n
   pub source : (x : Process) (j n : ℕ) → x .wait ≡ Source j n → carried x ≡ n
+  -- and without an object there is none
+  pub none : (x : Process) → object (x .wait) ≡ 0 → carried x ≡ 0
 
 -- ---------------------------------------------------------------- nothing created
 abbrev pub nobody : Process

@@ -223,7 +223,7 @@ waits-known frame t p v id kind k b some few e =
     (λ n. absurd (let z : object (x .wait) ≡ 0 = ap object (h .early s n .wait) in omega arith)))
     (λ s. absurd (let z : object (x .wait) ≡ 0 = ap object (h .dormant s .wait) in omega arith))
 
-none-in : (l : List ℕ) → ((id : ℕ) → contains id l ≡ true → ⊥) → l ≡ []
+pub none-in : (l : List ℕ) → ((id : ℕ) → contains id l ≡ true → ⊥) → l ≡ []
 unfolding contains
 none-in [] h = refl
 none-in (x ∷ l) h = absurd (h x (rw (eq-eqb x x refl)))

@@ -52,3 +52,7 @@ pub mod Locks
 pub mod TicksLeft
 pub mod EachCall
 pub mod TableLines
+pub mod PerPartition
+pub mod Stores
+pub mod Accepted
+pub mod Modes

@@ -33,3 +33,4 @@ pub mod Waits
 pub mod Account
 pub mod EachCall
 pub mod TableLines
+pub mod Modes

@@ -56,3 +56,4 @@ pub mod PerPartition
 pub mod Stores
 pub mod Accepted
 pub mod Modes
+pub mod Names

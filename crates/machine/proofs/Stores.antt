@@ -69,8 +69,8 @@ abbrev pub Free : (ℕ → ℕ) → ℕ → ℕ → Type 0
 Free nameOf count name = (y : ℕ) → Between 1 count y → nameOf y ≡ name → ⊥
 
 -- number k has this name from now on: it had it, or it is the next one, and none of the others has it
-abbrev pub Names : (ℕ → ℕ) → ℕ → ℕ → ℕ → Type 0
-Names nameOf count k name = (Between 1 count k × (name ≡ nameOf k)) ⊎ ((k ≡ count + 1) × Free nameOf count name)
+abbrev pub TakesName : (ℕ → ℕ) → ℕ → ℕ → ℕ → Type 0
+TakesName nameOf count k name = (Between 1 count k × (name ≡ nameOf k)) ⊎ ((k ≡ count + 1) × Free nameOf count name)
 
 module _ {A : Type 0} (nameOf : A → ℕ) (d : A) (limit : ℕ) where
   not-taken : (f : Field) (l : List A) → nameTaken nameOf f l ≡ false → (i : ℕ) → i < length l → isNumber (nameOf (getD l i d)) f ≡ false
@@ -101,11 +101,11 @@ module _ (n : ℕ) (r : Request) where
   Marked p (Stored id x) = x .given ≡ process id p .given
   Marked p (Created id x) = (id ≡ p .processCount + 1) × Free (λ y. process y p .given .name) (p .processCount) (x .given .name)
   Marked p (Last id) = Unit {0}
-  Marked p (StoredSemaphore k s) = Names (λ y. semaphore y p .name) (p .semaphoreCount) k (s .name)
-  Marked p (StoredEvent k s) = Names (λ y. event y p .name) (p .eventCount) k (s .name) × ByCalls 18 19 (p .eventCount) k
+  Marked p (StoredSemaphore k s) = TakesName (λ y. semaphore y p .name) (p .semaphoreCount) k (s .name)
+  Marked p (StoredEvent k s) = TakesName (λ y. event y p .name) (p .eventCount) k (s .name) × ByCalls 18 19 (p .eventCount) k
   Marked p (CreatedBuffer k name limit) = (k ≡ p .bufferCount + 1) × Free (λ y. buffer y p .name) (p .bufferCount) name
   Marked p (Moved k a) = Between 1 (p .bufferCount) k
-  Marked p (StoredBlackboard k s) = Names (λ y. blackboard y p .name) (p .blackboardCount) k (s .name) × ByCalls 27 29 (p .blackboardCount) k
+  Marked p (StoredBlackboard k s) = TakesName (λ y. blackboard y p .name) (p .blackboardCount) k (s .name) × ByCalls 27 29 (p .blackboardCount) k
   Marked p (Ended o) = Unit {0}
   Marked p (Handed o m) = Unit {0}
   Marked p (LevelSet level holder) = Unit {0}

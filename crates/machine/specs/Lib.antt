@@ -34,3 +34,4 @@ pub mod Account
 pub mod EachCall
 pub mod TableLines
 pub mod Modes
+pub mod Names

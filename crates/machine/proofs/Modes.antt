@@ -97,7 +97,7 @@ decided-mode n r p (Unchanged v x) h ne = refl
 decided-mode n r p Ticked h ne = refl
 decided-mode n r p (Blocked id x) h ne = rest-mode p _ (stored-rest p id x)
 decided-mode n r p (Changed a b v) h ne = change-mode n r (applied a p) b (h .1) (λ z. ne z refl) ∙ change-mode n r p a (h .0) (λ z. ne z refl)
-decided-mode n r p (Restarted mode) h ne = absurd (ne h refl)
+decided-mode n r p (Restarted mode) h ne = absurd (ne (h .0) refl)
 decided-mode n r p (Written i x) h ne = refl
 decided-mode n r p (PassedOn i a v) h ne = refl
 

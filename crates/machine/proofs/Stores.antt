@@ -28,7 +28,7 @@ use Rattle.machine.specs.declared.Change.the-variants.{Nothing, Stored, 
 use Rattle.machine.specs.declared.Decision.{Decision}
 use Rattle.machine.specs.declared.Decision.the-variants.{Refused, Unchanged, Ticked, Blocked, Changed, Restarted, Written, Passed as PassedOn}
 use Rattle.machine.specs.Limits.{callLimit, processLimit, semaphoreLimit, eventLimit, bufferLimit, blackboardLimit}
-use Rattle.machine.specs.Fields.{isNumber, isName, numberOf}
+use Rattle.machine.specs.Fields.{isNumber, isName, between, numberOf}
 use Rattle.machine.specs.Process.{blankProcess, object, ready, withCurrent, waitsForNothing, waitsForNormal, periodic, startRule, entered, due, onlyMarked, woken, expired, ticked, resumed}
 use Rattle.machine.specs.Partition.{byId, noSemaphore, noEvent, noBuffer, noBlackboard, normalMode, process, semaphore, event, buffer, blackboard, waiters, applied}
 use Rattle.machine.specs.Decisions.{checked, blocked, queued, awaiting, nameTaken}
@@ -42,6 +42,7 @@ use Rattle.machine.specs.Valid.{Between, Numbered, Valid}
 use Rattle.machine.proofs.Tests.{by-test, by-checks, Passed, passed-parts, and-left, not-both, or-left, or-right}
 use Rattle.machine.proofs.Bounds.{known-id, within-in, named-in}
 use Rattle.machine.proofs.Dispatch.{Each, by-number}
+use Rattle.machine.proofs.Senders.{below-three}
 
 -- ---------------------------------------------------------------- what a process was given
 pub start-given : (c : Context) (delay : ℕ) (x : Process) → startRule c delay x .given ≡ x .given
@@ -91,6 +92,11 @@ module _ {A : Type 0} (nameOf : A → ℕ) (d : A) (limit : ℕ) where
       not-both _ (is-named f ok (nameOf (getD (take n l) (y - 1) d)) (ap nameOf (sym is) ∙ e)) (not-taken f (take n l) none (y - 1) lt)
 
 -- ---------------------------------------------------------------- changes
+infixr 10 _&_
+-- a law of each of a list, and of the next
+abbrev _&_ : {A B : Type 0} → A → B → A × B
+a & b = (a, b)
+
 module _ (n : ℕ) (r : Request) where
   -- an object that exists is reached by call a or b alone, and it is the one that the call names
   abbrev pub ByCalls : ℕ → ℕ → ℕ → ℕ → Type 0
@@ -117,7 +123,7 @@ module _ (n : ℕ) (r : Request) where
   Marks p Ticked = Unit {0}
   Marks p (Blocked id x) = x .given ≡ process id p .given
   Marks p (Changed a b value) = Marked p a × Marked (applied a p) b
-  Marks p (Restarted mode) = n ≡ 1
+  Marks p (Restarted mode) = (n ≡ 1) × (between 0 2 (r .a) ≡ true)
   Marks p (Written i x) = Unit {0}
   Marks p (PassedOn i a value) = Unit {0}
 
@@ -143,109 +149,42 @@ module _ (n : ℕ) (r : Request) where
 
     each : Each (λ j (s : Service). n ≡ j → Stores p (s .decides c x r p)) 1 services
     unfolding Each services Passed setMode createProcess start stop stopSelf suspend suspendSelf timedWait periodicWait blocked resume setPriority getStatus createSemaphore waitSemaphore signal createEvent setEvent resetEvent waitEvent write read createBuffer sendBuffer receiveBuffer createBlackboard show readBlackboard clear send receive lockPreemption unlockPreemption getTicksLeft
-    each = (
-      λ e. checks _ (λ _. by-test (Stores p) (isNumber 3 (r .a)) (λ _. fine (e, tt)) (λ _. fine e)),
-      (
-        λ _. checks _ (λ h. fine ((refl, free-name (λ (x : Process). x .given .name) blankProcess processLimit (p .processCount) (p .processes) (v .lists .numbered) (r .a) (h .1 .0) (and-left (isName (r .a)) _ (not-false _ (h .1 .1 .0)))), tt)),
-        (
-          λ _. checks _ (λ _. fine (by-test (λ (y : Process). y .given ≡ process (numberOf (r .a)) p .given) (normalMode p) (λ _. start-given c _ (process (numberOf (r .a)) p)) (λ _. refl), tt)),
-          (
-            λ _. checks _ (λ _. fine (by-test (λ (y : Process). y .given ≡ process (numberOf (r .a)) p .given) (normalMode p) (λ _. start-given c _ (process (numberOf (r .a)) p)) (λ _. refl), tt)),
-            (
-              λ _. checks _ (λ _. fine (refl, tt)),
-              (
-                λ _. checks _ (λ _. fine (tt, refl)),
-                (
-                  λ _. checks _ (λ _. fine (refl, tt)),
-                  (
-                    λ _. checks _ (λ _. by-test (Stores p) (isNumber 0 (r .a)) (λ _. fine tt) (λ _. checks _ (λ _. fine refl))),
-                    (
-                      λ _. checks _ (λ _. by-test (Stores p) (isNumber 0 (r .a)) (λ _. fine (tt, tt)) (λ _. checks _ (λ _. fine refl))),
-                      (
-                        λ _. checks _ (λ _. checks _ (λ _. fine refl)),
-                        (
-                          λ _. checks _ (λ _. fine (resumed-given (process (numberOf (r .a)) p), tt)),
-                          (
-                            λ _. checks _ (λ _. by-test (λ (b : Change). Stores p (Changed (Stored (numberOf (r .a)) (withCurrent (numberOf (r .b)) (process (numberOf (r .a)) p))) b 0)) (ready (process (numberOf (r .a)) p)) (λ _. fine (refl, tt)) (λ _. fine (refl, tt))),
-                            (
-                              λ _. checks _ (λ _. fine tt),
-                              (
-                                λ _. checks _ (λ h. fine (inr (refl, free-name (λ (x : SemaphoreT). x .name) noSemaphore semaphoreLimit (p .semaphoreCount) (p .semaphores) (v .objects .semaphores .numbered) (r .a) (h .1 .0) (and-left (isName (r .a)) _ (not-false _ (h .1 .1 .0)))), tt)),
-                                (
-                                  λ _. waits _ _ _ _ _ _ (λ h _. fine (inl (known-id _ _ (h .0), refl), tt)),
-                                  (
-                                    λ _. checks _ (λ h. fine (signalled-marks (waiters (object (Semaphore (numberOf (r .a)))) p) (numberOf (r .a)) (known-id _ _ (h .0)), tt)),
-                                    (
-                                      λ _. checks _ (λ h. fine ((inr (refl, free-name (λ (x : EventState). x .name) noEvent eventLimit (p .eventCount) (p .events) (v .objects .events .numbered) (r .a) (h .1 .0) (not-false _ (h .1 .1 .0))), λ low. absurd (omega arith)), tt)),
-                                      (
-                                        λ e. checks _ (λ h. fine ((inl (known-id _ _ (h .0), refl), λ _. (inl e, refl)), tt)),
-                                        (
-                                          λ e. checks _ (λ h. fine ((inl (known-id _ _ (h .0), refl), λ _. (inr e, refl)), tt)),
-                                          (
-                                            λ _. waits _ _ _ _ _ _ (λ _ _. fine tt),
-                                            (
-                                              λ _. checks _ (λ _. checks _ (λ _. fine tt)),
-                                              (
-                                                λ _. checks _ (λ _. checks _ (λ _. fine tt)),
-                                                (
-                                                  λ _. checks _ (λ h. fine ((refl, free-name (λ (x : Buffer). x .name) noBuffer bufferLimit (p .bufferCount) (p .buffers) (v .objects .buffers .numbered) (r .a) (h .1 .0) (and-left (isName (r .a)) _ (not-false _ (h .1 .1 .0)))), tt)),
-                                                  (
-                                                    λ _. waits _ _ _ _ _ _ (λ h _. fine (known-id _ _ (h .0), tt)),
-                                                    (
-                                                      λ _. waits _ _ _ _ _ _ (λ h _. fine (known-id _ _ (h .0), tt)),
-                                                      (
-                                                        λ _. checks _ (λ h. fine ((inr (refl, free-name (λ (x : BlackboardT). x .name) noBlackboard blackboardLimit (p .blackboardCount) (p .blackboards) (v .objects .blackboards .numbered) (r .a) (h .1 .0) (not-false _ (h .1 .1 .0))), λ low. absurd (omega arith)), tt)),
-                                                        (
-                                                          λ e. checks _ (λ h. fine ((inl (known-id _ _ (h .0), refl), λ _. (inl e, refl)), tt)),
-                                                          (
-                                                            λ _. waits _ _ _ _ _ _ (λ _ _. fine tt),
-                                                            (
-                                                              λ e. checks _ (λ h. fine ((inl (known-id _ _ (h .0), refl), λ _. (inr e, refl)), tt)),
-                                                              (
-                                                                λ _. waits _ _ _ _ _ _ (λ _ _. fine tt),
-                                                                (
-                                                                  λ _. waits _ _ _ _ _ _ (λ _ _. fine tt),
-                                                                  (
-                                                                    λ _. checks _ (λ _. fine (tt, tt)),
-                                                                    (
-                                                                      λ _. checks _ (λ _. fine (tt, tt)),
-                                                                      (
-                                                                        λ _. fine tt,
-                                                                        tt,
-                                                                      ),
-                                                                    ),
-                                                                  ),
-                                                                ),
-                                                              ),
-                                                            ),
-                                                          ),
-                                                        ),
-                                                      ),
-                                                    ),
-                                                  ),
-                                                ),
-                                              ),
-                                            ),
-                                          ),
-                                        ),
-                                      ),
-                                    ),
-                                  ),
-                                ),
-                              ),
-                            ),
-                          ),
-                        ),
-                      ),
-                    ),
-                  ),
-                ),
-              ),
-            ),
-          ),
-        ),
-      ),
-    )
+    each =
+        (λ e. checks _ (λ h. by-test (Stores p) (isNumber 3 (r .a)) (λ _. fine (e, tt)) (λ z. fine (e, below-three (r .a) (not-false _ (h .0)) z))))
+        & (λ _. checks _ (λ h. fine ((refl, free-name (λ (x : Process). x .given .name) blankProcess processLimit (p .processCount) (p .processes) (v .lists .numbered) (r .a) (h .1 .0) (and-left (isName (r .a)) _ (not-false _ (h .1 .1 .0)))), tt)))
+        & (λ _. checks _ (λ _. fine (by-test (λ (y : Process). y .given ≡ process (numberOf (r .a)) p .given) (normalMode p) (λ _. start-given c _ (process (numberOf (r .a)) p)) (λ _. refl), tt)))
+        & (λ _. checks _ (λ _. fine (by-test (λ (y : Process). y .given ≡ process (numberOf (r .a)) p .given) (normalMode p) (λ _. start-given c _ (process (numberOf (r .a)) p)) (λ _. refl), tt)))
+        & (λ _. checks _ (λ _. fine (refl, tt)))
+        & (λ _. checks _ (λ _. fine (tt, refl)))
+        & (λ _. checks _ (λ _. fine (refl, tt)))
+        & (λ _. checks _ (λ _. by-test (Stores p) (isNumber 0 (r .a)) (λ _. fine tt) (λ _. checks _ (λ _. fine refl))))
+        & (λ _. checks _ (λ _. by-test (Stores p) (isNumber 0 (r .a)) (λ _. fine (tt, tt)) (λ _. checks _ (λ _. fine refl))))
+        & (λ _. checks _ (λ _. checks _ (λ _. fine refl)))
+        & (λ _. checks _ (λ _. fine (resumed-given (process (numberOf (r .a)) p), tt)))
+        & (λ _. checks _ (λ _. by-test (λ (b : Change). Stores p (Changed (Stored (numberOf (r .a)) (withCurrent (numberOf (r .b)) (process (numberOf (r .a)) p))) b 0)) (ready (process (numberOf (r .a)) p)) (λ _. fine (refl, tt)) (λ _. fine (refl, tt))))
+        & (λ _. checks _ (λ _. fine tt))
+        & (λ _. checks _ (λ h. fine (inr (refl, free-name (λ (x : SemaphoreT). x .name) noSemaphore semaphoreLimit (p .semaphoreCount) (p .semaphores) (v .objects .semaphores .numbered) (r .a) (h .1 .0) (and-left (isName (r .a)) _ (not-false _ (h .1 .1 .0)))), tt)))
+        & (λ _. waits _ _ _ _ _ _ (λ h _. fine (inl (known-id _ _ (h .0), refl), tt)))
+        & (λ _. checks _ (λ h. fine (signalled-marks (waiters (object (Semaphore (numberOf (r .a)))) p) (numberOf (r .a)) (known-id _ _ (h .0)), tt)))
+        & (λ _. checks _ (λ h. fine ((inr (refl, free-name (λ (x : EventState). x .name) noEvent eventLimit (p .eventCount) (p .events) (v .objects .events .numbered) (r .a) (h .1 .0) (not-false _ (h .1 .1 .0))), λ low. absurd (omega arith)), tt)))
+        & (λ e. checks _ (λ h. fine ((inl (known-id _ _ (h .0), refl), λ _. (inl e, refl)), tt)))
+        & (λ e. checks _ (λ h. fine ((inl (known-id _ _ (h .0), refl), λ _. (inr e, refl)), tt)))
+        & (λ _. waits _ _ _ _ _ _ (λ _ _. fine tt))
+        & (λ _. checks _ (λ _. checks _ (λ _. fine tt)))
+        & (λ _. checks _ (λ _. checks _ (λ _. fine tt)))
+        & (λ _. checks _ (λ h. fine ((refl, free-name (λ (x : Buffer). x .name) noBuffer bufferLimit (p .bufferCount) (p .buffers) (v .objects .buffers .numbered) (r .a) (h .1 .0) (and-left (isName (r .a)) _ (not-false _ (h .1 .1 .0)))), tt)))
+        & (λ _. waits _ _ _ _ _ _ (λ h _. fine (known-id _ _ (h .0), tt)))
+        & (λ _. waits _ _ _ _ _ _ (λ h _. fine (known-id _ _ (h .0), tt)))
+        & (λ _. checks _ (λ h. fine ((inr (refl, free-name (λ (x : BlackboardT). x .name) noBlackboard blackboardLimit (p .blackboardCount) (p .blackboards) (v .objects .blackboards .numbered) (r .a) (h .1 .0) (not-false _ (h .1 .1 .0))), λ low. absurd (omega arith)), tt)))
+        & (λ e. checks _ (λ h. fine ((inl (known-id _ _ (h .0), refl), λ _. (inl e, refl)), tt)))
+        & (λ _. waits _ _ _ _ _ _ (λ _ _. fine tt))
+        & (λ e. checks _ (λ h. fine ((inl (known-id _ _ (h .0), refl), λ _. (inr e, refl)), tt)))
+        & (λ _. waits _ _ _ _ _ _ (λ _ _. fine tt))
+        & (λ _. waits _ _ _ _ _ _ (λ _ _. fine tt))
+        & (λ _. checks _ (λ _. fine (tt, tt)))
+        & (λ _. checks _ (λ _. fine (tt, tt)))
+        & (λ _. fine tt)
+        & tt
 
     pub call-stores : 1 ≤ n → n ≤ callLimit → Stores p (callDecision c x n r p)
     call-stores lo hi = by-number c x n r p (Stores p) each (λ out. absurd (out lo hi))

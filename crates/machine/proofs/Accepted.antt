@@ -12,7 +12,7 @@ use Rattle.machine.specs.declared.Module.{Module}
 use Rattle.machine.specs.Partition.{running}
 use Rattle.machine.specs.Module.{current}
 use Rattle.machine.specs.Plain.{plainNumber, plainBetween}
-use Rattle.machine.specs.Valid.{Reached}
+use Rattle.machine.specs.Valid.{Between, Reached}
 use Rattle.machine.specs.Starred.{own, callBy, Calling}
 use Rattle.machine.specs.Account.{isCall, codeAt}
 use Rattle.machine.specs.EachCall.{used, stray, malformedAt, Checks}
@@ -74,3 +74,20 @@ accepted m h e k n some by z =
         e = unused (ltb (used n) 4) (e .e) (or-right c1 _ last) i;
       };
     }
+
+-- the partition of a call that is answered 0 is one of the table
+pub by-partition-of : (m : Module) → Reached m → (e : EventT) (k n : ℕ) → 1 ≤ n → isCall k n e ≡ true → codeAt m e ≡ 0 → Between 1 (m .table .size) k
+by-partition-of m h e k n some by z =
+    let P = m .table .size in
+    let from = plain-is (e .partition) k (and-left (plainNumber k (e .partition)) _ by) in
+    let call = plain-is (e .call) n (and-right (plainNumber k (e .partition)) _ by) in
+    let formed : malformedAt P e ≡ false = rw z at (sym (each-event m h e .thirteen)) in
+    let rest = or-right (eqb P 0) _ formed in
+    let high : not (plainBetween 0 P (pos k)) ≡ false = rw from at (or-left (not (plainBetween 0 P (e .partition))) _ rest) in
+    let one = or-left (cond (plainNumber 0 (e .partition)) (not (plainNumber 0 (e .call))) (plainNumber 0 (e .call))) _ (or-right (not (plainBetween 0 34 (e .call))) _ (or-right (not (plainBetween 0 P (e .partition))) _ rest)) in
+    let same : cond (eqb k 0) (not (eqb n 0)) (eqb n 0) ≡ false = rw (from, call) at one in (
+      either (eqb k 0)
+          (λ t. let y = eqb-true n 0 (not-false _ (rw t at same)) in absurd (omega arith))
+          (λ t. let y = eqb-false k 0 t in omega arith),
+      leb-true k P (and-right (leb 0 k) _ (not-false _ high)),
+    )

@@ -57,3 +57,6 @@ pub mod Stores
 pub mod Accepted
 pub mod Modes
 pub mod Names
+pub mod Sampling
+pub mod BoardsStay
+pub mod Latest

@@ -2,6 +2,7 @@
 -- its call, told from its answer. Assumes nothing.
 use Prim.Native.Nat.{ℕ, _+_, _-_, _≤_, _<_}
 use mathlib.Core.Path.{_≡_, refl}
+use mathlib.Core.Bool.{true}
 use mathlib.Core.Logic.{inr}
 use native.Mathlib.Omega.{arith}
 use lib.ListN.{length, take}
@@ -15,7 +16,7 @@ use Rattle.machine.specs.declared.Decision.{Decision}
 use Rattle.machine.specs.declared.Decision.the-variants.{Refused, Unchanged, Ticked, Blocked, Changed, Restarted, Written, Passed as PassedOn}
 use Rattle.machine.specs.declared.Request.{Request}
 use Rattle.machine.specs.Limits.{channelLimit}
-use Rattle.machine.specs.Fields.{requestOf, numberOf}
+use Rattle.machine.specs.Fields.{requestOf, numberOf, between}
 use Rattle.machine.specs.Messages.{endsWait, moved}
 use Rattle.machine.specs.Process.{served}
 use Rattle.machine.specs.Partition.{waiters, changedAll, endedBy, tickPartition, nothingCreated, partitionAfter, noted}
@@ -24,10 +25,11 @@ use Rattle.machine.specs.Channels.{portOf, otherEnd, erasedTo}
 use Rattle.machine.specs.Decisions.{replyOf}
 use Rattle.machine.specs.Step.{contextOf, decision, moduleAfter, step}
 use Rattle.machine.specs.Valid.{Valid, SoundEnd, SoundDecision, SoundModule, plainTick}
-use Rattle.machine.specs.Account.{isCall}
+use Rattle.machine.specs.Account.{isCall, codeAt, restartsBy}
 use Rattle.machine.proofs.Tests.{by-test}
 use Rattle.machine.proofs.Refusals.{call-in-range}
 use Rattle.machine.proofs.Calling.{number-of}
+use Rattle.machine.proofs.Plain.{lossless}
 use Rattle.machine.proofs.Account.{call-of}
 use Rattle.machine.proofs.Stores.{Marks, call-stores}
 use Rattle.machine.proofs.Dispatch.{Calls, by-event}
@@ -106,8 +108,15 @@ module _ (m : Module) (e : EventT) (c : Calls m (requestOf e)) where
   pub own-some : 1 ≤ numberOf (requestOf e .call)
   own-some = call-in-range (m .table) (requestOf e) (c .formed) (ne-eqb _ 0 (c .some)) .0
 
+  pub is-call : (x : ℕ) → isCall (numberOf (requestOf e .partition)) x e ≡ eqb (numberOf (requestOf e .call)) x
+  is-call x = call-of (e .partition) (e .call) _ _ x (number-of (e .partition) (c .some)) (number-of (e .call) (λ z. let some = own-some in omega arith))
+
   pub own-call : (x : ℕ) → isCall (numberOf (requestOf e .partition) - 1 + 1) x e ≡ eqb (numberOf (requestOf e .call)) x
-  own-call x = rw own-number (call-of (e .partition) (e .call) _ _ x (number-of (e .partition) (c .some)) (number-of (e .call) (λ z. let some = own-some in omega arith)))
+  own-call x = rw own-number (is-call x)
+
+  -- an accepted mode 0, 1 or 2
+  pub restart-told : numberOf (requestOf e .call) ≡ 1 → between 0 2 (requestOf e .a) ≡ true → codeAt m e ≡ 0 → restartsBy (numberOf (requestOf e .partition)) e (codeAt m e) ≡ true
+  restart-told one low zero = rw (is-call 1, one, ← lossless (e .a) .between 0 2 (omega arith), low, zero)
 
 -- what the call stores
 pub made-stores : (m : Module) (s : SoundModule m) (e : EventT) (c : Calls m (requestOf e)) → Marks (numberOf (requestOf e .call)) (requestOf e) (part m (numberOf (requestOf e .partition) - 1)) (made m s (requestOf e) c)

@@ -35,3 +35,4 @@ pub mod EachCall
 pub mod TableLines
 pub mod Modes
 pub mod Names
+pub mod Latest

@@ -60,3 +60,4 @@ pub mod Names
 pub mod Sampling
 pub mod BoardsStay
 pub mod Latest
+pub mod Share

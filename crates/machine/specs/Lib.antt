@@ -36,3 +36,4 @@ pub mod TableLines
 pub mod Modes
 pub mod Names
 pub mod Latest
+pub mod Share

@@ -1,11 +1,11 @@
 -- A call that is answered 0 has come to its body with all its checks passed, and the fields that it does not use are 0. Assumes nothing.
 use Prim.Native.Nat.{ℕ, _≤_}
-use mathlib.Core.Path.{_≡_, refl, sym}
+use mathlib.Core.Path.{_≡_, refl, ap, sym, _∙_}
 use mathlib.Core.Bool.{Bool, true, false, cond, not, _&&_, _||_}
 use mathlib.Core.List.{List, [], _∷_}
 use native.Mathlib.Omega.{arith}
 use lib.Dec.{eqb, ltb, leb}
-use lib.IntN.{ℤ, pos}
+use lib.IntN.{ℤ, pos, negsuc}
 use borrow.Author.Tests.{ne-eqb, eqb-true, eqb-false, leb-true, not-false}
 use Rattle.machine.specs.declared.Event.{Event as EventT}
 use Rattle.machine.specs.declared.Module.{Module}
@@ -14,12 +14,12 @@ use Rattle.machine.specs.Module.{current}
 use Rattle.machine.specs.Plain.{plainNumber, plainBetween}
 use Rattle.machine.specs.Valid.{Between, Reached}
 use Rattle.machine.specs.Starred.{own, callBy, Calling}
-use Rattle.machine.specs.Account.{isCall, codeAt}
-use Rattle.machine.specs.EachCall.{used, stray, malformedAt, Checks}
+use Rattle.machine.specs.Account.{isCall, codeAt, restartsBy}
+use Rattle.machine.specs.EachCall.{idOf, used, stray, malformedAt, Checks}
 use Rattle.machine.proofs.Tests.{Passed, codesIn, not-both, and-left, and-right, or-left, or-right}
 use Rattle.machine.proofs.Either.{either}
 use Rattle.machine.proofs.Account.{plain-is}
-use Rattle.machine.proofs.EachCall.{each-event}
+use Rattle.machine.proofs.EachCall.{each-event, each-call}
 
 -- every check is passed, and what then holds
 pub checks-passed : (m : Module) (e : EventT) (l : List (Bool × ℕ)) {A : Type 0} → codesIn (leb 1) l ≡ true → Checks m e l A → codeAt m e ≡ 0 → Passed l × A
@@ -33,6 +33,11 @@ checks-passed m e ((test, code) ∷ l) h c z = either test
 unused : (b : Bool) (z : ℤ) → (b && not (plainNumber 0 z)) ≡ false → z ≡ cond b (pos 0) z
 unused true z h = plain-is z 0 (not-false _ h)
 unused false z h = refl
+
+-- a number in limits is that number
+pub plain-in : (low high : ℕ) (z : ℤ) → plainBetween low high z ≡ true → (z ≡ pos (idOf z)) × Between low high (idOf z)
+plain-in low high (pos n) h = (refl, (leb-true low n (and-left (leb low n) _ h), leb-true n high (and-right (leb low n) _ h)))
+plain-in low high (negsuc n) h = not-both _ h refl
 
 -- the event is call n of partition k, which comes to its body
 pub record Accepted (m : Module) (e : EventT) (k n : ℕ) : Type 0 where
@@ -91,3 +96,26 @@ by-partition-of m h e k n some by z =
           (λ t. let y = eqb-false k 0 t in omega arith),
       leb-true k P (and-right (leb 0 k) _ (not-false _ high)),
     )
+
+-- an accepted mode 0, 1 or 2 of partition k
+pub record Restarting (m : Module) (e : EventT) (k mode : ℕ) : Type 0 where
+  pub calling : Calling m k
+  pub few : mode ≤ 2
+  pub warm : mode ≡ 2 → own m k .mode ≡ 1 → ⊥
+  pub is : e ≡ callBy k 1 (pos mode) (pos 0) (pos 0) (pos 0)
+
+pub restarting : (m : Module) → Reached m → (e : EventT) (k : ℕ) → 1 ≤ k → restartsBy k e (codeAt m e) ≡ true → Restarting m e k (idOf (e .a))
+unfolding Passed
+restarting m h e k some t =
+    let by = and-left (isCall k 1 e) _ t in
+    let at = and-right (isCall k 1 e) _ t in
+    let mode = plain-in 0 2 (e .a) (and-left (plainBetween 0 2 (e .a)) _ at) in
+    let z = eqb-true _ 0 (and-right (plainBetween 0 2 (e .a)) _ at) in
+    let u = accepted m h e k 1 some by z in
+    let f = checks-passed m e _ refl (rw (← u .is) at (each-call m k (u .calling) .setMode (e .a))) z .0 in
+    record {
+      calling = u .calling;
+      few = mode .1 .1;
+      warm = λ two one. not-both _ (rw (mode .0 ∙ ap pos two, one)) (f .1 .1 .0);
+      is = u .is ∙ ap (λ (a : ℤ). callBy k 1 a (pos 0) (pos 0) (pos 0)) (mode .0);
+    }

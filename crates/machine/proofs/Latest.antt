@@ -6,7 +6,7 @@ use mathlib.Core.List.{List, _∷_}
 use native.Mathlib.Omega.{arith}
 use lib.ListN.{length, set}
 use lib.IntN.{ℤ, pos}
-use borrow.Author.Tests.{eq-eqb, eqb-true, leb-false, not-false}
+use borrow.Author.Tests.{eq-eqb, leb-false, not-false}
 use Rattle.machine.specs.declared.Event.{Event as EventT}
 use Rattle.machine.specs.declared.EventState.{EventState}
 use Rattle.machine.specs.declared.Blackboard.{Blackboard as BlackboardT}
@@ -17,72 +17,60 @@ use Rattle.machine.specs.Partition.{byId, noEvent, noBlackboard, event, 
 use Rattle.machine.specs.Table.{readTable}
 use Rattle.machine.specs.Step.{step}
 use Rattle.machine.specs.LeftRight.{next, answeredEvent, after, answers}
-use Rattle.machine.specs.Plain.{plainNumber}
 use Rattle.machine.specs.Valid.{Between, Reached}
 use Rattle.machine.specs.Starred.{own, callBy, Calling}
-use Rattle.machine.specs.Account.{isCall, codeAt, erases, erased, messageIn}
+use Rattle.machine.specs.Account.{isCall, erases, erased, messageIn}
 use Rattle.machine.specs.EachCall.{idOf}
 use Rattle.machine.specs.Latest.{along, done, shows, sets, lastShown, lastSet, Since, Latest}
-use Rattle.machine.proofs.Tests.{Passed, and-left, and-right, or-left, or-right}
+use Rattle.machine.proofs.Tests.{Passed, or-left, or-right}
 use Rattle.machine.proofs.Bounds.{named-same}
 use Rattle.machine.proofs.Either.{either}
 use Rattle.machine.proofs.Calling.{calling-sound, calling-valid, own-after}
 use Rattle.machine.proofs.Reached.{valid-sound, reached-valid}
-use Rattle.machine.proofs.Account.{plain-is, step-size, reached-after}
+use Rattle.machine.proofs.Account.{step-size, reached-after}
 use Rattle.machine.proofs.EachCall.{each-call}
 use Rattle.machine.proofs.Families.{queues}
-use Rattle.machine.proofs.Accepted.{checks-passed, accepted, by-partition-of}
+use Rattle.machine.proofs.Accepted.{plain-in, checks-passed, accepted, by-partition-of}
 use Rattle.machine.proofs.BoardsStay.{LeftBy, event-left}
-use Rattle.machine.proofs.Sampling.{along-list, plain-in, sampling, read-latest}
+use Rattle.machine.proofs.Sampling.{along-list, done-by, done-at, done-zero, sampling, read-latest}
 
 -- ---------------------------------------------------------------- an accepted call
--- its numbers
-module _ (m : Module) (e : EventT) (k n j : ℕ) (t : done k n j (answeredEvent m e) ≡ true) where
-  by : isCall k n e ≡ true
-  by = and-left (isCall k n e) _ t
-
-  named : e .a ≡ pos j
-  named = plain-is (e .a) j (and-left (plainNumber j (e .a)) _ (and-right (isCall k n e) _ t))
-
-  zero : codeAt m e ≡ 0
-  zero = eqb-true _ 0 (and-right (plainNumber j (e .a)) _ (and-right (isCall k n e) _ t))
-
 module _ (m : Module) (h : Reached m) (e : EventT) (k j : ℕ) (some : 1 ≤ k) where
   -- SHOW, CLEAR
   shown : Between 1 (own m k .blackboardCount) j → done k 27 j (answeredEvent m e) ≡ true → let b = blackboard j (own (step m e .state) k) in (b .shown ≡ true) × (b .message ≡ messageIn (e .b))
   unfolding Passed
   shown b t =
-      let z = zero m e k 27 j t in
-      let u = accepted m h e k 27 some (by m e k 27 j t) z in
+      let z = done-zero m e k 27 j t in
+      let u = accepted m h e k 27 some (done-by m e k 27 j t) z in
       let f = checks-passed m e _ refl (rw (← u .is) at (each-call m k (u .calling) .show (e .a) (e .b))) z .0 in
-      let d = plain-in durationLimit (e .b) (not-false _ (f .1 .0)) in
-      let is : e ≡ callBy k 27 (pos j) (pos (idOf (e .b))) (pos 0) (pos 0) = u .is ∙ ap (λ (a : ℤ). callBy k 27 a (e .b) (pos 0) (pos 0)) (named m e k 27 j t) ∙ ap (λ (a : ℤ). callBy k 27 (pos j) a (pos 0) (pos 0)) (d .0) in
-      let g = rw (← is) at (queues .messages m k (u .calling) j .show (idOf (e .b)) b (d .1) .1) in
+      let d = plain-in 0 durationLimit (e .b) (not-false _ (f .1 .0)) in
+      let is : e ≡ callBy k 27 (pos j) (pos (idOf (e .b))) (pos 0) (pos 0) = u .is ∙ ap (λ (a : ℤ). callBy k 27 a (e .b) (pos 0) (pos 0)) (done-at m e k 27 j t) ∙ ap (λ (a : ℤ). callBy k 27 (pos j) a (pos 0) (pos 0)) (d .0) in
+      let g = rw (← is) at (queues .messages m k (u .calling) j .show (idOf (e .b)) b (d .1 .1) .1) in
       (ap (λ (x : BlackboardT). x .shown) g, ap (λ (x : BlackboardT). x .message) g)
 
   cleared : Between 1 (own m k .blackboardCount) j → done k 29 j (answeredEvent m e) ≡ true → let b = blackboard j (own (step m e .state) k) in (b .shown ≡ false) × (b .message ≡ 0)
   cleared b t =
-      let u = accepted m h e k 29 some (by m e k 29 j t) (zero m e k 29 j t) in
-      let is : e ≡ callBy k 29 (pos j) (pos 0) (pos 0) (pos 0) = u .is ∙ ap (λ (a : ℤ). callBy k 29 a (pos 0) (pos 0) (pos 0)) (named m e k 29 j t) in
+      let u = accepted m h e k 29 some (done-by m e k 29 j t) (done-zero m e k 29 j t) in
+      let is : e ≡ callBy k 29 (pos j) (pos 0) (pos 0) (pos 0) = u .is ∙ ap (λ (a : ℤ). callBy k 29 a (pos 0) (pos 0) (pos 0)) (done-at m e k 29 j t) in
       let g = rw (← is) at (queues .messages m k (u .calling) j .clear b .1) in
       (ap (λ (x : BlackboardT). x .shown) g, ap (λ (x : BlackboardT). x .message) g)
 
   -- SET_EVENT, RESET_EVENT
   up : Between 1 (own m k .eventCount) j → done k 18 j (answeredEvent m e) ≡ true → event j (own (step m e .state) k) .up ≡ true
   up b t =
-      let u = accepted m h e k 18 some (by m e k 18 j t) (zero m e k 18 j t) in
-      let is : e ≡ callBy k 18 (pos j) (pos 0) (pos 0) (pos 0) = u .is ∙ ap (λ (a : ℤ). callBy k 18 a (pos 0) (pos 0) (pos 0)) (named m e k 18 j t) in
+      let u = accepted m h e k 18 some (done-by m e k 18 j t) (done-zero m e k 18 j t) in
+      let is : e ≡ callBy k 18 (pos j) (pos 0) (pos 0) (pos 0) = u .is ∙ ap (λ (a : ℤ). callBy k 18 a (pos 0) (pos 0) (pos 0)) (done-at m e k 18 j t) in
       rw (← is) at (queues .calls m k (u .calling) j .setEvent b .1)
 
   down : Between 1 (own m k .eventCount) j → done k 19 j (answeredEvent m e) ≡ true → event j (own (step m e .state) k) .up ≡ false
   down b t =
-      let z = zero m e k 19 j t in
-      let u = accepted m h e k 19 some (by m e k 19 j t) z in
+      let z = done-zero m e k 19 j t in
+      let u = accepted m h e k 19 some (done-by m e k 19 j t) z in
       let s = calling-sound m k (u .calling) in
       let p = own m k in
       let v = calling-valid m k s (u .calling) .objects .events .numbered in
       let g = checks-passed m e _ refl (rw (← u .is) at (each-call m k (u .calling) .resetEvent (e .a))) z .1 in
-      let at : idOf (e .a) ≡ j = ap idOf (named m e k 19 j t) in
+      let at : idOf (e .a) ≡ j = ap idOf (done-at m e k 19 j t) in
       ap (λ (x : Partition). event j x .up) (own-after m k s (u .calling) _ g)
       ∙ rw at (ap (λ (x : EventState). x .up) (named-same eventLimit noEvent j _ (p .events) (b .0) (omega (arith, b .1, v .few)) (omega (arith, b .1, v .few, v .size))))
 

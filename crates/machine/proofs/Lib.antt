@@ -61,3 +61,4 @@ pub mod Sampling
 pub mod BoardsStay
 pub mod Latest
 pub mod Share
+pub mod ServedBefore

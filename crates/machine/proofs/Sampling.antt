@@ -1,5 +1,5 @@
 -- What the events of a list leave, one after the other; and of that the message of a sampling channel. Assumes nothing.
-use Prim.Native.Nat.{ℕ, _+_, _-_, _≤_, _<_}
+use Prim.Native.Nat.{ℕ, _+_, _-_, _<_}
 use mathlib.Core.Path.{_≡_, refl, ap, sym, _∙_}
 use mathlib.Core.Bool.{true, false, cond, not, and-false}
 use mathlib.Core.List.{List, [], _∷_}
@@ -7,9 +7,9 @@ use mathlib.Core.Logic.{inl, inr}
 use native.Mathlib.Omega.{arith}
 use lib.ListN.{getD, set}
 use lib.Dec.{eqb, leb}
-use lib.IntN.{ℤ, pos, negsuc}
+use lib.IntN.{ℤ, pos}
 use lib.Seq.{getD-set-same, getD-set-other}
-use borrow.Author.Tests.{eq-eqb, eqb-true, eqb-false, le-leb, leb-true}
+use borrow.Author.Tests.{eq-eqb, eqb-true, eqb-false, le-leb}
 use Rattle.machine.specs.declared.Event.{Event as EventT}
 use Rattle.machine.specs.declared.EventRecord.{EventRecord}
 use Rattle.machine.specs.declared.Channel.{Channel}
@@ -30,13 +30,13 @@ use Rattle.machine.specs.Ticks.{partitionCount}
 use Rattle.machine.specs.Channels.{portOf}
 use Rattle.machine.specs.Step.{moduleAfter, step}
 use Rattle.machine.specs.LeftRight.{next, answeredEvent, after, answers}
-use Rattle.machine.specs.Plain.{plainNumber, plainBetween}
+use Rattle.machine.specs.Plain.{plainNumber}
 use Rattle.machine.specs.Valid.{SoundModule, ValidModule, Reached}
 use Rattle.machine.specs.Starred.{callBy, Gives, Refuses, Calling}
 use Rattle.machine.specs.Account.{isCall, codeAt, restartsBy, messageIn}
 use Rattle.machine.specs.EachCall.{idOf, Checks}
 use Rattle.machine.specs.Latest.{along, done, written, lastWritten}
-use Rattle.machine.proofs.Tests.{by-test, Passed, not-both, and-left, and-right}
+use Rattle.machine.proofs.Tests.{by-test, not-both, and-left, and-right}
 use Rattle.machine.proofs.Bounds.{not-so, getD-replicate-any}
 use Rattle.machine.proofs.Tables.{table-read}
 use Rattle.machine.proofs.Either.{either}
@@ -53,7 +53,7 @@ use Rattle.machine.proofs.Account.{plain-is}
 use Rattle.machine.proofs.EachCall.{each-event, each-call}
 use Rattle.machine.proofs.Stores.{Marks}
 use Rattle.machine.proofs.PerPartition.{is-call, restart-told, made-stores}
-use Rattle.machine.proofs.Accepted.{checks-passed, accepted}
+use Rattle.machine.proofs.Accepted.{checks-passed, accepted, restarting}
 
 -- ---------------------------------------------------------------- lists
 -- what holds of each event, from a record on that is good for the list, holds of the list
@@ -70,9 +70,16 @@ along-list f view Good one (e ∷ es) m h =
 pub done-so : (m : Module) (e : EventT) (k n j : ℕ) → isCall k n e ≡ true → plainNumber j (e .a) ≡ true → codeAt m e ≡ 0 → done k n j (answeredEvent m e) ≡ true
 done-so m e k n j by at zero = rw (by, at, zero)
 
-pub plain-in : (high : ℕ) (z : ℤ) → plainBetween 0 high z ≡ true → (z ≡ pos (idOf z)) × (idOf z ≤ high)
-plain-in high (pos n) h = (refl, leb-true n high (and-right (leb 0 n) _ h))
-plain-in high (negsuc n) h = not-both _ h refl
+-- what such a call tells
+module _ (m : Module) (e : EventT) (k n j : ℕ) (t : done k n j (answeredEvent m e) ≡ true) where
+  pub done-by : isCall k n e ≡ true
+  done-by = and-left (isCall k n e) _ t
+
+  pub done-at : e .a ≡ pos j
+  done-at = plain-is (e .a) j (and-left (plainNumber j (e .a)) _ (and-right (isCall k n e) _ t))
+
+  pub done-zero : codeAt m e ≡ 0
+  done-zero = eqb-true _ 0 (and-right (plainNumber j (e .a)) _ (and-right (isCall k n e) _ t))
 
 -- ---------------------------------------------------------------- the message of a channel, over one event
 module _ (m : Module) (s : SoundModule m) (e : EventT) (i : ℕ) (inside : i < m .table .channelCount) where
@@ -119,11 +126,9 @@ module _ (m : Module) (s : SoundModule m) (e : EventT) (i : ℕ) (inside : i < m
   -- a WRITE of its source
   message-written : Reached m → done (c .source) 21 (i + 1) here ≡ true → message (step m e .state) i ≡ record { present = true; value = messageIn (e .b); written = step m e .answer .t }
   message-written h t =
-      let by = and-left (isCall (c .source) 21 e) _ t in
-      let at = and-right (isCall (c .source) 21 e) _ t in
-      let is-i : e .a ≡ pos (i + 1) = plain-is (e .a) (i + 1) (and-left (plainNumber (i + 1) (e .a)) _ at) in
-      let z = eqb-true _ 0 (and-right (plainNumber (i + 1) (e .a)) _ at) in
-      let u = accepted m h e (c .source) 21 (s .table .eachChannel i inside .source .0) by z in
+      let is-i = done-at m e (c .source) 21 (i + 1) t in
+      let z = done-zero m e (c .source) 21 (i + 1) t in
+      let u = accepted m h e (c .source) 21 (s .table .eachChannel i inside .source .0) (done-by m e (c .source) 21 (i + 1) t) z in
       let g = checks-passed m e _ refl (rw (← u .is) at (each-call m (c .source) (u .calling) .write (e .a) (e .b))) z .1 in
       let place : idOf (e .a) - 1 ≡ i = ap (λ (y : ℤ). idOf y - 1) is-i ∙ one-less in
       let time : m .t ≡ step m e .answer .t = sym (each-event m h e .shown .0 ∙ ap (λ (x : Module). x .t) (g .state)) in
@@ -137,16 +142,10 @@ module _ (m : Module) (s : SoundModule m) (e : EventT) (i : ℕ) (inside : i < m
 
   -- a restart of its destination
   message-erased : Reached m → restartsBy (c .destination) e (codeAt m e) ≡ true → message (step m e .state) i ≡ noMessage
-  unfolding Passed
   message-erased h t =
-      let by = and-left (isCall (c .destination) 1 e) _ t in
-      let at = and-right (isCall (c .destination) 1 e) _ t in
-      let mode = plain-in 2 (e .a) (and-left (plainBetween 0 2 (e .a)) _ at) in
-      let z = eqb-true _ 0 (and-right (plainBetween 0 2 (e .a)) _ at) in
-      let u = accepted m h e (c .destination) 1 (s .table .eachChannel i inside .destination .0) by z in
-      let f = checks-passed m e _ refl (rw (← u .is) at (each-call m (c .destination) (u .calling) .setMode (e .a))) z .0 in
-      let g = restart-gives m (c .destination) (calling-sound m (c .destination) (u .calling)) (u .calling) (idOf (e .a)) (mode .1) (λ two one. not-both _ (rw (mode .0 ∙ ap pos two, one)) (f .1 .1 .0)) in
-      ap (λ (x : EventT). message (step m x .state) i) (u .is ∙ ap (λ (a : ℤ). callBy (c .destination) 1 a (pos 0) (pos 0) (pos 0)) (mode .0))
+      let u = restarting m h e (c .destination) (s .table .eachChannel i inside .destination .0) t in
+      let g = restart-gives m (c .destination) (calling-sound m (c .destination) (u .calling)) (u .calling) (idOf (e .a)) (u .few) (u .warm) in
+      ap (λ (x : EventT). message (step m x .state) i) (u .is)
       ∙ ap (λ (x : Module). message x i) (g .state)
       ∙ ap (λ (l : List Message). getD l i noMessage) (refilled-messages (c .destination) channelLimit _)
       ∙ erased-own (c .destination) channelLimit m i (omega (arith, inside, s .table .channelCount)) (omega (arith, s .messagesSize)) refl
@@ -160,7 +159,7 @@ module _ (m : Module) (s : SoundModule m) (e : EventT) (i : ℕ) (inside : i < m
 
 -- ---------------------------------------------------------------- and over a list, from the fresh module on
 -- a record with a channel has a sound table
-channel-sound : (m : Module) → ValidModule m → (i : ℕ) → i < m .table .channelCount → SoundModule m
+pub channel-sound : (m : Module) → ValidModule m → (i : ℕ) → i < m .table .channelCount → SoundModule m
 unfolding emptyModule emptyTable
 channel-sound m (inl h) i l = absurd (omega (arith, ap (λ (q : Module). q .table .channelCount) h))
 channel-sound m (inr s) i l = s

@@ -37,3 +37,4 @@ pub mod Modes
 pub mod Names
 pub mod Latest
 pub mod Share
+pub mod ServedBefore

@@ -21,7 +21,7 @@ use Rattle.machine.specs.Valid.{Between, Reached}
 use Rattle.machine.specs.Starred.{own, callBy, Calling}
 use Rattle.machine.specs.Account.{isCall, erases, erased, messageIn}
 use Rattle.machine.specs.EachCall.{idOf}
-use Rattle.machine.specs.Latest.{along, done, shows, sets, lastShown, lastSet, Since, Latest}
+use Rattle.machine.specs.Latest.{along, done, shows, sets, lastWritten, lastShown, lastSet, Since, Latest}
 use Rattle.machine.proofs.Tests.{Passed, or-left, or-right}
 use Rattle.machine.proofs.Bounds.{named-same}
 use Rattle.machine.proofs.Either.{either}
@@ -29,10 +29,11 @@ use Rattle.machine.proofs.Calling.{calling-sound, calling-valid, own-af
 use Rattle.machine.proofs.Reached.{valid-sound, reached-valid}
 use Rattle.machine.proofs.Account.{step-size, reached-after}
 use Rattle.machine.proofs.EachCall.{each-call}
+use Rattle.machine.proofs.TicksLeft.{after-table}
 use Rattle.machine.proofs.Families.{queues}
 use Rattle.machine.proofs.Accepted.{plain-in, checks-passed, accepted, by-partition-of}
 use Rattle.machine.proofs.BoardsStay.{LeftBy, event-left}
-use Rattle.machine.proofs.Sampling.{along-list, done-by, done-at, done-zero, sampling, read-latest}
+use Rattle.machine.proofs.Sampling.{along-list, done-by, done-at, done-zero, sampling, read-message}
 
 -- ---------------------------------------------------------------- an accepted call
 module _ (m : Module) (h : Reached m) (e : EventT) (k j : ℕ) (some : 1 ≤ k) where
@@ -209,4 +210,12 @@ event-latest input before k j name es since =
 
 -- Law. What the latest accepted call left.
 pub latest : Latest
-latest = record { sampling = sampling; read = read-latest; board = board-latest; set = event-latest }
+latest = record {
+  sampling = sampling;
+  read = λ input i k es l size to h.
+      let m = readTable input .state in
+      let T = after-table m es in
+      rw T at (read-message (after m es) k i (lastWritten m i es) (rw T l) (rw T size) (rw T to) h (sampling input i es l));
+  board = board-latest;
+  set = event-latest;
+}

@@ -48,7 +48,6 @@ use Rattle.machine.proofs.Reached.{made, made-body, reached-valid}
 use Rattle.machine.proofs.Restarts.{refilled-messages}
 use Rattle.machine.proofs.Starred.{erased-other, erased-own, tick-messages, restart-gives}
 use Rattle.machine.proofs.Answers.{step-table}
-use Rattle.machine.proofs.TicksLeft.{after-table}
 use Rattle.machine.proofs.Account.{plain-is}
 use Rattle.machine.proofs.EachCall.{each-event, each-call}
 use Rattle.machine.proofs.Stores.{Marks}
@@ -180,7 +179,8 @@ sampling input i es l =
     es m (Reached.read input, refl)
     ∙ ap (λ x. along (written (channel (m .table) i) i) x (answers m es)) (fresh-message input i l)
 
-read-message : (q : Module) (k i : ℕ) (x : Message) → let c = channel (q .table) i in
+-- READ of a message that is known
+pub read-message : (q : Module) (k i : ℕ) (x : Message) → let c = channel (q .table) i in
     let e = callBy k 22 (pos (i + 1)) (pos 0) (pos 0) (pos 0) in
     i < q .table .channelCount → c .size ≡ 0 → c .destination ≡ k → Calling q k → message q i ≡ x
     → (x .present ≡ false → Refuses q e 1)
@@ -197,17 +197,3 @@ read-message q k i x l size to h is =
     .1 (rw (place, here)) in
     let f = rw (place, is) at g in
     (λ z. f .0 (rw z), λ z. f .1 (rw z))
-
-pub read-latest : (input : List ℕ) (i k : ℕ) (es : List EventT) → let m = readTable input .state in
-    let q = after m es in
-    let c = channel (m .table) i in
-    let x = lastWritten m i es in
-    let e = callBy k 22 (pos (i + 1)) (pos 0) (pos 0) (pos 0) in
-    i < m .table .channelCount → c .size ≡ 0 → c .destination ≡ k → Calling q k
-    → (x .present ≡ false → Refuses q e 1)
-    × (x .present ≡ true → Gives q e 0 (x .value) (At (cond (leb (q .t - x .written) (c .refresh)) 1 0)) q)
-read-latest input i k es l size to h =
-    let m = readTable input .state in
-    let q = after m es in
-    let T = after-table m es in
-    rw T at (read-message q k i (lastWritten m i es) (rw T l) (rw T size) (rw T to) h (sampling input i es l))

@@ -54,3 +54,15 @@ pub mod EachCall
 pub mod Entering
 pub mod TableLines
 pub mod Terms
+pub mod PerPartition
+pub mod Stores
+pub mod Accepted
+pub mod ModeKept
+pub mod Modes
+pub mod Names
+pub mod Sampling
+pub mod BoardsStay
+pub mod Latest
+pub mod Share
+pub mod QueuePlaces
+pub mod ServedBefore

@@ -5,7 +5,7 @@ use mathlib.Core.Bool.{true, false, or-true}
 use mathlib.Core.List.{List, [], _∷_}
 use mathlib.Core.Logic.{_⊎_, inl, inr, ⊎-elim}
 use native.Mathlib.Omega.{arith}
-use lib.ListN.{length, take}
+use lib.ListN.{take}
 use lib.IntN.{pos}
 use lib.Dec.{eqb, ltb}
 use borrow.Author.Tests.{eq-eqb, ne-eqb, eqb-true, ltb-true, ltb-false}
@@ -22,31 +22,30 @@ use Rattle.machine.specs.declared.Change.{Change}
 use Rattle.machine.specs.declared.Change.the-variants.{Nothing, Stored, Created, Last, StoredSemaphore, StoredEvent, CreatedBuffer, Moved, StoredBlackboard, Ended, Handed, LevelSet, Entered}
 use Rattle.machine.specs.declared.Decision.{Decision}
 use Rattle.machine.specs.declared.Decision.the-variants.{Refused, Unchanged, Ticked, Blocked, Changed, Restarted, Written, Passed as PassedOn}
-use Rattle.machine.specs.Limits.{processLimit, semaphoreLimit, eventLimit, bufferLimit, blackboardLimit, channelLimit}
+use Rattle.machine.specs.Limits.{processLimit, semaphoreLimit, eventLimit, bufferLimit, blackboardLimit}
 use Rattle.machine.specs.Fields.{requestOf, numberOf}
-use Rattle.machine.specs.Messages.{endsWait, moved}
 use Rattle.machine.specs.Process.{served, handed, ticked, entered}
-use Rattle.machine.specs.Partition.{within, normalMode, buffer, emptyBuffer, movedIn, endedBy, stored, created, arrivedLast, storedSemaphore, storedEvent, storedBuffer, storedBlackboard, waiters, each, tickPartition, enteredNormal, nothingCreated, withMode, applied, noted}
-use Rattle.machine.specs.Module.{part, queue, channel, current, withPart, withTime, withQueue, noPartition}
-use Rattle.machine.specs.Channels.{portOf, otherEnd, erasedTo}
+use Rattle.machine.specs.Partition.{within, normalMode, buffer, emptyBuffer, movedIn, endedBy, created, arrivedLast, storedSemaphore, storedEvent, storedBuffer, storedBlackboard, waiters, each, tickPartition, enteredNormal, withMode, applied, noted, partitionAfter}
+use Rattle.machine.specs.Module.{part, current}
+use Rattle.machine.specs.Channels.{portOf}
 use Rattle.machine.specs.Step.{contextOf, decision, moduleAfter, sees, step}
 use Rattle.machine.specs.LeftRight.{after}
-use Rattle.machine.specs.Valid.{Between, SameHolder, SoundModule, SoundChange, SoundDecision, Reached, plainTick}
+use Rattle.machine.specs.Valid.{Between, SameHolder, SoundModule, SoundChange, SoundDecision, Reached}
 use Rattle.machine.specs.Plain.{idsFrom}
 use Rattle.machine.specs.Starred.{own}
 use Rattle.machine.specs.Locks.{LockHolds, SameLock, NoLockCall, NoLockCalls, LockedThroughout, Locks}
 use Rattle.machine.proofs.Tests.{by-test, not-both}
 use Rattle.machine.proofs.Bounds.{not-so, so}
 use Rattle.machine.proofs.Either.{either}
-use Rattle.machine.proofs.Dispatch.{Calls, by-event}
+use Rattle.machine.proofs.Dispatch.{Calls}
 use Rattle.machine.proofs.Bodies.{Bodily, leavesLevel, setsLevel}
 use Rattle.machine.proofs.Keeping.{Rest, stored-rest, each-changed, changed-rest}
-use Rattle.machine.proofs.Kept.{nothing-valid}
 use Rattle.machine.proofs.Running.{holder-runs}
-use Rattle.machine.proofs.Reached.{at-set, plain-part, tick-module-plain, place, made, made-sound, made-body, part-sound, erased-sound, refilled-keeps, on-queue, valid-sound, reached-valid, decided-sound}
+use Rattle.machine.proofs.Reached.{made, made-sound, made-body, valid-sound, reached-valid, decided-sound}
 use Rattle.machine.proofs.Answers.{decided-table}
 use Rattle.machine.proofs.Calling.{field-number, number-of}
 use Rattle.machine.proofs.Isolation.{left-right}
+use Rattle.machine.proofs.PerPartition.{by-partition}
 
 -- ---------------------------------------------------------------- a partition
 same-lock : (p : Partition) → SameLock p p
@@ -114,7 +113,10 @@ change-lock c p (LevelSet level holder) h = record { same = λ e. not-both _ e r
 change-lock c p (Entered d) h = record { same = λ e. not-both _ e refl; holding = λ _ more. absurd (let z = each-lock (entered d) (withMode 3 p) .level in omega (arith, more, z)) }
 
 -- ---------------------------------------------------------------- an event
-module _ (m : Module) (s : SoundModule m) (r : Request) where
+module _ (m : Module) (s : SoundModule m) (e : EventT) where
+  abbrev r : Request
+  r = requestOf e
+
   abbrev k : ℕ
   k = numberOf (r .partition)
 
@@ -129,49 +131,31 @@ module _ (m : Module) (s : SoundModule m) (r : Request) where
   abbrev Left : ℕ → Partition → Type 0
   Left i q = LockAfter (Elsewhere i) (part m i) q
 
-  same-left : (i : ℕ) → i < m .table .size → Left i (part m i)
-  same-left i l = left (part m i) (part m i) (same-lock (part m i))
-
-  puts : (x : Module) → x .partitions ≡ m .partitions → (j : ℕ) → j < m .table .size → (p : Partition) → Left j p → (i : ℕ) → i < m .table .size → Left i (part (withPart j p x) i)
-  puts x e j inside p h i l = rw e (at-set Left (m .partitions) j (noted p) noPartition (omega (arith, inside, s .partitionsSize, s .table .size .1)) i (then-left (part m j) p (noted p) h (noted-lock p p (same-lock p))) (λ _. same-left i l))
-
   module _ (q : Calls m r) where
     abbrev now : Partition
     now = part m (k - 1)
 
-    here : k - 1 < m .table .size
-    here = place m s r q
-
-    decided-lock : (d : Decision) → SoundDecision (contextOf m k) now d → Bodily (portOf m k r) n d → (i : ℕ) → i < m .table .size → Left i (part (moduleAfter m k d) i)
-    decided-lock (Refused c) h b = same-left
-    decided-lock (Unchanged v e) h b = same-left
+    decided-lock : (d : Decision) → SoundDecision (contextOf m k) now d → Bodily (portOf m k r) n d → Left (k - 1) (partitionAfter d now)
+    decided-lock (Refused c) h b = left now now (same-lock now)
+    decided-lock (Unchanged v x) h b = left now now (same-lock now)
     decided-lock Ticked h b = absurd b
-    decided-lock (Blocked id x) h b = puts m refl (k - 1) here (stored id x now) (left now _ (rest-lock now _ (stored-rest now id x)))
+    decided-lock (Blocked id x) h b = left now _ (rest-lock now _ (stored-rest now id x))
     decided-lock (Changed x y v) h b =
         let f = change-lock (contextOf m k) now x (h .0) in
         let g = change-lock (contextOf m k) (applied x now) y (h .1) .same (b .1) in
-        puts m refl (k - 1) here (applied y (applied x now)) (then-left now (applied x now) _ (record { same = λ u. f .same (so (leavesLevel x) (λ e. not-both _ (rw e at (b .0)) (u (q .some) refl))); holding = f .holding }) g)
-    decided-lock (Restarted mode) h b =
-        let u = erasedTo k channelLimit m in
-        let p = nothingCreated mode in
-        refilled-keeps Left k (withPart (k - 1) p u) (part-sound u (erased-sound k channelLimit m (omega arith) s) (k - 1) here p (nothing-valid (m .table .frame) (m .t) mode h)) channelLimit
-        (λ i _ _ size frame t p v h. then-left _ p _ h (noted-lock p _ (rest-lock p _ (changed-rest served (take size (waiters _ p)) p))))
-        (puts u refl (k - 1) here p (record { same = λ u. not-both _ b (u (q .some) refl); holding = λ _ more. absurd (omega arith) }))
-    decided-lock (Written j x) h b = same-left
-    decided-lock (PassedOn j a v) h b =
-        let e = otherEnd k (channel (m .table) j) - 1 in
-        by-test (λ (x : Module). (i : ℕ) → i < m .table .size → Left i (part x i)) (endsWait a)
-        (λ _. puts (withQueue j (moved a (queue m j)) m) refl e (on-queue m s r q j a v b .inside) (endedBy a (part m e)) (left (part m e) _ (ended-lock a (part m e))))
-        (λ _. same-left)
+        then-left now (applied x now) _ (record { same = λ u. f .same (so (leavesLevel x) (λ e. not-both _ (rw e at (b .0)) (u (q .some) refl))); holding = f .holding }) g
+    decided-lock (Restarted mode) h b = record { same = λ u. not-both _ b (u (q .some) refl); holding = λ _ more. absurd (omega arith) }
+    decided-lock (Written j x) h b = left now now (same-lock now)
+    decided-lock (PassedOn j a v) h b = left now now (same-lock now)
 
-  event-lock : (i : ℕ) → i < m .table .size → Left i (part (moduleAfter m k (decision m r)) i)
-  unfolding plainTick
-  event-lock = by-event m r (λ (d : Decision). (i : ℕ) → i < m .table .size → Left i (part (moduleAfter m k d) i))
-      (λ _ _. same-left)
-      (λ _ _ _ i l.
-      let long : m .table .size ≤ length (m .partitions) = omega (arith, s .partitionsSize, s .table .size .1) in
-      rw (tick-module-plain m (inr s), plain-part (m .table .size) (withTime (m .t + 1) m) long i l) (left (part m i) _ (noted-lock (part m i) _ (tick-lock (m .t + 1) (part m i)))))
-      (λ q. decided-lock q (made m s r q) (made-sound m s r q) (made-body m s r q))
+  event-lock : (i : ℕ) → i < m .table .size → Left i (part (step m e .state) i)
+  event-lock = by-partition m s e Left
+      (λ i _. left (part m i) (part m i) (same-lock (part m i)))
+      (λ i _ p h. then-left (part m i) p (noted p) h (noted-lock p p (same-lock p)))
+      (λ i _. left (part m i) _ (tick-lock (m .t + 1) (part m i)))
+      (λ q _. decided-lock q (made m s r q) (made-sound m s r q) (made-body m s r q))
+      (λ i _ o size _ _ p _ h. then-left (part m i) p _ h (rest-lock p _ (changed-rest served (take size (waiters o p)) p)))
+      (λ i _ a _. left (part m i) _ (ended-lock a (part m i)))
 
 -- ---------------------------------------------------------------- an event's numbers
 one-of : (n : ℕ) → setsLevel n ≡ true → (n ≡ 1) ⊎ ((n ≡ 6) ⊎ ((n ≡ 32) ⊎ (n ≡ 33)))
@@ -223,12 +207,10 @@ module _ (m : Module) (h : Reached m) (k : ℕ) (b : Between 1 (m .table .size) 
   inside e = rw (decided-table m (numberOf (requestOf e .partition)) (decision m (requestOf e))) b
 
   step-lock : (e : EventT) → NoLockCall k e → SameLock (own m k) (own (step m e .state) k)
-  unfolding step
-  step-lock e free = event-lock m sound (requestOf e) (k - 1) (omega (arith, b .0, b .1)) .same (no-lock-call k e free (b .0))
+  step-lock e free = event-lock m sound e (k - 1) (omega (arith, b .0, b .1)) .same (no-lock-call k e free (b .0))
 
   step-holding : (e : EventT) → Holding (own m k) (own (step m e .state) k)
-  unfolding step
-  step-holding e = event-lock m sound (requestOf e) (k - 1) (omega (arith, b .0, b .1)) .holding
+  step-holding e = event-lock m sound e (k - 1) (omega (arith, b .0, b .1)) .holding
 
   shown-holder : (e : EventT) → let q = step m e .state in
       (e .partition ≡ pos 0) ⊎ (e .partition ≡ pos k) → current q ≡ k → 0 < own q k .level → step m e .answer .running ≡ own q k .holder

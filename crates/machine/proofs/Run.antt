@@ -22,7 +22,7 @@ use Rattle.machine.proofs.Dispatch.{ticks-decided}
 use Rattle.machine.proofs.Isolation.{left-right}
 use Rattle.machine.proofs.Tables.{table-read}
 
-tick-time : (n : ℕ) (m : Module) → Ti.tickTo n m .t ≡ m .t
+pub tick-time : (n : ℕ) (m : Module) → Ti.tickTo n m .t ≡ m .t
 unfolding Ti.tickTo Ti.tickAt
 tick-time zero m = refl
 tick-time (suc n) m = by-test (λ (x : Module). x .t ≡ m .t) (Ti.dueAt n (Ti.tickTo n m)) (λ _. tick-time n m) (λ _. tick-time n m)

@@ -60,7 +60,7 @@ use Rattle.machine.proofs.Kept.{normal-caller, in-normal, change-valid,
 use Rattle.machine.proofs.Queues.{Part, part-whole, part-trans, same-queue, all-part, ended-part, normal-off, start-object, ticked-object, expired-wait}
 
 -- 0..3 and not 3
-below-three : (f : Field) → between 0 modeLimit f ≡ true → isNumber 3 f ≡ false → between 0 2 f ≡ true
+pub below-three : (f : Field) → between 0 modeLimit f ≡ true → isNumber 3 f ≡ false → between 0 2 f ≡ true
 below-three (Number n) h e = let r = leb-true n modeLimit (and-right (leb 0 n) (leb n modeLimit) h) in let ne = eqb-false n 3 e in rw (le-leb 0 n (omega arith), le-leb n 2 (omega arith))
 below-three MinusOne h e = not-both _ h refl
 below-three Other h e = not-both _ h refl

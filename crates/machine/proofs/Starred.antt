@@ -96,14 +96,14 @@ neighbour-in-eight m e h =
 
 -- ---------------------------------------------------------------- messages
 -- erasing messages into partition k leaves those of channels into another
-erased-other : (k n : ℕ) (m : Module) (i : ℕ) → eqb (M.channel (m .table) i .destination) k ≡ false → M.message (Ch.erasedTo k n m) i ≡ M.message m i
+pub erased-other : (k n : ℕ) (m : Module) (i : ℕ) → eqb (M.channel (m .table) i .destination) k ≡ false → M.message (Ch.erasedTo k n m) i ≡ M.message m i
 erased-other k n m i h = kept-at (m .table) k n (m .messages) i ∙ rw (h, and-false (ltb i n))
 
 -- and those into partition k are gone
-erased-own : (k n : ℕ) (m : Module) (i : ℕ) → i < n → M.channel (m .table) i .destination ≡ k → M.message (Ch.erasedTo k n m) i ≡ D.noMessage
+pub erased-own : (k n : ℕ) (m : Module) (i : ℕ) → i < n → M.channel (m .table) i .destination ≡ k → M.message (Ch.erasedTo k n m) i ≡ D.noMessage
 erased-own k n m i h d = kept-at (m .table) k n (m .messages) i ∙ rw (lt-ltb i n h, eq-eqb (M.channel (m .table) i .destination) k d)
 
-tick-messages : (n : ℕ) (m : Module) → Ti.tickTo n m .messages ≡ m .messages
+pub tick-messages : (n : ℕ) (m : Module) → Ti.tickTo n m .messages ≡ m .messages
 unfolding Ti.tickTo Ti.tickAt
 tick-messages zero m = refl
 tick-messages (suc n) m = by-test (λ (x : Module). x .messages ≡ m .messages) (Ti.dueAt n (Ti.tickTo n m)) (λ _. tick-messages n m) (λ _. tick-messages n m)
@@ -293,7 +293,7 @@ module _ (m : Module) (k : ℕ) (u : SoundModule m) (h : Calling m k) where
       ∙ getD-set-same (m .partitions) (k - 1) (noted p) M.noPartition (omega (arith, place, u .partitionsSize, u .table .size .1))
 
   module _ (mode : ℕ) (low : mode ≤ 2) (warm : mode ≡ 2 → own m k .mode ≡ 1 → ⊥) where
-    restart-gives : Gives m (callBy k 1 (pos mode) (pos 0) (pos 0) (pos 0)) 0 0 (At 0) (St.restarted k (nothingCreated mode) m)
+    pub restart-gives : Gives m (callBy k 1 (pos mode) (pos 0) (pos 0) (pos 0)) 0 0 (At 0) (St.restarted k (nothingCreated mode) m)
     unfolding callDecision services Pl.strayField C.setMode D.checked
     restart-gives =
         gives m k u h 1 (pos mode) (pos 0) (pos 0) (pos 0) (omega arith) (omega arith) refl (Restarted mode)

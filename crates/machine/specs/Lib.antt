@@ -35,3 +35,8 @@ pub mod EachCall
 pub mod Entering
 pub mod TableLines
 pub mod Terms
+pub mod Modes
+pub mod Names
+pub mod Latest
+pub mod Share
+pub mod ServedBefore

@@ -51,4 +51,5 @@ pub mod Channels
 pub mod Locks
 pub mod TicksLeft
 pub mod EachCall
+pub mod ProcessStates
 pub mod TableLines

@@ -189,19 +189,22 @@ restart-keeps-queue m e i no-send no-receive d =
     passed-by x n y j a v e b = rw e at b
 
 -- ---------------------------------------------------------------- waits
+pub for-none : (w : Wait) → waitsForNothing w ≡ true → w ≡ None
+for-none None t = refl
+for-none Normal t = not-both _ t refl
+for-none Delay t = not-both _ t refl
+for-none Timed t = not-both _ t refl
+for-none Period t = not-both _ t refl
+for-none (Semaphore j) t = not-both _ t refl
+for-none (Event j) t = not-both _ t refl
+for-none (Sending j m) t = not-both _ t refl
+for-none (Receiving j) t = not-both _ t refl
+for-none (Blackboard j) t = not-both _ t refl
+for-none (Source j m) t = not-both _ t refl
+for-none (Destination j) t = not-both _ t refl
+
 pub waits : (w : Wait) → (w ≡ None → ⊥) → waitsForNothing w ≡ false
-waits None h = absurd (h refl)
-waits Normal h = refl
-waits Delay h = refl
-waits Timed h = refl
-waits Period h = refl
-waits (Semaphore j) h = refl
-waits (Event j) h = refl
-waits (Sending j m) h = refl
-waits (Receiving j) h = refl
-waits (Blackboard j) h = refl
-waits (Source j m) h = refl
-waits (Destination j) h = refl
+waits w h = not-so (waitsForNothing w) (λ t. h (for-none w t))
 
 -- the wait that names semaphore j, event j
 semaphore-is : (w : Wait) (j : ℕ) → j ≤ 255 → object w ≡ object (Semaphore j) → w ≡ Semaphore j

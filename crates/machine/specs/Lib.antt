@@ -32,4 +32,5 @@ pub mod TicksLeft
 pub mod Waits
 pub mod Account
 pub mod EachCall
+pub mod ProcessStates
 pub mod TableLines

@@ -45,6 +45,18 @@ by-place P (x ∷ l) d k f zero n e g = let h : n ≡ k = omega arith in rw h (f
 by-place P (x ∷ l) d k f (suc i) n e g = by-place P l d (suc k) (f .1) i n (omega arith) (λ h. g (omega arith))
 
 -- ---------------------------------------------------------------- calls
+all-services : length services ≡ callLimit
+unfolding services
+all-services = refl
+
+-- what is shown of each call by its number
+module _ (c : Context) (x : Port) (r : Request) (p : Partition) (P : ℕ → Decision → Type 0) where
+  pub by-number : Each (λ j (s : Service). P j (s .decides c x r p)) 1 services → (n : ℕ) → 1 ≤ n → n ≤ callLimit → P n (callDecision c x n r p)
+  unfolding callDecision
+  by-number f n lo hi =
+      by-test (λ (s : Service). P n (s .decides c x r p)) (eqb n 0) (λ z. absurd (omega (arith, eqb-true n 0 z))) λ z.
+      by-place (λ j (s : Service). P j (s .decides c x r p)) services noService 1 f (n - 1) n (omega arith) (λ h. absurd (omega (arith, all-services)))
+
 -- what is shown of each call, whatever fields it is given but for 1, 24, 25, 30 and 31; 3 and 4 are one
 module _ (c : Context) (x : Port) (n : ℕ) (r : Request) (p : Partition) (P : Decision → Type 0)
     (f1 : n ≡ 1 → P (setMode c (r .a) p))
@@ -85,16 +97,12 @@ module _ (c : Context) (x : Port) (n : ℕ) (r : Request) (p : Partition) (P : D
   unfolding Each services
   each = (λ e. f1 e, (λ _. f2 _, (λ _. f3 _ _, (λ _. f3 _ _, (λ e. f5 e _, (λ e. f6 e, (λ _. f7 _, (λ _. f8 _, (λ _. f9 _, (λ _. f10, (λ _. f11 _, (λ _. f12 _ _, (λ _. f13 _, (λ _. f14 _, (λ _. f15 _ _, (λ _. f16 _, (λ _. f17 _, (λ _. f18 _, (λ _. f19 _, (λ _. f20 _ _, (λ e. f21 e _, (λ _. f22, (λ _. f23 _ _, (λ e. f24 e, (λ e. f25 e, (λ _. f26 _, (λ _. f27 _ _, (λ _. f28 _ _, (λ _. f29 _, (λ e. f30 e, (λ e. f31 e, (λ e. f32 e, (λ e. f33 e, (λ _. f34, tt))))))))))))))))))))))))))))))))))
 
-  all : length services ≡ callLimit
-  unfolding services
-  all = refl
-
   pub by-call : P (callDecision c x n r p)
   unfolding callDecision
   by-call =
       by-test (λ (s : Service). P (s .decides c x r p)) (eqb n 0) (λ z. other (λ lo hi. let e = eqb-true n 0 z in omega arith)) λ z.
       let some = eqb-false n 0 z in
-      by-place (λ j (s : Service). n ≡ j → P (s .decides c x r p)) services noService 1 each (n - 1) n (omega arith) (λ h _. other (λ lo hi. let e = all in omega arith)) refl
+      by-place (λ j (s : Service). n ≡ j → P (s .decides c x r p)) services noService 1 each (n - 1) n (omega arith) (λ h _. other (λ lo hi. let e = all-services in omega arith)) refl
 
 -- a call that takes no start rule does not look at the release point
 module _ (time frame left caller n : ℕ) (x : Port) (r : Request) (p : Partition) (mode : n ≡ 1 → ⊥) (start : n ≡ 3 → ⊥) (delayed : n ≡ 4 → ⊥) (u v : ℕ) where

@@ -51,5 +51,8 @@ pub mod Channels
 pub mod Locks
 pub mod TicksLeft
 pub mod EachCall
+pub mod Acts
+pub mod Turns
+pub mod EachProcess
 pub mod ProcessStates
 pub mod TableLines

@@ -31,7 +31,7 @@ use Rattle.machine.specs.Limits.{timeLimit, channelLimit, modeLimit}
 use Rattle.machine.specs.Fields.{field, requestOf, isNumber, numberOf}
 use Rattle.machine.specs.Ids.{members, kept}
 use Rattle.machine.specs.Messages.{noQueue, held, endsWait}
-use Rattle.machine.specs.Process.{due, object, carried, onObject, ready, onlyMarked, waitEnded, woken, expired, ticked, waitsForNothing}
+use Rattle.machine.specs.Process.{due, object, carried, onObject, ready, onlyMarked, waitEnded, woken, expired, ticked, waitsForNothing, waitsForNormal}
 use Rattle.machine.specs.Partition.{process, semaphore, event, waitsOn, waiters, tickPartition, noted, nothingCreated}
 use Rattle.machine.specs.Services.{services, callDecision}
 use Rattle.machine.specs.Decisions as D
@@ -202,6 +202,20 @@ for-none (Receiving j) t = not-both _ t refl
 for-none (Blackboard j) t = not-both _ t refl
 for-none (Source j m) t = not-both _ t refl
 for-none (Destination j) t = not-both _ t refl
+
+pub for-normal : (w : Wait) → waitsForNormal w ≡ true → w ≡ Normal
+for-normal None t = not-both _ t refl
+for-normal Normal t = refl
+for-normal Delay t = not-both _ t refl
+for-normal Timed t = not-both _ t refl
+for-normal Period t = not-both _ t refl
+for-normal (Semaphore j) t = not-both _ t refl
+for-normal (Event j) t = not-both _ t refl
+for-normal (Sending j m) t = not-both _ t refl
+for-normal (Receiving j) t = not-both _ t refl
+for-normal (Blackboard j) t = not-both _ t refl
+for-normal (Source j m) t = not-both _ t refl
+for-normal (Destination j) t = not-both _ t refl
 
 pub waits : (w : Wait) → (w ≡ None → ⊥) → waitsForNothing w ≡ false
 waits w h = not-so (waitsForNothing w) (λ t. h (for-none w t))

@@ -32,5 +32,6 @@ pub mod TicksLeft
 pub mod Waits
 pub mod Account
 pub mod EachCall
+pub mod EachProcess
 pub mod ProcessStates
 pub mod TableLines

@@ -1,7 +1,7 @@
 -- What an event makes of the record of each process. Assumes nothing.
 use Prim.Native.Nat.{ℕ, _+_, _-_, _≤_, _<_}
 use mathlib.Core.Path.{_≡_, refl, sym, ap, subst, _∙_}
-use mathlib.Core.Bool.{true, false}
+use mathlib.Core.Bool.{true, false, cond}
 use mathlib.Core.Logic.{_⊎_, inl, inr, ⊎-elim}
 use native.Mathlib.Omega.{arith}
 use lib.ListN.{length, take}
@@ -51,6 +51,26 @@ use Rattle.machine.proofs.Reached.{made, made-sound, made-body, on-queu
 use Rattle.machine.proofs.Turns.{same-number, untold-none, untold-code, untold-from, untold-seven, untold-number, not-created, alike-same, untouched, alike-process, sent-is, received-is, begin, turned}
 use Rattle.machine.proofs.Acts.{Begins, touches, told, Acts, call-acts}
 
+-- ---------------------------------------------------------------- a tick
+module _ (m : Module) (s : SoundModule m) (k : ℕ) (b : Between 1 (m .table .size) k) where
+  pub ticked-part : own (tickModule m) k ≡ noted (tickPartition (m .t + 1) (own m k))
+  unfolding plainTick
+  ticked-part = rw (tick-module-plain m (inr s)) (plain-part (m .table .size) (withTime (m .t + 1) m) (omega (arith, s .partitionsSize, s .table .size .1)) (k - 1) (omega (arith, b .0, b .1)))
+
+  pub tick-process : (id : ℕ) → process id (own (tickModule m) k) ≡ cond (normalMode (own m k)) (atTick (m .t + 1) (process id (own m k))) (process id (own m k))
+  unfolding tickPartition
+  tick-process id =
+      let p = own m k in
+      let v = s .eachPartition (k - 1) (omega (arith, b .0, b .1)) .lists in
+      let l = idsFrom (p .processCount) 1 in
+      let f = ticked (m .t + 1) in
+      let all : AllCreated l (p .processCount) = λ y t. let w = from-range (p .processCount) 1 y t in (w .0, omega arith) in
+      ap (process id) ticked-part ∙ either (normalMode p)
+      (λ t. rw t (ap (process id) (each-changed f (p .processCount) 1 p) ∙ changed-process f l p v all (distinct-from (p .processCount) 1) id ∙ either (contains id l)
+      (λ c. rw c (tick-one (m .t + 1) (process id p)))
+      (λ c. rw c (let z = not-created p v id c in z ∙ ap (atTick (m .t + 1)) (sym z)))))
+      (λ t. rw t)
+
 -- ---------------------------------------------------------------- an event
 module _ (m : Module) (s : SoundModule m) (e : EventT) (k : ℕ) (b : Between 1 (m .table .size) k) (id : ℕ) where
   abbrev asks : Request
@@ -71,19 +91,11 @@ module _ (m : Module) (s : SoundModule m) (e : EventT) (k : ℕ) (b : Between 1 
   long = omega (arith, b .0, b .1, s .partitionsSize, s .table .size .1)
 
   tick-is : malformed (m .table) asks ≡ false → ticks asks ≡ true → Is 0 (part (tickModule m) (k - 1))
-  unfolding plainTick tickPartition
   tick-is formed zero =
       let p = own m k in
-      let v = s .eachPartition (k - 1) (omega (arith, b .0, b .1)) .lists in
-      let l = idsFrom (p .processCount) 1 in
-      let f = ticked (m .t + 1) in
-      let all : AllCreated l (p .processCount) = λ y t. let w = from-range (p .processCount) 1 y t in (w .0, omega arith) in
       let by = number-is (e .partition) 0 (between-zero (m .table .size) (asks .partition) (not-false _ (or-left _ _ (or-right (eqb (m .table .size) 0) _ formed))) zero) in
-      rw (tick-module-plain m (inr s), plain-part (m .table .size) (withTime (m .t + 1) m) (omega (arith, s .partitionsSize, s .table .size .1)) (k - 1) (omega (arith, b .0, b .1)))
-      (by-test (λ (q : Partition). Is 0 q) (normalMode p)
-      (λ t. subst (Is 0) (sym (each-changed f (p .processCount) 1 p)) (subst (Becomes m e 0 k id) (sym (changed-process f l p v all (distinct-from (p .processCount) 1) id)) (by-test (Becomes m e 0 k id) (contains id l)
-      (λ _. Becomes.ticked (by, refl, eqb-true _ 3 t) (tick-one (m .t + 1) (process id p)))
-      (λ t′. let z = not-created p v id t′ in Becomes.ticked (by, refl, eqb-true _ 3 t) (z ∙ ap (atTick (m .t + 1)) (sym z))))))
+      subst (Becomes m e 0 k id) (sym (tick-process m s k b id)) (by-test (Becomes m e 0 k id) (normalMode p)
+      (λ t. Becomes.ticked (by, refl, eqb-true _ 3 t) refl)
       (λ t. Becomes.same (untold-none m e k id 0 (λ c. not-both _ (eq-eqb (p .mode) 3 (c .2)) t) (λ n c _ w. let z = same-number (sym by ∙ w .0) in omega (arith, b .0))) refl))
 
   module _ (q : Calls m asks) where
@@ -171,7 +183,7 @@ module _ (m : Module) (s : SoundModule m) (e : EventT) (k : ℕ) (b : Between 1 
                 (λ c.
                 let w : object (process id p .wait) ≡ o = eqb-true _ o (sym (waiters-exact p (v .lists) o (λ z. omega arith) id) ∙ take-in size (waiters o p) id c) in
                 ⊎-elim
-                (λ (same : process id p ≡ was). inr (Service.restart i mode (by ∙ ap pos (sym into)) (call ∙ ap pos one) a-is low refl (sym source) (ap (λ (y : Process). object (y .wait)) (sym same) ∙ w), ap served same))
+                (λ (same : process id p ≡ was). inr (Service.restart i mode (rw T at (f .there)) (by ∙ ap pos (sym into)) (call ∙ ap pos one) a-is low refl (sym source) (ap (λ (y : Process). object (y .wait)) (sym same) ∙ w), ap served same))
                 (λ (done : Service m e 0 k id × (process id p ≡ served was)). absurd (omega (arith, w, ap (λ (y : Process). object (y .wait)) (done .1))))
                 (h z .left other))
                 (λ _. h z .left other));
@@ -216,14 +228,14 @@ module _ (m : Module) (s : SoundModule m) (e : EventT) (k : ℕ) (b : Between 1 
         let source : c .source ≡ from = ap (λ (x : Channel). x .source) (sym (w .is)) ∙ f .source in
         let o = object (Destination (i + 1)) in
         let first : firstWaiter (otherQueue from i c) (part m j) ≡ firstWaiter o (own m k) = ap (λ y. firstWaiter y (part m j)) (rw (eq-eqb (c .source) from source)) ∙ ap (λ y. firstWaiter o (part m y)) z in
-        sent-is m e k id lists o (λ z. omega arith) (λ on. Service.sent i (by ∙ ap pos (sym source)) (call ∙ ap pos (f .call)) a-is refl (sym (rw (eq-eqb (c .source) from source) at k-is)) on) none (own m k) (alike-same (own m k)) lists a (f .message)
+        sent-is m e k id lists o (λ z. omega arith) (λ on. Service.sent i (w .there) (by ∙ ap pos (sym source)) (call ∙ ap pos (f .call)) a-is refl (sym (rw (eq-eqb (c .source) from source) at k-is)) on) none (own m k) (alike-same (own m k)) lists a (f .message)
         (f .transfer ∙ ap (λ (x : Traffic). sent (x .waiter) (f .message)) (w .sees) ∙ ap (λ y. sent y (f .message)) first) sound)
         (λ (f : Receives (portOf m from asks) number a v).
         let destination : c .destination ≡ from = ap (λ (x : Channel). x .destination) (sym (w .is)) ∙ f .destination in
         let off : eqb (c .source) from ≡ false = ne-eqb _ _ (λ y. h .apart (y ∙ sym destination)) in
         let o = object (Source (i + 1) 0) in
         let first : firstWaiter (otherQueue from i c) (part m j) ≡ firstWaiter o (own m k) = ap (λ y. firstWaiter y (part m j)) (rw off) ∙ ap (λ y. firstWaiter o (part m y)) z in
-        received-is m e k id lists o (λ z. omega arith) (λ on. Service.taken i (by ∙ ap pos (sym destination)) (call ∙ ap pos (f .call)) a-is refl (sym (rw off at k-is)) on) none (own m k) (alike-same (own m k)) lists a (portOf m from asks .traffic .carried)
+        received-is m e k id lists o (λ z. omega arith) (λ on. Service.taken i (w .there) (by ∙ ap pos (sym destination)) (call ∙ ap pos (f .call)) a-is refl (sym (rw off at k-is)) on) none (own m k) (alike-same (own m k)) lists a (portOf m from asks .traffic .carried)
         (f .transfer ∙ ap (λ y. received y (portOf m from asks .traffic .carried)) (ap (λ (x : Traffic). x .waiter) (w .sees) ∙ first)) sound)
         (g .end))))
         (λ _. Becomes.same none refl)

@@ -1,6 +1,6 @@
 -- What every event makes of every process: one of listed cases, each with its call, its caller and the record after it, as a claim about `step`. The premises
 -- speak of an event's numbers, the answer's code, the table and the record. (The whole record after each accepted call: `EachCall`.)
-use Prim.Native.Nat.{ℕ, _+_, _≤_}
+use Prim.Native.Nat.{ℕ, _+_, _≤_, _<_}
 use mathlib.Core.Path.{_≡_}
 use mathlib.Core.Bool.{Bool, true, false, cond}
 use mathlib.Core.Logic.{_⊎_}
@@ -104,9 +104,9 @@ module _ (m : Module) (e : EventT) (code k id : ℕ) where
   -- destination of a channel at whose source it waits
   pub data Service : Type 0 where
     here : (n : ℕ) → Call n 0 → object (was .wait) ≡ object (servedBy n (idOf (e .a))) → (object (was .wait) ≡ 0 → ⊥) → Service
-    sent : (i : ℕ) → e .partition ≡ pos (channel (m .table) i .source) → e .call ≡ pos 30 → e .a ≡ pos (i + 1) → code ≡ 0 → k ≡ channel (m .table) i .destination → object (was .wait) ≡ object (Destination (i + 1)) → Service
-    taken : (i : ℕ) → e .partition ≡ pos (channel (m .table) i .destination) → e .call ≡ pos 31 → e .a ≡ pos (i + 1) → code ≡ 0 → k ≡ channel (m .table) i .source → object (was .wait) ≡ object (Source (i + 1) 0) → Service
-    restart : (i mode : ℕ) → e .partition ≡ pos (channel (m .table) i .destination) → e .call ≡ pos 1 → e .a ≡ pos mode → mode ≤ 2 → code ≡ 0 → k ≡ channel (m .table) i .source → object (was .wait) ≡ object (Source (i + 1) 0) → Service
+    sent : (i : ℕ) → i < m .table .channelCount → e .partition ≡ pos (channel (m .table) i .source) → e .call ≡ pos 30 → e .a ≡ pos (i + 1) → code ≡ 0 → k ≡ channel (m .table) i .destination → object (was .wait) ≡ object (Destination (i + 1)) → Service
+    taken : (i : ℕ) → i < m .table .channelCount → e .partition ≡ pos (channel (m .table) i .destination) → e .call ≡ pos 31 → e .a ≡ pos (i + 1) → code ≡ 0 → k ≡ channel (m .table) i .source → object (was .wait) ≡ object (Source (i + 1) 0) → Service
+    restart : (i mode : ℕ) → i < m .table .channelCount → e .partition ≡ pos (channel (m .table) i .destination) → e .call ≡ pos 1 → e .a ≡ pos mode → mode ≤ 2 → code ≡ 0 → k ≡ channel (m .table) i .source → object (was .wait) ≡ object (Source (i + 1) 0) → Service
 
   -- none of these, and no call by it that waits
   pub record Untold : Type 0 where

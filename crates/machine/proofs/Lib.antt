@@ -55,4 +55,6 @@ pub mod Acts
 pub mod Turns
 pub mod EachProcess
 pub mod ProcessStates
+pub mod Priorities
+pub mod Periods
 pub mod TableLines

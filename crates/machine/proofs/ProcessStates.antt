@@ -40,7 +40,7 @@ use Rattle.machine.proofs.Plain.{stored-plain}
 use Rattle.machine.proofs.Queues.{followed-same, stored-queue, same-queue}
 use Rattle.machine.proofs.Starred.{for-none}
 use Rattle.machine.proofs.EachProcess.{ticked-part, tick-process, each-process}
-use Rattle.machine.proofs.Turns.{not-created}
+use Rattle.machine.proofs.Turns.{same-started, same-wait, same-mark, same-missed, not-created}
 use Rattle.machine.proofs.Refusals.{places}
 use Rattle.machine.proofs.Dispatch.{ticks-decided}
 use Rattle.machine.proofs.Reached.{valid-sound, reached-valid}
@@ -141,19 +141,6 @@ module _ (m : Module) (h : Reached m) (k id : ℕ) where
   }
 
 -- ---------------------------------------------------------------- which changes there are
-module _ {x y : Process} (e : x ≡ y) where
-  st : x .started ≡ y .started
-  st = ap (λ (z : Process). z .started) e
-
-  wt : x .wait ≡ y .wait
-  wt = ap (λ (z : Process). z .wait) e
-
-  mk : x .suspended ≡ y .suspended
-  mk = ap (λ (z : Process). z .suspended) e
-
-  ms : x .missed ≡ y .missed
-  ms = ap (λ (z : Process). z .missed) e
-
 module _ (m : Module) (e : EventT) (code k id : ℕ) (asleep : process id (own m k) .started ≡ false → (process id (own m k) .wait ≡ None) × (process id (own m k) .suspended ≡ false)) where
   abbrev before : Process
   before = process id (own m k)
@@ -201,60 +188,60 @@ module _ (m : Module) (e : EventT) (code k id : ℕ) (asleep : process id (own m
     missing-none z f t = not-both _ t z
 
   changes-by : (y : Process) → Becomes m e code k id y → StateChanges m e code k id before y
-  changes-by y (Becomes.same u is) = altogether y (starting y (st is)) (waiting y (wt is)) (marking y (mk is)) (missing y (ms is))
+  changes-by y (Becomes.same u is) = altogether y (starting y (same-started is)) (waiting y (same-wait is)) (marking y (same-mark is)) (missing y (same-missed is))
   changes-by y (Becomes.ticked t is) =
       let over = come (m .t + 1) (before .times .wake) in
       let late = come (m .t + 1) (before .times .deadline) in
       let unmarked = over && (waitsForNothing (before .wait) && before .suspended) in
-      altogether y (starting y (st is)) (
-        λ a b. absurd (b (wt is ∙ either over (λ o. rw o) (λ o. rw o a))),
-        λ a b. inl (t, so over (λ o. a (sym (wt is ∙ rw o) ∙ b))),
-        λ a b c. either over (λ o. absurd (b (wt is ∙ rw o))) (λ o. absurd (c (wt is ∙ rw o))),
+      altogether y (starting y (same-started is)) (
+        λ a b. absurd (b (same-wait is ∙ either over (λ o. rw o) (λ o. rw o a))),
+        λ a b. inl (t, so over (λ o. a (sym (same-wait is ∙ rw o) ∙ b))),
+        λ a b c. either over (λ o. absurd (b (same-wait is ∙ rw o))) (λ o. absurd (c (same-wait is ∙ rw o))),
       ) (
-        λ f on. not-both _ on (mk is ∙ either unmarked (λ o. rw o) (λ o. rw o f)),
-        λ on off. let u = so unmarked (λ o. not-both _ on (sym (mk is ∙ rw o) ∙ off)) in inr (inl (t, and-left over _ u, for-none (before .wait) (and-left (waitsForNothing (before .wait)) _ (and-right over _ u)))),
-      ) (λ f on. (t, so late (λ o. not-both _ on (ms is ∙ rw o f))))
-  changes-by y (Becomes.created c none is) = altogether y (starting y (st is ∙ sym (st none))) (waiting y (wt is ∙ sym (wt none))) (marking y (mk is ∙ sym (mk none))) (missing-none y (ms is))
+        λ f on. not-both _ on (same-mark is ∙ either unmarked (λ o. rw o) (λ o. rw o f)),
+        λ on off. let u = so unmarked (λ o. not-both _ on (sym (same-mark is ∙ rw o) ∙ off)) in inr (inl (t, and-left over _ u, for-none (before .wait) (and-left (waitsForNothing (before .wait)) _ (and-right over _ u)))),
+      ) (λ f on. (t, so late (λ o. not-both _ on (same-missed is ∙ rw o f))))
+  changes-by y (Becomes.created c none is) = altogether y (starting y (same-started is ∙ sym (same-started none))) (waiting y (same-wait is ∙ sym (same-wait none))) (marking y (same-mark is ∙ sym (same-mark none))) (missing-none y (same-missed is))
   changes-by y (Becomes.started c off is in-normal early) = altogether y
       (λ on _. not-both _ on off, λ _ _. c)
       (λ _ _. inl c, λ some _. absurd (some (asleep off .0)), λ some _ _. absurd (some (asleep off .0)))
-      (λ _ on. not-both _ on (mk is), λ on _. not-both _ on (asleep off .1))
-      (missing-none y (ms is))
+      (λ _ on. not-both _ on (same-mark is), λ on _. not-both _ on (asleep off .1))
+      (missing-none y (same-missed is))
   changes-by y (Becomes.stopped c is) = altogether y
-      (λ _ _. inl c, λ _ on. not-both _ on (st is))
-      (λ _ b. absurd (b (wt is)), λ _ _. inr (inl c), λ _ b _. absurd (b (wt is)))
-      (λ _ on. not-both _ on (mk is), λ _ _. inr (inr (inl c)))
-      (missing y (ms is))
-  changes-by y (Becomes.suspended c on off is) = altogether y (starting y (st is)) (waiting y (wt is)) (λ _ _. inl c, λ t _. not-both _ t off) (missing y (ms is))
-  changes-by y (Becomes.suspendedSelf c none is) = altogether y (starting y (st is)) (waiting y (wt is ∙ sym none)) (λ _ _. inr c, λ _ f. not-both _ (mk is) f) (missing y (ms is))
-  changes-by y (Becomes.waiting n message c ten none some is) = altogether y (starting y (st is))
-      (λ _ _. inr (record { number = n; message = message; call = c; is = wt is }), λ a _. absurd (a none), λ a _ _. absurd (a none))
-      (marking y (mk is)) (missing y (ms is))
-  changes-by y (Becomes.released c none is) = altogether y (starting y (st is))
-      (λ _ _. inr (record { number = 10; message = 0; call = c; is = wt is }), λ a _. absurd (a none), λ a _ _. absurd (a none))
-      (marking y (mk is)) (missing y (ms is))
-  changes-by y (Becomes.resumed c on marked is) = altogether y (starting y (st is)) (waiting y (wt is)) (λ _ t. not-both _ t (mk is), λ _ _. inl c) (missing y (ms is))
-  changes-by y (Becomes.ranked c on is) = altogether y (starting y (st is)) (waiting y (wt is)) (marking y (mk is)) (missing y (ms is))
-  changes-by y (Becomes.served c is) = altogether y (starting y (st is))
-      (λ _ b. absurd (b (wt is)), λ _ _. inr (inr (inr (inl c))), λ _ b _. absurd (b (wt is)))
-      (marking y (mk is)) (missing y (ms is))
+      (λ _ _. inl c, λ _ on. not-both _ on (same-started is))
+      (λ _ b. absurd (b (same-wait is)), λ _ _. inr (inl c), λ _ b _. absurd (b (same-wait is)))
+      (λ _ on. not-both _ on (same-mark is), λ _ _. inr (inr (inl c)))
+      (missing y (same-missed is))
+  changes-by y (Becomes.suspended c on off is) = altogether y (starting y (same-started is)) (waiting y (same-wait is)) (λ _ _. inl c, λ t _. not-both _ t off) (missing y (same-missed is))
+  changes-by y (Becomes.suspendedSelf c none is) = altogether y (starting y (same-started is)) (waiting y (same-wait is ∙ sym none)) (λ _ _. inr c, λ _ f. not-both _ (same-mark is) f) (missing y (same-missed is))
+  changes-by y (Becomes.waiting n message c ten none some is) = altogether y (starting y (same-started is))
+      (λ _ _. inr (record { number = n; message = message; call = c; is = same-wait is }), λ a _. absurd (a none), λ a _ _. absurd (a none))
+      (marking y (same-mark is)) (missing y (same-missed is))
+  changes-by y (Becomes.released c none is) = altogether y (starting y (same-started is))
+      (λ _ _. inr (record { number = 10; message = 0; call = c; is = same-wait is }), λ a _. absurd (a none), λ a _ _. absurd (a none))
+      (marking y (same-mark is)) (missing y (same-missed is))
+  changes-by y (Becomes.resumed c on marked is) = altogether y (starting y (same-started is)) (waiting y (same-wait is)) (λ _ t. not-both _ t (same-mark is), λ _ _. inl c) (missing y (same-missed is))
+  changes-by y (Becomes.ranked c on is) = altogether y (starting y (same-started is)) (waiting y (same-wait is)) (marking y (same-mark is)) (missing y (same-missed is))
+  changes-by y (Becomes.served c is) = altogether y (starting y (same-started is))
+      (λ _ b. absurd (b (same-wait is)), λ _ _. inr (inr (inr (inl c))), λ _ b _. absurd (b (same-wait is)))
+      (marking y (same-mark is)) (missing y (same-missed is))
   changes-by y (Becomes.entered c is wait) =
       let waits : before .wait ≡ None → ⊥ = λ z. not-both _ (ap waitsForNothing z) (ap waitsForNothing (c .waits)) in
       altogether y
-      (λ _ f. not-both _ (st is) f, λ off _. absurd (waits (asleep off .0)))
+      (λ _ f. not-both _ (same-started is) f, λ off _. absurd (waits (asleep off .0)))
       (λ a _. absurd (waits a), λ _ _. inr (inr (inr (inr c))), λ _ b _. (c, either (periodicAt (before .given .period)) (λ p. inr (rw p at wait)) (λ p. ⊎-elim (λ (z : y .wait ≡ None). absurd (b z)) (λ (z : y .wait ≡ Delay). inl z) (rw p at wait))))
-      (marking y (mk is)) (missing-none y (ms is))
+      (marking y (same-mark is)) (missing-none y (same-missed is))
   changes-by y (Becomes.erased c is) = altogether y
-      (λ _ _. inr c, λ _ on. not-both _ on (st is))
-      (λ _ b. absurd (b (wt is)), λ _ _. inr (inr (inl c)), λ _ b _. absurd (b (wt is)))
-      (λ _ on. not-both _ on (mk is), λ _ _. inr (inr (inr c)))
-      (missing-none y (ms is))
+      (λ _ _. inr c, λ _ on. not-both _ on (same-started is))
+      (λ _ b. absurd (b (same-wait is)), λ _ _. inr (inr (inl c)), λ _ b _. absurd (b (same-wait is)))
+      (λ _ on. not-both _ on (same-mark is), λ _ _. inr (inr (inr c)))
+      (missing-none y (same-missed is))
 
 -- one that is DORMANT has neither a wait nor the mark
 asleep-in : (frame t : ℕ) (p : Partition) → Valid frame t p → (id : ℕ) → process id p .started ≡ false → (process id p .wait ≡ None) × (process id p .suspended ≡ false)
 asleep-in frame t p v id off = either (contains id (idsFrom (p .processCount) 1))
     (λ c. let b = from-range (p .processCount) 1 id c in let d = v .eachProcess id (b .0, omega arith) .dormant off in (d .wait, d .unmarked))
-    (λ c. let z = not-created p (v .lists) id c in (wt z, mk z))
+    (λ c. let z = not-created p (v .lists) id c in (same-wait z, same-mark z))
 
 -- ---------------------------------------------------------------- a tick
 -- an event of no partition that is not refused is a tick

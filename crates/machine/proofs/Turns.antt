@@ -45,6 +45,29 @@ use Rattle.machine.proofs.Queues.{same-queue}
 use Rattle.machine.proofs.Starred.{for-none, for-normal}
 use Rattle.machine.proofs.Acts.{Puts, Begins, Moves, Makes, touches, told}
 
+-- ---------------------------------------------------------------- equal records
+module _ {x y : Process} (e : x ≡ y) where
+  pub same-started : x .started ≡ y .started
+  same-started = ap (λ (z : Process). z .started) e
+
+  pub same-wait : x .wait ≡ y .wait
+  same-wait = ap (λ (z : Process). z .wait) e
+
+  pub same-mark : x .suspended ≡ y .suspended
+  same-mark = ap (λ (z : Process). z .suspended) e
+
+  pub same-missed : x .missed ≡ y .missed
+  same-missed = ap (λ (z : Process). z .missed) e
+
+  pub same-given : x .given ≡ y .given
+  same-given = ap (λ (z : Process). z .given) e
+
+  pub same-current : x .current ≡ y .current
+  same-current = ap (λ (z : Process). z .current) e
+
+  pub same-release : x .times .release ≡ y .times .release
+  same-release = ap (λ (z : Process). z .times .release) e
+
 -- ---------------------------------------------------------------- partitions that differ in no process
 -- no process and no queue differs
 pub record Alike (p q : Partition) : Type 0 where

@@ -34,4 +34,6 @@ pub mod Account
 pub mod EachCall
 pub mod EachProcess
 pub mod ProcessStates
+pub mod Priorities
+pub mod Periods
 pub mod TableLines

@@ -58,6 +58,16 @@ module _ (c : Context) (x : Port) (n : ℕ) (r : Request) (p : Partition) (P : D
       let some = eqb-false n 0 z in
       by-place (λ j (s : Service). n ≡ j → P (s .decides c x r p)) services noService 1 each (n - 1) n (omega arith) (λ h _. other (λ lo hi. let e = all in omega arith)) refl
 
+-- the same of a law that names the call's number
+each-along : {A : Type 0} (P Q : ℕ → A → Type 0) → ((j : ℕ) (a : A) → P j a → Q j a) → (l : List A) (k : ℕ) → Each P k l → Each Q k l
+unfolding Each
+each-along P Q f [] k h = tt
+each-along P Q f (a ∷ l) k h = (f k a (h .0), each-along P Q f l (suc k) (h .1))
+
+module _ (c : Context) (x : Port) (r : Request) (p : Partition) (P : ℕ → Decision → Type 0) where
+  pub by-each : Each (λ j (s : Service). P j (s .decides c x r p)) 1 services → (n : ℕ) → 1 ≤ n → n ≤ callLimit → P n (callDecision c x n r p)
+  by-each f n lo hi = by-number c x n r p (P n) (each-along (λ j (s : Service). P j (s .decides c x r p)) (λ j (s : Service). n ≡ j → P n (s .decides c x r p)) (λ j s h e. rw e h) services 1 f) (λ out. absurd (out lo hi))
+
 -- what is shown of each call, whatever fields it is given but for 1, 24, 25, 30 and 31; 3 and 4 are one
 module _ (c : Context) (x : Port) (n : ℕ) (r : Request) (p : Partition) (P : Decision → Type 0)
     (f1 : n ≡ 1 → P (setMode c (r .a) p))

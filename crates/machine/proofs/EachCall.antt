@@ -24,13 +24,13 @@ use Rattle.machine.specs.declared.EventState.{EventState}
 use Rattle.machine.specs.declared.Blackboard.{Blackboard as BlackboardT}
 use Rattle.machine.specs.declared.Buffer.{Buffer}
 use Rattle.machine.specs.declared.Wait.{Wait}
-use Rattle.machine.specs.declared.Wait.the-variants.{None, Normal, Delay, Timed, Period, Semaphore, Event, Sending, Receiving, Blackboard, Source, Destination}
+use Rattle.machine.specs.declared.Wait.the-variants.{Timed, Semaphore, Event, Sending, Receiving, Blackboard, Source, Destination}
 use Rattle.machine.specs.declared.Time.{Time}
 use Rattle.machine.specs.declared.Time.the-variants.{Never, At}
 use Rattle.machine.specs.declared.Field.the-variants.{Number}
 use Rattle.machine.specs.Limits.{callLimit, durationLimit, timeLimit, greatestTime, greatestValue, processLimit, semaphoreLimit, eventLimit, bufferLimit, blackboardLimit, channelLimit, nameLimit, messageLimit, valueLimit, priorityLimit, levelLimit, modeLimit}
 use Rattle.machine.specs.Fields.{field, requestOf, isNumber, isTimeout, timeOf, numberOf}
-use Rattle.machine.specs.Process.{later, isNever, carried, nextRelease, entered, startRule, startedEarly, ready, periodic, waitsForNormal, createdProcess, blankProcess, object, served, handed, resumed, suspendedUntil, waitingFor, onObject, waitsForNothing, withCurrent, withSuspended}
+use Rattle.machine.specs.Process.{later, isNever, carried, nextRelease, entered, startRule, startedEarly, ready, periodic, waitsForNormal, createdProcess, blankProcess, object, served, handed, resumed, suspendedUntil, waitingFor, onObject, withCurrent, withSuspended}
 use Rattle.machine.specs.Partition.{normalMode, enteredNormal, withMode, byId, noSemaphore, noEvent, noBuffer, noBlackboard, process, semaphore, event, buffer, blackboard, firstWaiter, stored, storedSemaphore, storedEvent, storedBuffer, movedIn, storedBlackboard, waiters, applied, running, withLock, eachFrom, nothingCreated, withModeAndLock}
 use Rattle.machine.specs.Objects as Ob
 use Rattle.machine.specs.Blackboards as Bb
@@ -48,6 +48,7 @@ use Rattle.machine.specs.Valid.{Between, Numbered, Valid, SoundModule, S
 use Rattle.machine.specs.Plain.{plainBetween, plainNumber, plainMinusOne, plainUnknown, plainStored, plainMoved, letGo, plainEach, plainRefilledTo, waitOver, plainTicked}
 use Rattle.machine.specs.Starred.{own, callBy, Calling, Gives, Puts, atEnd, withSemaphoreAt, given, withProcess, awaitsNext, awaitsRelease}
 use Rattle.machine.specs.EachCall.{idOf, timeIn, inD, inT, periodicAt, tooLong, named, used, stray, malformedAt, EachEvent, Checks, nowDormant, with, startedAt, withPriority, withEventAt, withBufferAt, withBoardAt, aboveIn, processAdmitted, Starts, Waiting, Stop, StopSelf, Suspend, Resume, GetStatus, SuspendSelf, TimedWait, ResetEvent, SetEvent, Clear, Signal, Show, WaitSemaphore, WaitEvent, ReceiveBuffer, ReadBlackboard, SendBuffer, Write, Read, Send, Receive, Start, DelayedStart, SetPriority, PeriodicWait, CreateEvent, CreateBlackboard, CreateBuffer, CreateSemaphore, CreateProcess, SetMode, EachCall, GetTicksLeft, LockPreemption, UnlockPreemption, entering, restartedAs, withoutInto}
+use Rattle.machine.proofs.Reasons.{waits}
 use Rattle.machine.proofs.Tests.{by-test, Passed, and-left, and-right, or-left, or-right, not-both, passed-parts}
 use Rattle.machine.proofs.Either.{either}
 use Rattle.machine.proofs.Calling.{field-number, empty-current, calling-sound, calling-valid, asked, decides, gives, puts-is, stored-steady, known, normal-is, normal-not, calling-context, calling-low, calling-place, stored-leaves}
@@ -149,36 +150,6 @@ above-is (pos n) (pos l) a b =
 above-is (pos n) (negsuc l) a b = rw (field-number n (let r = in-range 1 9999999 n a in omega (arith, r .1))) (ap (λ y. not (eqb l 0) && (true && ltb n y)) (none-of l))
 above-is (negsuc n) (pos l) a b = rw (field-number l (let s = in-range 1 9999999 l b in omega (arith, s .1))) (ap (λ y. true && (not (eqb n 0) && ltb y l)) (none-of n))
 above-is (negsuc n) (negsuc l) a b = rw (none-of n, none-of l)
-
--- who waits for something
-pub waits : (w : Wait) → (w ≡ None → ⊥) → waitsForNothing w ≡ false
-waits None h = absurd (h refl)
-waits Normal h = refl
-waits Delay h = refl
-waits Timed h = refl
-waits Period h = refl
-waits (Semaphore j) h = refl
-waits (Event j) h = refl
-waits (Sending j m) h = refl
-waits (Receiving j) h = refl
-waits (Blackboard j) h = refl
-waits (Source j m) h = refl
-waits (Destination j) h = refl
-
--- who waits for NORMAL
-not-normal : (w : Wait) → (w ≡ Normal → ⊥) → waitsForNormal w ≡ false
-not-normal None h = refl
-not-normal Normal h = absurd (h refl)
-not-normal Delay h = refl
-not-normal Timed h = refl
-not-normal Period h = refl
-not-normal (Semaphore j) h = refl
-not-normal (Event j) h = refl
-not-normal (Sending j x) h = refl
-not-normal (Receiving j) h = refl
-not-normal (Blackboard j) h = refl
-not-normal (Source j x) h = refl
-not-normal (Destination j) h = refl
 
 at-most : (n : ℕ) → n ≤ 255 → n ≤ greatestTime
 at-most n h = omega arith

@@ -33,6 +33,7 @@ use Rattle.machine.proofs.Starts.{release-earliest}
 use Rattle.machine.specs.Windows.{releasePoint}
 use Rattle.machine.specs.Step.{step}
 use Rattle.machine.proofs.Queues.{all-arrive}
+use Rattle.machine.proofs.Reasons.{not-normal}
 use Rattle.machine.proofs.Terms.{terms}
 
 module _ (m : Module) (k : ℕ) (u : SoundModule m) (h : Calling m k) (early : own m k .mode ≡ 3 → ⊥) (some : own m k .processCount ≡ 0 → ⊥) where
@@ -88,7 +89,7 @@ module _ (m : Module) (k : ℕ) (u : SoundModule m) (h : Calling m k) (early : o
     mode = ap (λ (x : Partition). x .mode) after-is ∙ ap (λ (x : Partition). x .mode) (each-rest f q (v .lists));
     aperiodic = λ id b w never. process-is id b ∙ rw (w, never);
     readyAt = λ id b w never. ap ready (process-is id b) ∙ started-ready (process id p) w never;
-    others = λ id b w. process-is id b ∙ rw (not-so _ (λ t. w (terms .normal (process id p .wait) t)));
+    others = λ id b w. process-is id b ∙ rw (not-normal (process id p .wait) w);
     arrival = ap (λ (x : Partition). members (x .arrival)) after-is ∙ arrived ∙ kept-same _ _ (idsFrom (p .processCount) 1) (λ y c. let b = from-range (p .processCount) 1 y c in sym (ap ready (process-is y (b .0, omega arith))));
   }
 

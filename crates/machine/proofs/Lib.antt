@@ -6,6 +6,7 @@ pub mod Isolation
 pub mod Tables
 pub mod Dispatch
 pub mod Bodies
+pub mod Reasons
 pub mod Refusals
 pub mod Worked
 pub mod Corners
@@ -52,6 +53,12 @@ pub mod Locks
 pub mod TicksLeft
 pub mod EachCall
 pub mod Entering
+pub mod Acts
+pub mod Turns
+pub mod EachProcess
+pub mod ProcessStates
+pub mod Priorities
+pub mod Periods
 pub mod TableLines
 pub mod Terms
 pub mod PerPartition

@@ -86,7 +86,7 @@ pub noted-objects : (p q : Partition) → SameObjects p q → SameObjects p (not
 noted-objects p q s = record { semaphores = s .semaphores; events = s .events; buffers = s .buffers; blackboards = s .blackboards }
 
 -- ---------------------------------------------------------------- a process stored
-followed-same : (b : Bool) (id : ℕ) (l : List ℕ) → followed b b id l ≡ l
+pub followed-same : (b : Bool) (id : ℕ) (l : List ℕ) → followed b b id l ≡ l
 followed-same true id l = refl
 followed-same false id l = refl
 

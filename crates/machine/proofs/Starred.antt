@@ -57,7 +57,8 @@ use Rattle.machine.proofs.Reached.{reached-valid, valid-sound, plain-pa
 use Rattle.machine.proofs.Queues.{signal-first, set-event}
 use Rattle.machine.proofs.Calling.{field-number, from-zero, number-is, number-of, calling-sound, calling-place, calling-valid, gives}
 use Rattle.machine.proofs.Worked.{worked}
-use Rattle.machine.proofs.EachCall.{waits, kept-at}
+use Rattle.machine.proofs.EachCall.{kept-at}
+use Rattle.machine.proofs.Reasons.{waits}
 use Rattle.machine.proofs.Corners.{releases-at, corners}
 
 -- ---------------------------------------------------------------- a neighbour's running process

@@ -4,14 +4,15 @@ use mathlib.Core.Path.{_≡_, refl, sym, ap, _∙_}
 use mathlib.Core.Bool.{true, cond, not}
 use native.Mathlib.Omega.{arith}
 use lib.Dec.{eqb}
-use Rattle.machine.specs.Process.{Class, carried, carriedIn, classOf, object, objectIn, waitsForNormal, waitsForNothing}
+use Rattle.machine.specs.Process.{Class, carried, carriedIn, classOf, object, objectIn}
 use Rattle.machine.specs.Valid.{KnownWait, SoundModule, Valid, contains}
 use Rattle.machine.specs.declared.Module.{Module}
 use Rattle.machine.specs.declared.Partition.{Partition}
 use Rattle.machine.specs.Terms.{Terms, WhoWaits}
 use Rattle.machine.specs.declared.Wait.{Wait}
 use Rattle.machine.specs.declared.Wait.the-variants.{None, Normal, Delay, Timed, Period, Semaphore, Event, Sending, Receiving, Blackboard, Source, Destination}
-use Rattle.machine.proofs.Tests.{and-left, and-right, not-both}
+use Rattle.machine.proofs.Reasons.{for-none, for-normal}
+use Rattle.machine.proofs.Tests.{and-left, and-right}
 use Rattle.machine.proofs.Available.{counts-low, wait-known}
 use borrow.Author.Tests.{eq-eqb, eqb-true, not-true}
 use Rattle.machine.specs.Partition.{process, waiters}
@@ -20,34 +21,6 @@ use Rattle.machine.proofs.Reached.{reached-valid, valid-sound}
 use Rattle.machine.proofs.Kept.{waiters-created, waiters-exact}
 
 -- ---------------------------------------------------------------- waits
-nothing-is : (w : Wait) → waitsForNothing w ≡ true → w ≡ None
-nothing-is None h = refl
-nothing-is Normal h = not-both _ h refl
-nothing-is Delay h = not-both _ h refl
-nothing-is Timed h = not-both _ h refl
-nothing-is Period h = not-both _ h refl
-nothing-is (Semaphore j) h = not-both _ h refl
-nothing-is (Event j) h = not-both _ h refl
-nothing-is (Sending j n) h = not-both _ h refl
-nothing-is (Receiving j) h = not-both _ h refl
-nothing-is (Blackboard j) h = not-both _ h refl
-nothing-is (Source j n) h = not-both _ h refl
-nothing-is (Destination j) h = not-both _ h refl
-
-normal-is : (w : Wait) → waitsForNormal w ≡ true → w ≡ Normal
-normal-is None h = not-both _ h refl
-normal-is Normal h = refl
-normal-is Delay h = not-both _ h refl
-normal-is Timed h = not-both _ h refl
-normal-is Period h = not-both _ h refl
-normal-is (Semaphore j) h = not-both _ h refl
-normal-is (Event j) h = not-both _ h refl
-normal-is (Sending j n) h = not-both _ h refl
-normal-is (Receiving j) h = not-both _ h refl
-normal-is (Blackboard j) h = not-both _ h refl
-normal-is (Source j n) h = not-both _ h refl
-normal-is (Destination j) h = not-both _ h refl
-
 -- the wait on queue j of a kind, with this message
 abbrev onQueue : ℕ → ℕ → ℕ → Wait
 onQueue kind j n = cond (eqb kind 1) (Semaphore j) (cond (eqb kind 2) (Event j) (cond (eqb kind 3) (Sending j n) (cond (eqb kind 4) (Receiving j) (cond (eqb kind 5) (Blackboard j) (cond (eqb kind 6) (Source j n) (Destination j))))))
@@ -130,9 +103,9 @@ carries-none (Destination j) e = refl
 -- Law. What the words mean.
 pub terms : Terms
 terms = record {
-  readyIs = λ x h. let r = and-right (x .started) _ h in (and-left (x .started) _ h, not-true _ (and-left (not (x .suspended)) _ r), nothing-is (x .wait) (and-right (not (x .suspended)) _ r));
+  readyIs = λ x h. let r = and-right (x .started) _ h in (and-left (x .started) _ h, not-true _ (and-left (not (x .suspended)) _ r), for-none (x .wait) (and-right (not (x .suspended)) _ r));
   readyIf = λ x on unmarked none. rw (on, unmarked, none);
-  normal = normal-is;
+  normal = for-normal;
   normalIf = refl;
   queues = λ m h i l id j. who-waits m (valid-sound m (reached-valid m h) i l) i l id j;
   carries = record { sending = λ x j n e. rw e; source = λ x j n e. rw e; none = λ x. carries-none (x .wait) };

@@ -33,6 +33,10 @@ pub mod Waits
 pub mod Account
 pub mod EachCall
 pub mod Entering
+pub mod EachProcess
+pub mod ProcessStates
+pub mod Priorities
+pub mod Periods
 pub mod TableLines
 pub mod Terms
 pub mod Modes

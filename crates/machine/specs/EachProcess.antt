@@ -1,0 +1,144 @@
+-- What every event makes of every process: one of listed cases, each with its call, its caller and the record after it, as a claim about `step`. The premises
+-- speak of an event's numbers, the answer's code, the table and the record. (The whole record after each accepted call: `EachCall`.)
+use Prim.Native.Nat.{ℕ, _+_, _≤_, _<_}
+use mathlib.Core.Path.{_≡_}
+use mathlib.Core.Bool.{Bool, true, false, cond}
+use mathlib.Core.Logic.{_⊎_}
+use lib.Dec.{eqb}
+use lib.IntN.{pos}
+use Rattle.machine.specs.declared.Times.{Times}
+use Rattle.machine.specs.declared.Process.{Process}
+use Rattle.machine.specs.declared.Event.{Event as EventT}
+use Rattle.machine.specs.declared.Module.{Module}
+use Rattle.machine.specs.declared.Wait.{Wait}
+use Rattle.machine.specs.declared.Wait.the-variants.{None, Normal, Delay, Timed, Period, Semaphore, Event, Sending, Receiving, Blackboard, Source, Destination}
+use Rattle.machine.specs.Process.{blankProcess, object}
+use Rattle.machine.specs.Partition.{process, running}
+use Rattle.machine.specs.Module.{channel}
+use Rattle.machine.specs.Step.{step}
+use Rattle.machine.specs.Valid.{Between, Reached, plainLater}
+use Rattle.machine.specs.Plain.{atTick, waitOver}
+use Rattle.machine.specs.Starred.{own, newProcess}
+use Rattle.machine.specs.EachCall.{idOf, periodicAt, nowDormant, with, withPriority}
+
+-- ---------------------------------------------------------------- which calls begin and end waits
+-- the wait that call n begins, by its fields a and b
+abbrev pub waitOf : ℕ → ℕ → ℕ → Wait
+waitOf n a b =
+    cond (eqb n 9) Timed
+    (cond (eqb n 10) Period
+    (cond (eqb n 15) (Semaphore a)
+    (cond (eqb n 20) (Event a)
+    (cond (eqb n 24) (Sending a b)
+    (cond (eqb n 25) (Receiving a)
+    (cond (eqb n 28) (Blackboard a)
+    (cond (eqb n 30) (Source a b)
+    (cond (eqb n 31) (Destination a) None))))))))
+
+-- the wait of its own partition's processes that call n serves, by its field a (who waits with a message: whatever the message)
+abbrev pub servedBy : ℕ → ℕ → Wait
+servedBy n a =
+    cond (eqb n 16) (Semaphore a)
+    (cond (eqb n 18) (Event a)
+    (cond (eqb n 24) (Receiving a)
+    (cond (eqb n 25) (Sending a 0)
+    (cond (eqb n 27) (Blackboard a) None))))
+
+-- ---------------------------------------------------------------- an event and a process
+-- started, with these times, this current priority, this mark and this wait; marks but this one and wake code cleared
+abbrev pub begunWith : Times → ℕ → Bool → Wait → Process → Process
+begunWith s n mark w x = record { given = x .given; times = s; current = n; suspended = mark; missed = false; code = 0; message = x .message; started = true; wait = w }
+
+-- it waits for its next release: r rises by the period, w = r, d = r + capacity, or −1
+abbrev pub releasedNext : Process → Process
+releasedNext x =
+    let r = plainLater (x .times .release) (x .given .period) in
+    record { given = x .given; times = record { release = r; deadline = plainLater r (x .given .capacity); wake = r; delay = x .times .delay }; current = x .current; suspended = x .suspended; missed = x .missed; code = x .code; message = x .message; started = x .started; wait = Period }
+
+-- the wait that the start rule gives: a periodic process waits for its release, another for nothing or for its delay
+abbrev pub StartWait : Process → Wait → Type 0
+StartWait x w = cond (periodicAt (x .given .period)) (w ≡ Period) ((w ≡ None) ⊎ (w ≡ Delay))
+
+-- an event that answers code, and process id of partition k
+module _ (m : Module) (e : EventT) (code k id : ℕ) where
+  -- its record before
+  abbrev pub was : Process
+  was = process id (own m k)
+
+  -- call n of partition k answered c; that of process id, answered 0; that by process id
+  abbrev pub Call : ℕ → ℕ → Type 0
+  Call n c = (e .partition ≡ pos k) × (e .call ≡ pos n) × (code ≡ c)
+
+  abbrev pub CallOf : ℕ → Type 0
+  CallOf n = Call n 0 × (e .a ≡ pos id)
+
+  abbrev pub CallBy : ℕ → ℕ → Type 0
+  CallBy n c = Call n c × (own m k .mode ≡ 3) × (id ≡ running (own m k))
+
+  -- a tick, and the partition is NORMAL
+  abbrev pub Tick : Type 0
+  Tick = (e .partition ≡ pos 0) × (code ≡ 0) × (own m k .mode ≡ 3)
+
+  -- 3 START or 4 DELAYED_START of it
+  abbrev pub Start : Type 0
+  Start = CallOf 3 ⊎ CallOf 4
+
+  -- 5 STOP of it, or its 6 STOP_SELF
+  abbrev pub Stop : Type 0
+  Stop = CallOf 5 ⊎ CallBy 6 0
+
+  -- an accepted mode 0, 1 or 2 of its partition
+  pub record Erasure : Type 0 where
+    pub call : Call 1 0
+    pub mode : ℕ
+    pub is : e .a ≡ pos mode
+    pub low : mode ≤ 2
+
+  -- its partition enters NORMAL, for which it waits
+  pub record Entry : Type 0 where
+    pub call : Call 1 0
+    pub is : e .a ≡ pos 3
+    pub waits : was .wait ≡ Normal
+
+  -- its wait, on an object, is served: by a call of its partition; by SEND or RECEIVE of the partition at the other end of a channel; by a restart of the
+  -- destination of a channel at whose source it waits
+  pub data Service : Type 0 where
+    here : (n : ℕ) → Call n 0 → object (was .wait) ≡ object (servedBy n (idOf (e .a))) → (object (was .wait) ≡ 0 → ⊥) → Service
+    sent : (i : ℕ) → i < m .table .channelCount → e .partition ≡ pos (channel (m .table) i .source) → e .call ≡ pos 30 → e .a ≡ pos (i + 1) → code ≡ 0 → k ≡ channel (m .table) i .destination → object (was .wait) ≡ object (Destination (i + 1)) → Service
+    taken : (i : ℕ) → i < m .table .channelCount → e .partition ≡ pos (channel (m .table) i .destination) → e .call ≡ pos 31 → e .a ≡ pos (i + 1) → code ≡ 0 → k ≡ channel (m .table) i .source → object (was .wait) ≡ object (Source (i + 1) 0) → Service
+    restart : (i mode : ℕ) → i < m .table .channelCount → e .partition ≡ pos (channel (m .table) i .destination) → e .call ≡ pos 1 → e .a ≡ pos mode → mode ≤ 2 → code ≡ 0 → k ≡ channel (m .table) i .source → object (was .wait) ≡ object (Source (i + 1) 0) → Service
+
+  -- none of these, and no call by it that waits
+  pub record Untold : Type 0 where
+    pub tick : Tick → ⊥
+    pub start : Start → ⊥
+    pub stop : Stop → ⊥
+    pub suspend : CallOf 7 → ⊥
+    pub resume : CallOf 11 → ⊥
+    pub rank : CallOf 12 → ⊥
+    pub wait : (n : ℕ) → CallBy n 7 → ⊥
+    pub enter : Entry → ⊥
+    pub erase : Erasure → ⊥
+
+  -- its record after the event is y
+  pub data Becomes (y : Process) : Type 0 where
+    same : Untold → y ≡ was → Becomes y
+    ticked : Tick → y ≡ atTick (m .t + 1) was → Becomes y
+    created : Call 2 0 → was ≡ blankProcess → y ≡ newProcess (y .given) → Becomes y
+    started : Start → was .started ≡ false → y ≡ begunWith (y .times) (was .given .base) false (y .wait) was
+        → (own m k .mode ≡ 3 → StartWait was (y .wait)) → ((own m k .mode ≡ 3 → ⊥) → y .wait ≡ Normal) → Becomes y
+    stopped : Stop → y ≡ nowDormant was → Becomes y
+    suspended : CallOf 7 → was .started ≡ true → was .suspended ≡ false → y ≡ with true (was .times .wake) (was .code) (was .wait) was → Becomes y
+    suspendedSelf : CallBy 8 7 → was .wait ≡ None → y ≡ with true (y .times .wake) (was .code) None was → Becomes y
+    waiting : (n message : ℕ) → CallBy n 7 → (n ≡ 10 → ⊥) → was .wait ≡ None → (waitOf n (idOf (e .a)) message ≡ None → ⊥) → y ≡ with (was .suspended) (y .times .wake) (was .code) (waitOf n (idOf (e .a)) message) was → Becomes y
+    released : CallBy 10 7 → was .wait ≡ None → y ≡ releasedNext was → Becomes y
+    resumed : CallOf 11 → was .started ≡ true → was .suspended ≡ true → y ≡ with false (y .times .wake) (y .code) (was .wait) was → Becomes y
+    ranked : CallOf 12 → was .started ≡ true → y ≡ withPriority (idOf (e .b)) was → Becomes y
+    served : Service → y ≡ waitOver 0 (y .message) was → Becomes y
+    entered : Entry → y ≡ begunWith (y .times) (was .current) (was .suspended) (y .wait) was → StartWait was (y .wait) → Becomes y
+    erased : Erasure → y ≡ blankProcess → Becomes y
+
+-- ---------------------------------------------------------------- the whole
+-- every event of every reached record, and each process of each partition
+abbrev pub EachProcess : Type 0
+EachProcess = (m : Module) → Reached m → (e : EventT) (k id : ℕ) → Between 1 (m .table .size) k → Becomes m e (step m e .answer .code) k id (process id (own (step m e .state) k))

@@ -34,8 +34,7 @@ use Rattle.machine.proofs.Bounds.{so}
 use Rattle.machine.proofs.Fields.{in-limits}
 use Rattle.machine.proofs.Bodies.{bodyRefusal}
 use Rattle.machine.proofs.Keeping.{process-stored, from-range}
-use Rattle.machine.proofs.Calling.{calling-sound, calling-valid, own-after}
-use Rattle.machine.proofs.Calling.{puts-is}
+use Rattle.machine.proofs.Calling.{calling-sound, calling-valid, own-after, puts-is}
 use Rattle.machine.proofs.Plain.{stored-plain}
 use Rattle.machine.proofs.Queues.{followed-same, stored-queue, same-queue}
 use Rattle.machine.proofs.Reasons.{for-none}
@@ -45,6 +44,8 @@ use Rattle.machine.proofs.Refusals.{places}
 use Rattle.machine.proofs.Dispatch.{ticks-decided}
 use Rattle.machine.proofs.Reached.{valid-sound, reached-valid}
 use Rattle.machine.proofs.EachCall.{each-event, each-call}
+use Rattle.machine.proofs.Account.{step-size}
+use Rattle.machine.proofs.Kept.{waiters-exact}
 
 -- ---------------------------------------------------------------- an accepted call
 -- an event that is not refused has passed its checks
@@ -265,12 +266,45 @@ tick-leaves m s e by z k b =
       process = λ id w d. ap (λ (q : Module). process id (own q k)) is ∙ tick-process m s k b id ∙ either (normalMode p) (λ t. rw t (rw (w, d))) (λ t. rw t);
     }
 
+-- ---------------------------------------------------------------- who leaves a queue
+changes-at : (m : Module) → Reached m → (e : EventT) (k id : ℕ) → Between 1 (m .table .size) k → StateChanges m e (step m e .answer .code) k id (process id (own m k)) (process id (own (step m e .state) k))
+changes-at m h e k id b =
+    let s = valid-sound m (reached-valid m h) (k - 1) (omega (arith, b .0, b .1)) in
+    changes-by m e (step m e .answer .code) k id (asleep-in (m .table .frame) (m .t) (own m k) (s .eachPartition (k - 1) (omega (arith, b .0, b .1))) id) _ (each-process m h e k id b)
+
+module _ (m : Module) (h : Reached m) (e : EventT) (k id o : ℕ) (b : Between 1 (m .table .size) k) (some : o ≡ 0 → ⊥) where
+  abbrev code : ℕ
+  code = step m e .answer .code
+
+  -- the wait of one of the queue, and of one that is not
+  on : (n : Module) → Reached n → Between 1 (n .table .size) k → contains id (waiters o (own n k)) ≡ eqb (object (process id (own n k) .wait)) o
+  on n r c = waiters-exact (own n k) (valid-sound n (reached-valid n r) (k - 1) (omega (arith, c .0, c .1)) .eachPartition (k - 1) (omega (arith, c .0, c .1)) .lists) o some id
+
+  leaves-by : contains id (waiters o (own m k)) ≡ true → contains id (waiters o (own (step m e .state) k)) ≡ false
+      → (Tick m e code k id × (come (m .t + 1) (process id (own m k) .times .wake) ≡ true)) ⊎ (Stop m e code k id ⊎ (Erasure m e code k id ⊎ Service m e code k id))
+  leaves-by was gone =
+      let c = changes-at m h e k id b in
+      let x = process id (own m k) in
+      let y = process id (own (step m e .state) k) in
+      let is : object (x .wait) ≡ o = eqb-true _ o (sym (on m h b) ∙ was) in
+      let no : object (y .wait) ≡ o → ⊥ = eqb-false _ o (sym (on (step m e .state) (Reached.stepped m e h) (rw (step-size m e) b)) ∙ gone) in
+      let early : Entry m e code k id → ⊥ = λ t. some (sym is ∙ ap object (t .waits)) in
+      either (waitsForNothing (y .wait))
+      (λ t. without-entry early (c .ends (λ z. some (sym is ∙ ap object z)) (for-none (y .wait) t)))
+      (λ t. absurd (early (c .turns (λ z. some (sym is ∙ ap object z)) (λ z. not-both _ (ap waitsForNothing z) t) (λ z. no (ap object z ∙ is)) .0)))
+    where
+      without-entry : {A B C D F : Type 0} → (F → ⊥) → A ⊎ (B ⊎ (C ⊎ (D ⊎ F))) → A ⊎ (B ⊎ (C ⊎ D))
+      without-entry f (inl a) = inl a
+      without-entry f (inr (inl b)) = inr (inl b)
+      without-entry f (inr (inr (inl c))) = inr (inr (inl c))
+      without-entry f (inr (inr (inr (inl d)))) = inr (inr (inr d))
+      without-entry f (inr (inr (inr (inr z)))) = absurd (f z)
+
 -- Law. The states of a process.
 pub process-states : ProcessStates
 process-states = record {
-  changes = λ m h e k id b.
-      let s = valid-sound m (reached-valid m h) (k - 1) (omega (arith, b .0, b .1)) in
-      changes-by m e (step m e .answer .code) k id (asleep-in (m .table .frame) (m .t) (own m k) (s .eachPartition (k - 1) (omega (arith, b .0, b .1))) id) _ (each-process m h e k id b);
+  changes = changes-at;
+  leaves = leaves-by;
   ticks = λ m h e by z k b. tick-leaves m (valid-sound m (reached-valid m h) (k - 1) (omega (arith, b .0, b .1))) e by z k b;
   suspensions = suspensions;
 }

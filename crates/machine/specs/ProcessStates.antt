@@ -15,7 +15,7 @@ use Rattle.machine.specs.declared.Time.the-variants.{Never}
 use Rattle.machine.specs.Process.{ready}
 use Rattle.machine.specs.Partition.{process, waiters}
 use Rattle.machine.specs.Step.{step}
-use Rattle.machine.specs.Valid.{Between, Reached}
+use Rattle.machine.specs.Valid.{Between, Reached, contains}
 use Rattle.machine.specs.Plain.{come}
 use Rattle.machine.specs.Starred.{own, callBy}
 use Rattle.machine.specs.EachCall.{idOf}
@@ -83,5 +83,10 @@ pub record Suspensions (m : Module) (k id : ℕ) : Type 0 where
 pub record ProcessStates : Type 0 where
   pub changes : (m : Module) → Reached m → (e : EventT) (k id : ℕ) → Between 1 (m .table .size) k
       → StateChanges m e (step m e .answer .code) k id (process id (own m k)) (process id (own (step m e .state) k))
+  -- who leaves a queue: at a tick at which w has come, by a stop of it, by an erasure, or served; nobody else does (who is served, the first or all:
+  -- `FirstServed` and `AllServed` of Queues)
+  pub leaves : (m : Module) → Reached m → (e : EventT) (k id o : ℕ) → let code = step m e .answer .code in
+      Between 1 (m .table .size) k → (o ≡ 0 → ⊥) → contains id (waiters o (own m k)) ≡ true → contains id (waiters o (own (step m e .state) k)) ≡ false
+      → (Tick m e code k id × (come (m .t + 1) (process id (own m k) .times .wake) ≡ true)) ⊎ (Stop m e code k id ⊎ (Erasure m e code k id ⊎ Service m e code k id))
   pub ticks : (m : Module) → Reached m → (e : EventT) → e .partition ≡ pos 0 → step m e .answer .code ≡ 0 → (k : ℕ) → Between 1 (m .table .size) k → TickLeaves m e k
   pub suspensions : (m : Module) → Reached m → (k id : ℕ) → Suspensions m k id

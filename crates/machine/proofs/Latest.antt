@@ -2,25 +2,28 @@
 use Prim.Native.Nat.{ℕ, _+_, _-_, _≤_, _<_}
 use mathlib.Core.Path.{_≡_, refl, ap, sym, _∙_}
 use mathlib.Core.Bool.{Bool, true, false}
-use mathlib.Core.List.{List, _∷_}
+use mathlib.Core.List.{List, [], _∷_}
 use native.Mathlib.Omega.{arith}
 use lib.ListN.{length, set}
 use lib.IntN.{ℤ, pos}
-use borrow.Author.Tests.{eq-eqb, leb-false, not-false}
+use borrow.Author.Tests.{eq-eqb, le-leb, leb-false, not-false}
 use Rattle.machine.specs.declared.Event.{Event as EventT}
 use Rattle.machine.specs.declared.EventState.{EventState}
 use Rattle.machine.specs.declared.Blackboard.{Blackboard as BlackboardT}
 use Rattle.machine.specs.declared.Partition.{Partition}
 use Rattle.machine.specs.declared.Module.{Module}
+use Rattle.machine.specs.declared.Time.the-variants.{At}
+use Rattle.machine.specs.declared.Wait.the-variants.{Blackboard, Event}
 use Rattle.machine.specs.Limits.{eventLimit, blackboardLimit, durationLimit}
 use Rattle.machine.specs.Partition.{byId, noEvent, noBlackboard, event, blackboard}
 use Rattle.machine.specs.Table.{readTable}
 use Rattle.machine.specs.Step.{step}
 use Rattle.machine.specs.LeftRight.{next, answeredEvent, after, answers}
 use Rattle.machine.specs.Valid.{Between, Reached}
-use Rattle.machine.specs.Starred.{own, callBy, Calling}
+use Rattle.machine.specs.Starred.{own, callBy, Gives, Calling, WaitsFor, TimeOut}
+use Rattle.machine.specs.Queues.{WouldWait}
 use Rattle.machine.specs.Account.{isCall, erases, erased, messageIn}
-use Rattle.machine.specs.EachCall.{idOf}
+use Rattle.machine.specs.EachCall.{idOf, Checks}
 use Rattle.machine.specs.Latest.{along, done, shows, sets, lastWritten, lastShown, lastSet, Since, Latest}
 use Rattle.machine.proofs.Tests.{Passed, or-left, or-right}
 use Rattle.machine.proofs.Bounds.{named-same}
@@ -81,6 +84,10 @@ module _ (m : Module) (h : Reached m) (e : EventT) (k j : ℕ) (some : 1 ≤ k) 
       ∙ rw at (ap (λ (x : EventState). x .up) (named-same eventLimit noEvent j _ (p .events) (b .0) (omega (arith, b .1, v .few)) (omega (arith, b .1, v .few, v .size))))
 
 -- ---------------------------------------------------------------- one event
+-- what blackboard j of partition k shows
+abbrev boardAt : ℕ → ℕ → Module → Bool × ℕ
+boardAt k j q = let x = blackboard j (own q k) in (x .shown, x .message)
+
 module _ (m : Module) (h : Reached m) (e : EventT) (k j : ℕ) (b : Between 1 (m .table .size) k) (lasts : erases k m e ≡ false) where
   left : LeftBy m e k (own m k) (own (step m e .state) k)
   left =
@@ -88,10 +95,7 @@ module _ (m : Module) (h : Reached m) (e : EventT) (k j : ℕ) (b : Between 1 (m
       let s = valid-sound m (reached-valid m h) (k - 1) (omega (arith, b .0, b .1)) in
       rw same at (event-left m e s (k - 1) (omega (arith, b .0, b .1)) (rw same lasts))
 
-  abbrev boardAt : Module → Bool × ℕ
-  boardAt q = let x = blackboard j (own q k) in (x .shown, x .message)
-
-  board-step : Between 1 (own m k .blackboardCount) j → boardAt (next m e) ≡ shows k j (answeredEvent m e) (boardAt m)
+  board-step : Between 1 (own m k .blackboardCount) j → boardAt k j (next m e) ≡ shows k j (answeredEvent m e) (boardAt k j m)
   board-step known = either (done k 27 j (answeredEvent m e))
       (λ t. let g = shown m h e k j (b .0) known t in rw t (λ i. (g .0 i, g .1 i)))
       (λ t. either (done k 29 j (answeredEvent m e))
@@ -113,9 +117,6 @@ next-named limit d a l n j size room is =
     rw (← e) (named-same limit d j a l (omega arith) (omega arith) (omega arith))
 
 module _ (m : Module) (h : Reached m) (k j : ℕ) (name : ℤ) where
-  creates : ℕ → EventT
-  creates n = callBy k n name (pos 0) (pos 0) (pos 0)
-
   is-call : (n : ℕ) → isCall k n (callBy k n name (pos 0) (pos 0) (pos 0)) ≡ true
   is-call n = rw (eq-eqb k k refl, eq-eqb n n refl)
 
@@ -179,39 +180,62 @@ first-lasts : (count : Partition → ℕ) (k j : ℕ) (e : EventT) (es : List Ev
 unfolding erased
 first-lasts count k j e es m h = or-left (erases k m e) _ (h .lasts)
 
-board-latest : (input : List ℕ) (before : List EventT) (k j : ℕ) (name : ℤ) (es : List EventT) → let m = after (readTable input .state) before in
-    let s = next m (callBy k 26 name (pos 0) (pos 0) (pos 0)) in
-    Since m k 26 j name es → let b = blackboard j (own (after s es) k) in
-    (b .shown ≡ lastShown s k j es .0) × (b .message ≡ lastShown s k j es .1)
-board-latest input before k j name es since =
-    let m = after (readTable input .state) before in
-    let e = callBy k 26 name (pos 0) (pos 0) (pos 0) in
-    let h = reached-after (readTable input .state) (Reached.read input) before in
-    let c = board-created m h k j name (since .code) (since .value) in
-    let view : Module → Bool × ℕ = λ q. let x = blackboard j (own q k) in (x .shown, x .message) in
-    let start : view (next m e) ≡ (false, 0) = λ i. (c .1 i, c .2 i) in
-    let g = along-list (shows k j) view (Lasts (λ (p : Partition). p .blackboardCount) k j)
-    (λ e es q h.
-    let on = first-lasts _ k j e es q h in
-    (board-step q (h .reached) e k j (h .inside) on (h .known), lasts-on _ k j e es q h (λ l. left q (h .reached) e k j (h .inside) l .boardCount)))
-    es (next m e) (record { reached = Reached.stepped m e h; inside = rw (step-size m e) (partition-in m h k j name 26 (omega arith) (since .code)); known = c .0; lasts = since .lasts })
-    ∙ ap (λ x. along (shows k j) x (answers (next m e) es)) start in
-    (ap (λ (x : Bool × ℕ). x .0) g, ap (λ (x : Bool × ℕ). x .1) g)
+-- a list from the creation on
+module _ (input : List ℕ) (before : List EventT) (k j : ℕ) (name : ℤ) (es : List EventT) where
+  abbrev m : Module
+  m = after (readTable input .state) before
 
-event-latest : (input : List ℕ) (before : List EventT) (k j : ℕ) (name : ℤ) (es : List EventT) → let m = after (readTable input .state) before in
-    let s = next m (callBy k 17 name (pos 0) (pos 0) (pos 0)) in
-    Since m k 17 j name es → event j (own (after s es) k) .up ≡ lastSet s k j es
-event-latest input before k j name es since =
-    let m = after (readTable input .state) before in
-    let e = callBy k 17 name (pos 0) (pos 0) (pos 0) in
-    let h = reached-after (readTable input .state) (Reached.read input) before in
-    let c = event-created m h k j name (since .code) (since .value) in
-    along-list (sets k j) (λ q. event j (own q k) .up) (Lasts (λ (p : Partition). p .eventCount) k j)
-    (λ e es q h.
-    let on = first-lasts _ k j e es q h in
-    (event-step q (h .reached) e k j (h .inside) on (h .known), lasts-on _ k j e es q h (λ l. left q (h .reached) e k j (h .inside) l .eventCount)))
-    es (next m e) (record { reached = Reached.stepped m e h; inside = rw (step-size m e) (partition-in m h k j name 17 (omega arith) (since .code)); known = c .0; lasts = since .lasts })
-    ∙ ap (λ x. along (sets k j) x (answers (next m e) es)) (c .1)
+  h : Reached m
+  h = reached-after (readTable input .state) (Reached.read input) before
+
+  abbrev made : ℕ → Module
+  made n = next m (callBy k n name (pos 0) (pos 0) (pos 0))
+
+  begins : (n : ℕ) → 1 ≤ n → (count : Partition → ℕ) → Since m k n j name es → Between 1 (count (own (made n) k)) j → Lasts count k j es (made n)
+  begins n some count since known = record { reached = Reached.stepped m _ h; inside = rw (step-size m (callBy k n name (pos 0) (pos 0) (pos 0))) (partition-in m h k j name n some (since .code)); known = known; lasts = since .lasts }
+
+  board-run : Since m k 26 j name es → (boardAt k j (after (made 26) es) ≡ lastShown (made 26) k j es) × Lasts (λ (p : Partition). p .blackboardCount) k j [] (after (made 26) es)
+  board-run since =
+      let c = board-created m h k j name (since .code) (since .value) in
+      let g = along-list (shows k j) (boardAt k j) (Lasts (λ (p : Partition). p .blackboardCount) k j)
+      (λ e es q h.
+      let on = first-lasts _ k j e es q h in
+      (board-step q (h .reached) e k j (h .inside) on (h .known), lasts-on _ k j e es q h (λ l. left q (h .reached) e k j (h .inside) l .boardCount)))
+      es (made 26) (begins 26 (omega arith) _ since (c .0)) in
+      (g .0 ∙ ap (λ x. along (shows k j) x (answers (made 26) es)) (λ i. (c .1 i, c .2 i)), g .1)
+
+  event-run : Since m k 17 j name es → (event j (own (after (made 17) es) k) .up ≡ lastSet (made 17) k j es) × Lasts (λ (p : Partition). p .eventCount) k j [] (after (made 17) es)
+  event-run since =
+      let c = event-created m h k j name (since .code) (since .value) in
+      let g = along-list (sets k j) (λ q. event j (own q k) .up) (Lasts (λ (p : Partition). p .eventCount) k j)
+      (λ e es q h.
+      let on = first-lasts _ k j e es q h in
+      (event-step q (h .reached) e k j (h .inside) on (h .known), lasts-on _ k j e es q h (λ l. left q (h .reached) e k j (h .inside) l .eventCount)))
+      es (made 17) (begins 17 (omega arith) _ since (c .0)) in
+      (g .0 ∙ ap (λ x. along (sets k j) x (answers (made 17) es)) (c .1), g .1)
+
+-- ---------------------------------------------------------------- who asks then
+module _ (q : Module) (k j : ℕ) (a : ℤ) (c : Calling q k) (normal : own q k .mode ≡ 3) where
+  read-shown : Between 1 (own q k .blackboardCount) j → (x : Bool × ℕ) → boardAt k j q ≡ x
+      → let e = callBy k 28 (pos j) a (pos 0) (pos 0) in
+      (x .0 ≡ true → TimeOut a → Gives q e 0 (x .1) (At 0) q) × (x .0 ≡ false → WaitsFor a → WouldWait q k e (Blackboard j))
+  read-shown known x is = (
+    λ t w. rw (ap (λ (y : Bool × ℕ). y .1) is) at (queues .messages q k c j .readShown a normal known (ap (λ (y : Bool × ℕ). y .0) is ∙ t) w),
+    λ t w. queues .messages q k c j .readWaits a normal known (ap (λ (y : Bool × ℕ). y .0) is ∙ t) w,
+  )
+
+  wait-set : Between 1 (own q k .eventCount) j → (x : Bool) → event j (own q k) .up ≡ x
+      → let e = callBy k 20 (pos j) a (pos 0) (pos 0) in
+      (x ≡ true → TimeOut a → Gives q e 0 0 (At 0) q) × (x ≡ false → WaitsFor a → WouldWait q k e (Event j))
+  unfolding Checks
+  wait-set known x is = (
+    λ t w. each-call q k c .waitEvent (pos j) a
+        .1 (rw (le-leb 1 j (known .0), le-leb j (own q k .eventCount) (known .1)))
+        .1 (rw normal)
+        .1 (rw w)
+        .0 (is ∙ t),
+    λ t w. queues .calls q k c j .waitEvent a normal known (is ∙ t) w,
+  )
 
 -- Law. What the latest accepted call left.
 pub latest : Latest
@@ -221,6 +245,8 @@ latest = record {
       let m = readTable input .state in
       let T = after-table m es in
       rw T at (read-message (after m es) k i (lastWritten m i es) (rw T l) (rw T size) (rw T to) h (sampling input i es l));
-  board = board-latest;
-  set = event-latest;
+  board = λ input before k j name es since. let g = board-run input before k j name es since .0 in (ap (λ (x : Bool × ℕ). x .0) g, ap (λ (x : Bool × ℕ). x .1) g);
+  set = λ input before k j name es since. event-run input before k j name es since .0;
+  readBoard = λ input before k j name a es since c normal. let g = board-run input before k j name es since in read-shown _ k j a c normal (g .1 .known) _ (g .0);
+  waitEvent = λ input before k j name a es since c normal. let g = event-run input before k j name es since in wait-set _ k j a c normal (g .1 .known) _ (g .0);
 }

@@ -55,15 +55,16 @@ use Rattle.machine.proofs.PerPartition.{is-call, restart-told, made-sto
 use Rattle.machine.proofs.Accepted.{checks-passed, accepted, restarting}
 
 -- ---------------------------------------------------------------- lists
--- what holds of each event, from a record on that is good for the list, holds of the list
+-- what holds of each event, from a record on that is good for the list, holds of the list, and the record at its end is good
 pub along-list : {A : Type 0} (f : EventRecord → A → A) (view : Module → A) (Good : List EventT → Module → Type 0)
     → ((e : EventT) (es : List EventT) (m : Module) → Good (e ∷ es) m → (view (next m e) ≡ f (answeredEvent m e) (view m)) × Good es (next m e))
-    → (es : List EventT) (m : Module) → Good es m → view (after m es) ≡ along f (view m) (answers m es)
+    → (es : List EventT) (m : Module) → Good es m → (view (after m es) ≡ along f (view m) (answers m es)) × Good [] (after m es)
 unfolding along
-along-list f view Good one [] m h = refl
+along-list f view Good one [] m h = (refl, h)
 along-list f view Good one (e ∷ es) m h =
     let r = one e es m h in
-    along-list f view Good one es (next m e) (r .1) ∙ ap (λ x. along f x (answers (next m e) es)) (r .0)
+    let rest = along-list f view Good one es (next m e) (r .1) in
+    (rest .0 ∙ ap (λ x. along f x (answers (next m e) es)) (r .0), rest .1)
 
 -- ---------------------------------------------------------------- the numbers of an event
 pub done-so : (m : Module) (e : EventT) (k n j : ℕ) → isCall k n e ≡ true → plainNumber j (e .a) ≡ true → codeAt m e ≡ 0 → done k n j (answeredEvent m e) ≡ true
@@ -176,7 +177,7 @@ sampling input i es l =
     (λ e es q h.
     let s = channel-sound q (reached-valid q (h .0)) i (rw (h .1) l) in
     (message-step q s e i (rw (h .1) l) (h .0) ∙ ap (λ (T : Table). written (channel T i) i (answeredEvent q e) (message q i)) (h .1), (Reached.stepped q e (h .0), step-table q e ∙ h .1)))
-    es m (Reached.read input, refl)
+    es m (Reached.read input, refl) .0
     ∙ ap (λ x. along (written (channel (m .table) i) i) x (answers m es)) (fresh-message input i l)
 
 -- READ of a message that is known

@@ -12,13 +12,15 @@ use Rattle.machine.specs.declared.Channel.{Channel}
 use Rattle.machine.specs.declared.Message.{Message}
 use Rattle.machine.specs.declared.Module.{Module}
 use Rattle.machine.specs.declared.Time.the-variants.{At}
+use Rattle.machine.specs.declared.Wait.the-variants.{Blackboard, Event as EventOf}
 use Rattle.machine.specs.Partition.{event, blackboard}
 use Rattle.machine.specs.Module.{channel, message}
 use Rattle.machine.specs.Step.{step}
 use Rattle.machine.specs.Table.{readTable}
 use Rattle.machine.specs.LeftRight.{next, after, answers}
 use Rattle.machine.specs.Plain.{plainNumber}
-use Rattle.machine.specs.Starred.{own, callBy, Gives, Refuses, Calling}
+use Rattle.machine.specs.Starred.{own, callBy, Gives, Refuses, Calling, WaitsFor, TimeOut}
+use Rattle.machine.specs.Queues.{WouldWait}
 use Rattle.machine.specs.Account.{isCall, restartsBy, erased, messageIn}
 
 -- ---------------------------------------------------------------- events with their answers
@@ -66,7 +68,7 @@ pub record Since (m : Module) (k n j : ℕ) (name : ℤ) (es : List Event) : Typ
 
 pub record Latest : Type 0 where
   -- the message of a channel, its value and its time, is that of the last WRITE answered 0 since the last accepted mode 0 to 2 of its destination; none
-  -- without one (and never one of a queuing channel)
+  -- without one
   pub sampling : (input : List ℕ) (i : ℕ) (es : List Event) → let m = readTable input .state in
       i < m .table .channelCount → message (after m es) i ≡ lastWritten m i es
   -- READ then: 1 without one; else its value, with 1 exactly while t − written ≤ refresh
@@ -87,3 +89,18 @@ pub record Latest : Type 0 where
   pub set : (input : List ℕ) (before : List Event) (k j : ℕ) (name : ℤ) (es : List Event) → let m = after (readTable input .state) before in
       let s = next m (callBy k 17 name (pos 0) (pos 0) (pos 0)) in
       Since m k 17 j name es → event j (own (after s es) k) .up ≡ lastSet s k j es
+  -- READ_BLACKBOARD then: the message shown; where none is, the caller waits. WAIT_EVENT then: 0 where it is UP; where it is DOWN, the caller waits
+  pub readBoard : (input : List ℕ) (before : List Event) (k j : ℕ) (name a : ℤ) (es : List Event) → let m = after (readTable input .state) before in
+      let s = next m (callBy k 26 name (pos 0) (pos 0) (pos 0)) in
+      let q = after s es in
+      let e = callBy k 28 (pos j) a (pos 0) (pos 0) in
+      Since m k 26 j name es → Calling q k → own q k .mode ≡ 3
+      → (lastShown s k j es .0 ≡ true → TimeOut a → Gives q e 0 (lastShown s k j es .1) (At 0) q)
+      × (lastShown s k j es .0 ≡ false → WaitsFor a → WouldWait q k e (Blackboard j))
+  pub waitEvent : (input : List ℕ) (before : List Event) (k j : ℕ) (name a : ℤ) (es : List Event) → let m = after (readTable input .state) before in
+      let s = next m (callBy k 17 name (pos 0) (pos 0) (pos 0)) in
+      let q = after s es in
+      let e = callBy k 20 (pos j) a (pos 0) (pos 0) in
+      Since m k 17 j name es → Calling q k → own q k .mode ≡ 3
+      → (lastSet s k j es ≡ true → TimeOut a → Gives q e 0 0 (At 0) q)
+      × (lastSet s k j es ≡ false → WaitsFor a → WouldWait q k e (EventOf j))

@@ -47,7 +47,7 @@ use Rattle.machine.specs.Step.{contextOf, moduleAfter, step, restarted, 
 use Rattle.machine.specs.Valid.{Between, Numbered, Valid, SoundModule, SoundMove, ValidModule, Reached, plainLater, settingOf}
 use Rattle.machine.specs.Plain.{plainBetween, plainNumber, plainMinusOne, plainUnknown, plainStored, plainMoved, letGo, plainEach, plainRefilledTo, waitOver, plainTicked}
 use Rattle.machine.specs.Starred.{own, callBy, Calling, Gives, Puts, atEnd, withSemaphoreAt, given, withProcess, awaitsNext, awaitsRelease}
-use Rattle.machine.specs.EachCall.{idOf, timeIn, inD, inT, periodicAt, tooLong, named, used, stray, malformedAt, EachEvent, Checks, nowDormant, with, startedAt, withPriority, withEventAt, withBufferAt, withBoardAt, aboveIn, processAdmitted, Starts, Waiting, Stop, StopSelf, Suspend, Resume, GetStatus, SuspendSelf, TimedWait, ResetEvent, SetEvent, Clear, Signal, Show, WaitSemaphore, WaitEvent, ReceiveBuffer, ReadBlackboard, SendBuffer, Write, Read, Send, Receive, Start, DelayedStart, SetPriority, PeriodicWait, CreateEvent, CreateBlackboard, CreateBuffer, CreateSemaphore, CreateProcess, SetMode, EachCall, GetTicksLeft, LockPreemption, UnlockPreemption, entering, restartedAs, withoutInto}
+use Rattle.machine.specs.EachCall.{idOf, timeIn, inD, inT, periodicAt, tooLong, named, used, stray, malformedAt, EachEvent, Checks, nowDormant, with, startedAt, withPriority, withEventAt, withBufferAt, withBoardAt, aboveIn, processAdmitted, Starts, MayWait, Stop, StopSelf, Suspend, Resume, GetStatus, SuspendSelf, TimedWait, ResetEvent, SetEvent, Clear, Signal, Show, WaitSemaphore, WaitEvent, ReceiveBuffer, ReadBlackboard, SendBuffer, Write, Read, Send, Receive, Start, DelayedStart, SetPriority, PeriodicWait, CreateEvent, CreateBlackboard, CreateBuffer, CreateSemaphore, CreateProcess, SetMode, EachCall, GetTicksLeft, LockPreemption, UnlockPreemption, entering, restartedAs, withoutInto}
 use Rattle.machine.proofs.Reasons.{waits}
 use Rattle.machine.proofs.Tests.{by-test, Passed, and-left, and-right, or-left, or-right, not-both, passed-parts}
 use Rattle.machine.proofs.Either.{either}
@@ -410,7 +410,7 @@ module _ (m : Module) (k : ℕ) (u : SoundModule m) (h : Calling m k) where
         → decides m k u h n x y z e lo hi ≡ D.checked Refused (before ++ ((not (eqb (p .mode) 3), 5) ∷ (not ok, 3) ∷ [])) (cond available success (D.queued (contextOf m k) (field a) w p))
         → (ok ≡ true → inT a ≡ true)
         → (Passed before → ok ≡ true → available ≡ true → Gives m (callBy k n x y z e) (replyOf success .code) (replyOf success .value) (replyOf success .extra) (moduleAfter m k success) → S)
-        → Waiting m k (callBy k n x y z e) before ok a available S w
+        → MayWait m k (callBy k n x y z e) before ok a available S w
     unfolding Passed D.queued D.blocked D.checked
     waiting a before ok available success w S is t f =
         by-list n x y z e lo hi stray _ (cond available success (D.queued (contextOf m k) (field a) w p)) _ is (λ q g.

@@ -6,24 +6,21 @@ use mathlib.Core.List.{List, [], _∷_}
 use native.Mathlib.Omega.{arith}
 use lib.ListN.{length, set}
 use lib.IntN.{ℤ, pos}
-use borrow.Author.Tests.{eq-eqb, le-leb, leb-false, not-false}
+use borrow.Author.Tests.{eq-eqb, leb-false, not-false}
 use Rattle.machine.specs.declared.Event.{Event as EventT}
 use Rattle.machine.specs.declared.EventState.{EventState}
 use Rattle.machine.specs.declared.Blackboard.{Blackboard as BlackboardT}
 use Rattle.machine.specs.declared.Partition.{Partition}
 use Rattle.machine.specs.declared.Module.{Module}
-use Rattle.machine.specs.declared.Time.the-variants.{At}
-use Rattle.machine.specs.declared.Wait.the-variants.{Blackboard, Event}
 use Rattle.machine.specs.Limits.{eventLimit, blackboardLimit, durationLimit}
 use Rattle.machine.specs.Partition.{byId, noEvent, noBlackboard, event, blackboard}
 use Rattle.machine.specs.Table.{readTable}
 use Rattle.machine.specs.Step.{step}
 use Rattle.machine.specs.LeftRight.{next, answeredEvent, after, answers}
 use Rattle.machine.specs.Valid.{Between, Reached}
-use Rattle.machine.specs.Starred.{own, callBy, Gives, Calling, WaitsFor, TimeOut}
-use Rattle.machine.specs.Queues.{WouldWait}
+use Rattle.machine.specs.Starred.{own, callBy, Calling}
 use Rattle.machine.specs.Account.{isCall, erases, erased, messageIn}
-use Rattle.machine.specs.EachCall.{idOf, Checks}
+use Rattle.machine.specs.EachCall.{idOf}
 use Rattle.machine.specs.Latest.{along, done, shows, sets, lastWritten, lastShown, lastSet, Since, Latest}
 use Rattle.machine.proofs.Tests.{Passed, or-left, or-right}
 use Rattle.machine.proofs.Bounds.{named-same}
@@ -214,29 +211,6 @@ module _ (input : List ℕ) (before : List EventT) (k j : ℕ) (name : ℤ) (es 
       es (made 17) (begins 17 (omega arith) _ since (c .0)) in
       (g .0 ∙ ap (λ x. along (sets k j) x (answers (made 17) es)) (c .1), g .1)
 
--- ---------------------------------------------------------------- who asks then
-module _ (q : Module) (k j : ℕ) (a : ℤ) (c : Calling q k) (normal : own q k .mode ≡ 3) where
-  read-shown : Between 1 (own q k .blackboardCount) j → (x : Bool × ℕ) → boardAt k j q ≡ x
-      → let e = callBy k 28 (pos j) a (pos 0) (pos 0) in
-      (x .0 ≡ true → TimeOut a → Gives q e 0 (x .1) (At 0) q) × (x .0 ≡ false → WaitsFor a → WouldWait q k e (Blackboard j))
-  read-shown known x is = (
-    λ t w. rw (ap (λ (y : Bool × ℕ). y .1) is) at (queues .messages q k c j .readShown a normal known (ap (λ (y : Bool × ℕ). y .0) is ∙ t) w),
-    λ t w. queues .messages q k c j .readWaits a normal known (ap (λ (y : Bool × ℕ). y .0) is ∙ t) w,
-  )
-
-  wait-set : Between 1 (own q k .eventCount) j → (x : Bool) → event j (own q k) .up ≡ x
-      → let e = callBy k 20 (pos j) a (pos 0) (pos 0) in
-      (x ≡ true → TimeOut a → Gives q e 0 0 (At 0) q) × (x ≡ false → WaitsFor a → WouldWait q k e (Event j))
-  unfolding Checks
-  wait-set known x is = (
-    λ t w. each-call q k c .waitEvent (pos j) a
-        .1 (rw (le-leb 1 j (known .0), le-leb j (own q k .eventCount) (known .1)))
-        .1 (rw normal)
-        .1 (rw w)
-        .0 (is ∙ t),
-    λ t w. queues .calls q k c j .waitEvent a normal known (is ∙ t) w,
-  )
-
 -- Law. What the latest accepted call left.
 pub latest : Latest
 latest = record {
@@ -247,6 +221,8 @@ latest = record {
       rw T at (read-message (after m es) k i (lastWritten m i es) (rw T l) (rw T size) (rw T to) h (sampling input i es l));
   board = λ input before k j name es since. let g = board-run input before k j name es since .0 in (ap (λ (x : Bool × ℕ). x .0) g, ap (λ (x : Bool × ℕ). x .1) g);
   set = λ input before k j name es since. event-run input before k j name es since .0;
-  readBoard = λ input before k j name a es since c normal. let g = board-run input before k j name es since in read-shown _ k j a c normal (g .1 .known) _ (g .0);
-  waitEvent = λ input before k j name a es since c normal. let g = event-run input before k j name es since in wait-set _ k j a c normal (g .1 .known) _ (g .0);
+  readBoard = λ input before k j name a es since c.
+      let g = board-run input before k j name es since .0 in
+      rw (ap (λ (y : Bool × ℕ). y .0) g, ap (λ (y : Bool × ℕ). y .1) g) at (each-call _ k c .readBlackboard (pos j) a);
+  waitEvent = λ input before k j name a es since c. rw (event-run input before k j name es since .0) at (each-call _ k c .waitEvent (pos j) a);
 }

@@ -178,8 +178,8 @@ Creates m k e limit count names name ok q =
 
 -- a call that waits on w, with time-out a: checks of its own. 5: start mode. 3: not ok. Where it need not wait, success. 2: a = 0. 5: preemption is
 -- locked. Else the caller waits, w = t + a or −1, code 7
-abbrev pub Waiting : Module → ℕ → EventT → List (Bool × ℕ) → Bool → ℤ → Bool → Type 0 → Wait → Type 0
-Waiting m k e before ok a available success w =
+abbrev pub MayWait : Module → ℕ → EventT → List (Bool × ℕ) → Bool → ℤ → Bool → Type 0 → Wait → Type 0
+MayWait m k e before ok a available success w =
     let p = own m k in
     let x = process (running p) p in
     Checks m e (before ++ ((not (eqb (p .mode) 3), 5) ∷ (not ok, 3) ∷ []))
@@ -309,7 +309,7 @@ CreateSemaphore m k = (name start max : ℤ) → let p = own m k in
 abbrev pub WaitSemaphore : Module → ℕ → Type 0
 WaitSemaphore m k = (j a : ℤ) → let p = own m k in
     let e = callBy k 15 j a (pos 0) (pos 0) in
-    Waiting m k e ((not (plainBetween 1 (p .semaphoreCount) j), 3) ∷ []) (inT a) a (ltb 0 (semaphore (idOf j) p .value)) (Puts m e 0 0 k (withSemaphoreAt (idOf j) (semaphore (idOf j) p .value - 1) p)) (Semaphore (idOf j))
+    MayWait m k e ((not (plainBetween 1 (p .semaphoreCount) j), 3) ∷ []) (inT a) a (ltb 0 (semaphore (idOf j) p .value)) (Puts m e 0 0 k (withSemaphoreAt (idOf j) (semaphore (idOf j) p .value - 1) p)) (Semaphore (idOf j))
 
 -- 16 SIGNAL id. 1: value = max. First waiter's wait ends (w −1, wake code 0); none: value + 1
 abbrev pub Signal : Module → ℕ → Type 0
@@ -341,7 +341,7 @@ ResetEvent m k = (j : ℤ) → let p = own m k in
 abbrev pub WaitEvent : Module → ℕ → Type 0
 WaitEvent m k = (j a : ℤ) → let p = own m k in
     let e = callBy k 20 j a (pos 0) (pos 0) in
-    Waiting m k e ((not (plainBetween 1 (p .eventCount) j), 3) ∷ []) (inT a) a (event (idOf j) p .up) (Gives m e 0 0 (At 0) m) (Event (idOf j))
+    MayWait m k e ((not (plainBetween 1 (p .eventCount) j), 3) ∷ []) (inT a) a (event (idOf j) p .up) (Gives m e 0 0 (At 0) m) (Event (idOf j))
 
 -- 21 WRITE channel, a. 3: a not in D. Stores a and t. 22 READ channel. 1: no message. Value a, extra 1 if t − written ≤ refresh, else 0
 abbrev pub Write : Module → ℕ → Type 0
@@ -364,14 +364,14 @@ CreateBuffer m k = (name limit : ℤ) → let p = own m k in
 abbrev pub SendBuffer : Module → ℕ → Type 0
 SendBuffer m k = (j b a : ℤ) → let p = own m k in
     let e = callBy k 24 j b a (pos 0) in
-    Waiting m k e ((not (plainBetween 1 (p .bufferCount) j), 3) ∷ []) (inD b && inT a) a (ltb (buffer (idOf j) p .queue .len) (buffer (idOf j) p .limit))
+    MayWait m k e ((not (plainBetween 1 (p .bufferCount) j), 3) ∷ []) (inD b && inT a) a (ltb (buffer (idOf j) p .queue .len) (buffer (idOf j) p .limit))
     ((waiters (object (Receiving (idOf j))) p ≡ [] → Puts m e 0 0 k (withBufferAt (idOf j) (held (buffer (idOf j) p .queue) ++ (idOf b ∷ [])) p))
     × ((id : ℕ) (rest : List ℕ) → waiters (object (Receiving (idOf j))) p ≡ id ∷ rest → Puts m e 0 0 k (plainStored id (waitOver 0 (idOf b) (process id p)) p))) (Sending (idOf j) (idOf b))
 
 abbrev pub ReceiveBuffer : Module → ℕ → Type 0
 ReceiveBuffer m k = (j a : ℤ) → let p = own m k in
     let e = callBy k 25 j a (pos 0) (pos 0) in
-    Waiting m k e ((not (plainBetween 1 (p .bufferCount) j), 3) ∷ []) (inT a) a (ltb 0 (buffer (idOf j) p .queue .len))
+    MayWait m k e ((not (plainBetween 1 (p .bufferCount) j), 3) ∷ []) (inT a) a (ltb 0 (buffer (idOf j) p .queue .len))
     ((b : ℕ) (l : List ℕ) → held (buffer (idOf j) p .queue) ≡ b ∷ l
     → (waiters (object (Sending (idOf j) 0)) p ≡ [] → Puts m e 0 b k (withBufferAt (idOf j) l p))
     × ((id : ℕ) (rest : List ℕ) → waiters (object (Sending (idOf j) 0)) p ≡ id ∷ rest → Puts m e 0 b k (plainStored id (letGo (process id p)) (withBufferAt (idOf j) (l ++ (carried (process id p) ∷ [])) p)))) (Receiving (idOf j))
@@ -393,7 +393,7 @@ Show m k = (j b : ℤ) → let p = own m k in
 abbrev pub ReadBlackboard : Module → ℕ → Type 0
 ReadBlackboard m k = (j a : ℤ) → let p = own m k in
     let e = callBy k 28 j a (pos 0) (pos 0) in
-    Waiting m k e ((not (plainBetween 1 (p .blackboardCount) j), 3) ∷ []) (inT a) a (blackboard (idOf j) p .shown) (Gives m e 0 (blackboard (idOf j) p .message) (At 0) m) (Blackboard (idOf j))
+    MayWait m k e ((not (plainBetween 1 (p .blackboardCount) j), 3) ∷ []) (inT a) a (blackboard (idOf j) p .shown) (Gives m e 0 (blackboard (idOf j) p .message) (At 0) m) (Blackboard (idOf j))
 
 -- 29 CLEAR id: nothing is shown
 abbrev pub Clear : Module → ℕ → Type 0
@@ -407,7 +407,7 @@ Send m k = (i b a : ℤ) → let c = channel (m .table) (idOf i - 1) in
     let q = queue m (idOf i - 1) in
     let there = own m (c .destination) in
     let e = callBy k 30 i b a (pos 0) in
-    Waiting m k e (channelTests m k i false (λ c. c .source)) (inD b && inT a) a (ltb (q .len) (c .size))
+    MayWait m k e (channelTests m k i false (λ c. c .source)) (inD b && inT a) a (ltb (q .len) (c .size))
     ((waiters (object (Destination (idOf i))) there ≡ [] → Gives m e 0 0 (At 0) (withQueue (idOf i - 1) (queueOf (held q ++ (idOf b ∷ []))) m))
     × ((id : ℕ) (rest : List ℕ) → waiters (object (Destination (idOf i))) there ≡ id ∷ rest → Puts m e 0 0 (c .destination) (plainStored id (waitOver 0 (idOf b) (process id there)) there))) (Source (idOf i) (idOf b))
 
@@ -416,7 +416,7 @@ Receive m k = (i a : ℤ) → let c = channel (m .table) (idOf i - 1) in
     let q = queue m (idOf i - 1) in
     let there = own m (c .source) in
     let e = callBy k 31 i a (pos 0) (pos 0) in
-    Waiting m k e (channelTests m k i false (λ c. c .destination)) (inT a) a (ltb 0 (q .len))
+    MayWait m k e (channelTests m k i false (λ c. c .destination)) (inT a) a (ltb 0 (q .len))
     ((b : ℕ) (l : List ℕ) → held q ≡ b ∷ l
     → (waiters (object (Source (idOf i) 0)) there ≡ [] → Gives m e 0 b (At 0) (withQueue (idOf i - 1) (queueOf l) m))
     × ((id : ℕ) (rest : List ℕ) → waiters (object (Source (idOf i) 0)) there ≡ id ∷ rest

@@ -2,7 +2,7 @@
 -- (document 02, a: 27 to 29), and whether an event is UP (document 01, 17 to 20). Each is told from the events and their answers alone, event by event.
 use Prim.Native.Nat.{ℕ, _+_, _-_, _<_}
 use mathlib.Core.Path.{_≡_}
-use mathlib.Core.Bool.{Bool, true, false, cond, _&&_}
+use mathlib.Core.Bool.{Bool, true, false, cond, _&&_, not}
 use mathlib.Core.List.{List, [], _∷_}
 use lib.Dec.{eqb, leb}
 use lib.IntN.{ℤ, pos}
@@ -18,10 +18,10 @@ use Rattle.machine.specs.Module.{channel, message}
 use Rattle.machine.specs.Step.{step}
 use Rattle.machine.specs.Table.{readTable}
 use Rattle.machine.specs.LeftRight.{next, after, answers}
-use Rattle.machine.specs.Plain.{plainNumber}
-use Rattle.machine.specs.Starred.{own, callBy, Gives, Refuses, Calling, WaitsFor, TimeOut}
-use Rattle.machine.specs.Queues.{WouldWait}
+use Rattle.machine.specs.Plain.{plainNumber, plainBetween}
+use Rattle.machine.specs.Starred.{own, callBy, Gives, Refuses, Calling}
 use Rattle.machine.specs.Account.{isCall, restartsBy, erased, messageIn}
+use Rattle.machine.specs.EachCall.{MayWait, inT}
 
 -- ---------------------------------------------------------------- events with their answers
 -- from x on, one after the other
@@ -94,13 +94,11 @@ pub record Latest : Type 0 where
       let s = next m (callBy k 26 name (pos 0) (pos 0) (pos 0)) in
       let q = after s es in
       let e = callBy k 28 (pos j) a (pos 0) (pos 0) in
-      Since m k 26 j name es → Calling q k → own q k .mode ≡ 3
-      → (lastShown s k j es .0 ≡ true → TimeOut a → Gives q e 0 (lastShown s k j es .1) (At 0) q)
-      × (lastShown s k j es .0 ≡ false → WaitsFor a → WouldWait q k e (Blackboard j))
+      Since m k 26 j name es → Calling q k
+      → MayWait q k e ((not (plainBetween 1 (own q k .blackboardCount) (pos j)), 3) ∷ []) (inT a) a (lastShown s k j es .0) (Gives q e 0 (lastShown s k j es .1) (At 0) q) (Blackboard j)
   pub waitEvent : (input : List ℕ) (before : List Event) (k j : ℕ) (name a : ℤ) (es : List Event) → let m = after (readTable input .state) before in
       let s = next m (callBy k 17 name (pos 0) (pos 0) (pos 0)) in
       let q = after s es in
       let e = callBy k 20 (pos j) a (pos 0) (pos 0) in
-      Since m k 17 j name es → Calling q k → own q k .mode ≡ 3
-      → (lastSet s k j es ≡ true → TimeOut a → Gives q e 0 0 (At 0) q)
-      × (lastSet s k j es ≡ false → WaitsFor a → WouldWait q k e (EventOf j))
+      Since m k 17 j name es → Calling q k
+      → MayWait q k e ((not (plainBetween 1 (own q k .eventCount) (pos j)), 3) ∷ []) (inT a) a (lastSet s k j es) (Gives q e 0 0 (At 0) q) (EventOf j)

@@ -155,7 +155,7 @@ pub record AllServed (m : Module) (k : ℕ) (e : EventT) (o : ℕ) (message : �
 abbrev pub has : Module → ℕ → ℕ → ℕ
 has m k id = process id (own m k) .message
 
--- semaphores and events (a call that waits joins last: `QueueAfter`; its record is `Waiting` of EachCall)
+-- semaphores and events (a call that waits joins last: `QueueAfter`; its record is `MayWait` of EachCall)
 pub record QueueCalls (m : Module) (k j : ℕ) : Type 0 where
   -- 16 SIGNAL below max: the first waiter's wait ends; none: value + 1
   pub signalFirst : (id : ℕ) (rest : List ℕ) → let p = own m k in

@@ -1,5 +1,5 @@
 -- What the loops over what is read keep. Assumes nothing.
-use Prim.Native.Nat.{ℕ, suc, _+_, _-_, _≤_, _<_}
+use Prim.Native.Nat.{ℕ, suc, _+_, _-_, _≤_, _<_, min}
 use mathlib.Core.Bool.{Bool, true, false}
 use mathlib.Core.Path.{_≡_, refl, sym, ap, _∙_}
 use mathlib.Core.List.{List, [], _∷_, _++_}
@@ -13,11 +13,12 @@ use lib.Signed.{ltZ}
 use mir.Syntax.{w64}
 use mir.Val.{toZ, ofZ, SFits}
 use mir.ValLaws.{toZ-ofZ}
-use borrow.Author.Tests.{ltb-true, ne-eqb}
-use Rattle.io.specs.Counts.{clamped}
+use borrow.Author.Tests.{ltb-true, ne-eqb, eqb-false}
+use Rattle.io.specs.Counts.{clamped, Counts}
 use Rattle.machine.specs.Limits.{lineLength}
 use Rattle.machine.specs.Replay.{replayedRecord}
 use Rattle.machine.proofs.Tests.{by-test, not-both}
+use Rattle.line.proofs.Parts.{tail-is}
 use Rattle.executive.specs.declared.Executive.{Executive}
 use Rattle.stream.specs.declared.Stream.{Stream}
 use Rattle.stream.specs.declared.Advance.{Advance}
@@ -26,7 +27,7 @@ use Rattle.stream.specs.declared.Stage.{Stage}
 use Rattle.stream.specs.declared.Stage.the-variants.{Table as TableStage, Events, Ended}
 use Rattle.stream.specs.declared.Place.{Place}
 use Rattle.stream.specs.Stream.{begun, turnIn, isEnded, run, advanced, closed, finished, finishedOf, fedAll}
-use Rattle.stream.proofs.Chunks.{finished-closed}
+use Rattle.stream.proofs.Chunks.{finished-closed, held-length}
 use Rattle.stream.proofs.Pieces.{run-within, run-some, run-room, fed-rest, fed-on}
 use Rattle.stream.proofs.Whole.{stream-record}
 use Rattle.standard_io.specs.declared.Got.{Got}
@@ -35,8 +36,14 @@ use Rattle.standard_io.specs.declared.End.{End}
 use Rattle.standard_io.specs.declared.End.the-variants.{Going, Input, Table, Unread, Unwritten}
 use Rattle.standard_io.specs.declared.Shown.{Shown}
 use Rattle.standard_io.specs.declared.Turn.{Turn}
-use Rattle.standard_io.specs.StandardIo.{gotOf, Quiet, byteCount, endAfter, afterShown, afterRead, TookRead, ReadOnce, isGoing, Reads, ReadToEnd, lastOf, lastStream, recordAfter, AfterInput}
+use Rattle.standard_io.specs.StandardIo.{gotOf, Quiet, byteCount, endAfter, afterShown, afterRead, TookRead, ReadOnce, isGoing, Reads, ReadToEnd, lastOf, lastEnd, afterLast, LastTurn, recordAfter, AfterInput, GotFrom, Filled, Over, ReadWhole}
 use Rattle.standard_io.specs.StandardIo.Reads.{before, next}
+use Rattle.standard_io.specs.StandardIo.Filled.{empty, more}
+use Rattle.standard_io.specs.StandardIo.Over.{full, ended, cut}
+use Rattle.standard_io.specs.declared.Whole.{Whole}
+
+no-end : {P : Type 0} → (_≡_ {A = ℕ} 0 1) → P
+no-end q = absurd (omega arith)
 
 -- ---------------------------------------------------------------- a chunk
 -- the bytes before i are taken
@@ -111,6 +118,10 @@ module _ (z : ℤ) (f : SFits w64 z) (most : ℕ) where
       go (pos k) q t c = let some : k ≡ 0 → ⊥ = λ p. e (rw (q, p)) in rw (ne-eqb k 0 some, c)
       go (negsuc k) q t c = absurd (let w : _≡_ {A = ℕ} 0 1 = cc in omega arith)
 
+-- the part of a buffer from a position on, after a read into it
+pub part-left : (input l : List ℕ) (at : ℕ) → length l ≡ length input → length (take (length l - at) (drop at l)) ≡ length input - at
+part-left input l at s = ap length (tail-is at l) ∙ length-drop at l ∙ ap (λ (n : ℕ). n - at) s
+
 -- no more bytes are taken than the buffer has
 pub got-within : (z : ℤ) (most : ℕ) (got : Got) → got ≡ gotOf z most → byteCount got ≤ most
 got-within (pos n) most got e =
@@ -119,6 +130,14 @@ got-within (negsuc n) most got e = rw e (omega arith)
 
 pub bytes-within : (got : Got) (n most : ℕ) → got ≡ Bytes n → byteCount got ≤ most → n ≤ most
 bytes-within got n most e h = rw e at h
+
+-- a read that gives bytes gives one at least, where there is room
+pub got-some : (z : ℤ) (most n : ℕ) → 0 < most → Bytes n ≡ gotOf z most → 0 < n
+got-some (pos k) most n h e =
+    by-test (λ (g : Got). Bytes n ≡ g → 0 < n) (eqb k 0)
+    (λ _ q. no-end (cc))
+    (λ t q. let m : n ≡ min k most = ap byteCount q in omega (arith, m, eqb-false k 0 t)) e
+got-some (negsuc k) most n h e = no-end (cc)
 
 -- by the read's answer
 pub shown-read : (s : Stream) (bytes : List ℕ) (n : ℕ) (got : Got) → got ≡ Bytes n → (prints : Bool) (p : Shown) → (p .stream ≡ fedAll s (take n bytes) .stream) × Quiet prints (p .written) → (r : Turn) → r ≡ afterShown p → TookRead prints s got bytes r
@@ -148,9 +167,6 @@ record Goes (prints : Bool) (s : Stream) (r : Turn) : Type 0 where
   fed : FedOn s (r .stream)
   table : r .end ≡ Table → isEnded (r .stream .place .stage) ≡ true
   quiet : prints ≡ false → r .end ≡ Unwritten → ⊥
-
-no-end : {P : Type 0} → (_≡_ {A = ℕ} 0 1) → P
-no-end q = absurd (omega arith)
 
 table-refused : (written refused : Bool) → endAfter written refused ≡ Table → refused ≡ true
 table-refused true true e = refl
@@ -205,13 +221,30 @@ module _ (s : Stream) (k : FedOn begun s) where
   last-record Unread h = so-far
   last-record Unwritten h = so-far
 
-pub ends-after : (prints : Bool) (t : Turn) → ReadToEnd prints t → (last : Stream) → last ≡ lastStream t → (e : Executive) → e ≡ last .place .executive → AfterInput prints (record { executive = e; end = t .end })
-ends-after prints t h last is e own =
+-- where nothing is printed the last line ends nothing otherwise
+last-quiet : (n : End) (written : Bool) → written ≡ true → lastEnd n written ≡ Unwritten → n ≡ Unwritten
+last-quiet Going written h e = no-end (cc)
+last-quiet Input true h e = no-end (cc)
+last-quiet Input false h e = no-end (cc)
+last-quiet Table written h e = no-end (cc)
+last-quiet Unread written h e = no-end (cc)
+last-quiet Unwritten written h e = refl
+
+pub ends-after : (prints : Bool) (t : Turn) → ReadToEnd prints t → (last : Turn) → LastTurn prints t last → (e : Executive) → e ≡ last .stream .place .executive → AfterInput prints (record { executive = e; end = last .end })
+ends-after prints t h last l e own =
     let g = reads-go prints (h .count) t (h .reads) in
+    let s = ap (λ (x : Turn). x .stream) (l .is) in
+    let n = ap (λ (x : Turn). x .end) (l .is) in
     record {
+      turn = t;
+      reads = h;
       read = g .fed .read;
-      quiet = g .quiet;
-      is = ap (λ (x : Executive). x .inner) own ∙ ap (λ (x : Stream). x .place .executive .inner) is ∙ last-record (t .stream) (g .fed) (t .end) (g .table);
+      fed = g .fed .is;
+      written = l .written;
+      wrote = l .quiet;
+      ends = n;
+      quiet = λ p u. g .quiet p (last-quiet (t .end) (l .written) (l .quiet p) (sym n ∙ u));
+      is = ap (λ (x : Executive). x .inner) own ∙ ap (λ (x : Stream). x .place .executive .inner) s ∙ last-record (t .stream) (g .fed) (t .end) (g .table);
     }
 
 -- ---------------------------------------------------------------- the last line
@@ -223,6 +256,16 @@ module _ (s : Stream) (out : List ℕ) (a : Advance) (went : a ≡ finishedOf s 
 
   pub last-closed : lineLength ≤ length out → a .stream ≡ closed s .stream
   last-closed enough = ap (λ (x : Advance). x .stream) went ∙ finished-closed s (length out) enough
+
+pub last-shown : (prints : Bool) (t : Turn) → t .end ≡ Input → (p : Shown) → (p .stream ≡ closed (t .stream) .stream) × Quiet prints (p .written) → (r : Turn) → r ≡ afterLast p → LastTurn prints t r
+last-shown prints t e p f r g = record { written = p .written; quiet = f .1; is = g ∙ rw (e, f .0) }
+
+-- where there is no last line the turn stays
+pub last-same : (prints : Bool) (t : Turn) (n : End) → t .end ≡ n → lastOf n (t .stream) ≡ t .stream → lastEnd n true ≡ n → LastTurn prints t t
+last-same prints t n e a b =
+    let s : t .stream ≡ lastOf (t .end) (t .stream) = rw e (sym a) in
+    let m : t .end ≡ lastEnd (t .end) true = rw e (sym b) in
+    record { written = true; quiet = λ _. refl; is = λ i. record { stream = s i; end = m i } }
 
 -- ---------------------------------------------------------------- the loop
 -- between two reads: so many are made, reading goes on, and the buffers have their size
@@ -252,3 +295,54 @@ module _ (prints : Bool) (input₀ out₀ : List ℕ) (turns₀ : ℕ) (t : Turn
 
     pub reading-ends : isGoing (u .end) ≡ false → ReadToEnd prints u
     reading-ends g = record { count = turns₀ - (turns - 1); reads = once-more; all = λ e. not-both (isGoing (u .end)) e g }
+
+-- ---------------------------------------------------------------- a whole input
+-- between two reads: so many bytes are held, and the buffer has its size
+pub record Filling (input₀ input : List ℕ) (at : ℕ) : Type 0 where
+  pub filled : Filled (length input₀) at
+  pub within : at ≤ length input₀
+  pub size : length input ≡ length input₀
+
+pub filling-begins : (input : List ℕ) → Filling input input 0
+filling-begins input = record { filled = empty; within = omega arith; size = refl }
+
+from-within : (most : ℕ) (got : Got) → GotFrom most got → byteCount got ≤ most
+from-within most got g = got-within (g .answer) most got (g .is)
+
+module _ (input₀ input : List ℕ) (at : ℕ) (k : Filling input₀ input at) (less : at < length input) (got : Got) (g : GotFrom (length input - at) got) where
+  got-left : GotFrom (length input₀ - at) got
+  got-left = rw (k .size) at g
+
+  short : at < length input₀
+  short = omega (arith, k .size)
+
+  module _ (n : ℕ) (e : got ≡ Bytes n) where
+    pub filling-within : at + n ≤ length input
+    filling-within = omega (arith, bytes-within got n (length input - at) e (from-within (length input - at) got g))
+
+    pub filling-some : 0 < n
+    filling-some = got-some (g .answer) (length input - at) n (omega arith) (sym e ∙ g .is)
+
+    pub filling-goes : (input′ : List ℕ) → length input′ ≡ length input → Filling input₀ input′ (at + n)
+    filling-goes input′ s = record {
+      filled = more at n (k .filled) short (rw e at got-left);
+      within = omega (arith, filling-within, k .size);
+      size = s ∙ k .size;
+    }
+
+  pub filling-ends : got ≡ Nothing → ReadWhole (length input₀) (record { length = at; failed = false })
+  filling-ends e = record { filled = k .filled; over = ended at short (rw e at got-left) }
+
+  pub filling-cut : got ≡ Failure → ReadWhole (length input₀) (record { length = at; failed = true })
+  filling-cut e = record { filled = k .filled; over = cut at short (rw e at got-left) }
+
+-- the bytes held lie at the front of the buffer
+pub filling-counts : (input₀ input : List ℕ) (at : ℕ) → Filling input₀ input at → (input′ : List ℕ) → length input′ ≡ length input → Counts at input′
+filling-counts input₀ input at k input′ s =
+    let within : at ≤ length input′ = omega (arith, k .within, k .size, s) in
+    (within, held-length _ _ within)
+
+pub filling-full : (input₀ input : List ℕ) (at : ℕ) → Filling input₀ input at → length input ≤ at → ReadWhole (length input₀) (record { length = at; failed = false })
+filling-full input₀ input at k h =
+    let q : at ≡ length input₀ = omega (arith, k .within, k .size) in
+    record { filled = k .filled; over = rw q full }

@@ -1,5 +1,5 @@
 -- What the system gives is free: what a read answers, the bytes that it leaves in the buffer, whether a write succeeds. The rest is settled by it.
-use Prim.Native.Nat.{ℕ, suc, min}
+use Prim.Native.Nat.{ℕ, suc, _+_, _-_, _<_, min}
 use mathlib.Core.Path.{_≡_}
 use mathlib.Core.Bool.{Bool, true, false, cond, not, _&&_}
 use mathlib.Core.List.{List}
@@ -17,6 +17,7 @@ use Rattle.standard_io.specs.declared.End.the-variants.{Going, Input, Ta
 use Rattle.standard_io.specs.declared.Shown.{Shown}
 use Rattle.standard_io.specs.declared.Turn.{Turn}
 use Rattle.standard_io.specs.declared.Replayed.{Replayed}
+use Rattle.standard_io.specs.declared.Whole.{Whole}
 
 -- what the answer of a read means: so many bytes at the front of a buffer of this length, at 0 the input's end, below 0 a failure
 abbrev pub gotOf : ℤ → ℕ → Got
@@ -83,8 +84,25 @@ lastOf Table s = s
 lastOf Unread s = s
 lastOf Unwritten s = s
 
-abbrev pub lastStream : Turn → Stream
-lastStream t = lastOf (t .end) (t .stream)
+-- at the input's end: a last line that cannot be written is a failed write too
+abbrev pub inputEnd : Bool → End
+inputEnd written = cond written Input Unwritten
+
+abbrev pub lastEnd : End → Bool → End
+lastEnd Going written = Going
+lastEnd Input written = inputEnd written
+lastEnd Table written = Table
+lastEnd Unread written = Unread
+lastEnd Unwritten written = Unwritten
+
+abbrev pub afterLast : Shown → Turn
+afterLast p = record { stream = p .stream; end = inputEnd (p .written) }
+
+-- the last line was taken, where there is one; whether it could be written is free, if it is printed
+pub record LastTurn (prints : Bool) (t r : Turn) : Type 0 where
+  pub written : Bool
+  pub quiet : Quiet prints written
+  pub is : r ≡ record { stream = lastOf (t .end) (t .stream); end = lastEnd (t .end) written }
 
 -- the record after the bytes read: at the input's end and after a refused table that of the whole input; else that of the lines that are
 -- complete, since a line that a failure cut is no line of the input
@@ -95,8 +113,36 @@ recordAfter Table read = replayedRecord read
 recordAfter Unread read = fedAll begun read .stream .place .executive .inner
 recordAfter Unwritten read = fedAll begun read .stream .place .executive .inner
 
--- a replay of the bytes read
+-- a replay of the bytes read. Free are the reads up to where reading ended, with what was read, and whether the last line could be written;
+-- why the replay ended and the record are settled by them
 pub record AfterInput (prints : Bool) (r : Replayed) : Type 0 where
+  pub turn : Turn
+  pub reads : ReadToEnd prints turn
   pub read : List ℕ
+  pub fed : turn .stream ≡ fedAll begun read .stream
+  pub written : Bool
+  pub wrote : Quiet prints written
+  pub ends : r .end ≡ lastEnd (turn .end) written
   pub quiet : prints ≡ false → r .end ≡ Unwritten → ⊥
-  pub is : r .executive .inner ≡ recordAfter (r .end) read
+  pub is : r .executive .inner ≡ recordAfter (turn .end) read
+
+-- ---------------------------------------------------------------- whole inputs
+-- what a read into so many bytes gave; its answer is free
+pub record GotFrom (most : ℕ) (got : Got) : Type 0 where
+  pub answer : ℤ
+  pub is : got ≡ gotOf answer most
+
+-- reads one after another, each into what is left of a buffer, gave so many bytes
+pub data Filled (most : ℕ) : ℕ → Type 0 where
+  empty : Filled most 0
+  more : (at n : ℕ) → Filled most at → at < most → GotFrom (most - at) (Bytes n) → Filled most (at + n)
+
+-- why no further read was made: the buffer is full, or the last read gave the input's end, or it failed
+pub data Over (most : ℕ) : Whole → Type 0 where
+  full : Over most (record { length = most; failed = false })
+  ended : (at : ℕ) → at < most → GotFrom (most - at) Nothing → Over most (record { length = at; failed = false })
+  cut : (at : ℕ) → at < most → GotFrom (most - at) Failure → Over most (record { length = at; failed = true })
+
+pub record ReadWhole (most : ℕ) (r : Whole) : Type 0 where
+  pub filled : Filled most (r .length)
+  pub over : Over most r

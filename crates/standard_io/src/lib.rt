@@ -1,11 +1,12 @@
-// Replay from standard input to standard output, in constant memory. No contract can say which bytes are read or written, or whether the
-// system fails; what is done with what a read gives is settled.
+// Standard input and standard output: a replay in constant memory, and an input that is held whole. No contract can say which bytes are read
+// or written, or whether the system fails; what is done with what a read gives is settled. A failed read or write is told on standard error.
 ghost use mathlib.Core.Path.{_≡_};
-ghost use Prim.Native.Nat.{_≤_};
+ghost use Prim.Native.Nat.{_-_, _≤_};
 ghost use lib.ListN.{length};
 ghost use Rattle.machine.specs.Limits.{lineLength};
 ghost use Rattle.stream.specs.Stream.{fedAll, closed};
-ghost use Rattle.standard_io.specs.StandardIo.{gotOf, Quiet, endAfter, afterShown, byteCount, TookRead, ReadOnce, isGoing, ReadToEnd, lastStream, AfterInput};
+ghost use Rattle.io.specs.Counts.{Counts};
+ghost use Rattle.standard_io.specs.StandardIo.{gotOf, Quiet, endAfter, afterShown, byteCount, TookRead, ReadOnce, isGoing, ReadToEnd, inputEnd, afterLast, LastTurn, AfterInput, GotFrom, ReadWhole};
 use executive::Executive;
 use libc::STDERR_FILENO;
 use libc::STDIN_FILENO;
@@ -44,6 +45,12 @@ struct Turn {
 pub struct Replayed {
     pub executive: Executive,
     pub end: End,
+}
+
+// How many bytes of an input lie at the front of a buffer, and whether a read failed after them.
+pub struct Whole {
+    pub length: usize,
+    pub failed: bool,
 }
 
 // ---------------------------------------------------------------- output
@@ -175,40 +182,58 @@ fn read_all(prints: bool) -> Turn
 
 // ---------------------------------------------------------------- the end
 // The stream after the last line, which is printed.
-fn print_last(s: Stream, prints: bool) -> Stream
-    ensures { λ r. ⌜ r ≡ closed s .stream ⌝ }
+fn print_last(s: Stream, prints: bool) -> Shown
+    ensures { λ r. ⌜ (r .stream ≡ closed s .stream) × Quiet prints (r .written) ⌝ }
 {
     let mut out = io::large_buffer();
     let a = s.finish(&mut out);
-    print(prints, &out, a.printed);
-    a.stream
+    let written = print(prints, &out, a.printed);
+    let stream = a.stream;
+    Shown { stream, written }
+}
+
+// Why the replay ended where the last line was printed.
+fn input_end(written: bool) -> End
+    ensures { λ r. ⌜ r ≡ inputEnd written ⌝ }
+{
+    if written { End::Input } else { End::Unwritten }
+}
+
+fn after_last(p: Shown) -> Turn
+    ensures { λ r. ⌜ r ≡ afterLast p ⌝ }
+{
+    let stream = p.stream;
+    let end = input_end(p.written);
+    Turn { stream, end }
 }
 
 // At the input's end the bytes after the last LF are a line; a line that a failure cut is none.
-fn last_stream(t: Turn, prints: bool) -> Stream
-    ensures { λ r. ⌜ r ≡ lastStream t ⌝ }
+fn last_turn(t: Turn, prints: bool) -> Turn
+    ensures { λ r. ⌜ LastTurn prints t r ⌝ }
 {
     let s = t.stream;
     let end = t.end;
     match end {
-        End::Input => print_last(s, prints),
-        End::Going => s,
-        End::Table => s,
-        End::Unread => s,
-        End::Unwritten => s,
+        End::Input => after_last(print_last(s, prints)),
+        End::Going => t,
+        End::Table => t,
+        End::Unread => t,
+        End::Unwritten => t,
     }
 }
 
-// Says on standard error that a read failed.
-fn report(end: End) {
+// Says on standard error that a read or a write failed.
+pub fn report(end: End) {
     match end {
         End::Unread => {
             io::write_all(STDERR_FILENO, b"the input cannot be read\n");
         }
+        End::Unwritten => {
+            io::write_all(STDERR_FILENO, b"the output cannot be written\n");
+        }
         End::Going => {}
         End::Input => {}
         End::Table => {}
-        End::Unwritten => {}
     }
 }
 
@@ -216,12 +241,61 @@ fn report(end: End) {
 pub fn replay(prints: bool) -> Replayed
     ensures { λ r. ⌜ AfterInput prints r ⌝ }
 {
-    let t = read_all(prints);
+    let t = last_turn(read_all(prints), prints);
     let end = t.end;
     report(end);
-    let last = last_stream(t, prints);
+    let s = t.stream;
     Replayed {
-        executive: last.executive(),
+        executive: s.executive(),
         end,
+    }
+}
+
+// ---------------------------------------------------------------- whole inputs
+// One read into a buffer from a position on.
+fn read_from(input: &mut [u8], at: usize) -> Got
+    requires { ⌜ at ≤ length (now input) ⌝ }
+    ensures { λ r. ⌜ GotFrom (length (now (input .entry)) - at) r ⌝ }
+{
+    let answer = libc::read(STDIN_FILENO, &mut input[at..]);
+    got_of(answer, &input[at..])
+}
+
+// Reads a whole input into a buffer: until it is full, the input ends, or a read fails, which standard error is told.
+pub fn read_whole(input: &mut [u8]) -> Whole
+    ensures { λ r. ⌜ ReadWhole (length (now (input .entry))) r ⌝ }
+    ensures { λ r. ⌜ Counts (r .length) (now (input .exit)) ⌝ }
+{
+    let mut at: usize = 0;
+    while at < input.len() {
+        match read_from(input, at) {
+            Got::Bytes(n) => {
+                at += n;
+            }
+            Got::Nothing => {
+                return Whole {
+                    length: at,
+                    failed: false,
+                };
+            }
+            Got::Failure => {
+                report(End::Unread);
+                return Whole {
+                    length: at,
+                    failed: true,
+                };
+            }
+        }
+    }
+    Whole {
+        length: at,
+        failed: false,
+    }
+}
+
+// Writes a whole output; standard error is told where it cannot be written.
+pub fn write_whole(text: &[u8]) {
+    if !io::write_all(STDOUT_FILENO, text) {
+        report(End::Unwritten);
     }
 }

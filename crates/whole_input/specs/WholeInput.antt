@@ -4,7 +4,7 @@ use mathlib.Core.Path.{_≡_}
 use mathlib.Core.Bool.{cond}
 use mathlib.Core.List.{List}
 use lib.ListN.{length, take}
-use lib.Dec.{leb, eqb}
+use lib.Dec.{leb, ltb, eqb}
 use Rattle.machine.specs.Limits.{lineLength}
 use Rattle.machine.specs.Line.{lineRefusal, canWrite, written}
 use Rattle.machine.specs.Replay.{refusalNumbers, replayed, textCode}
@@ -43,3 +43,15 @@ printedText text room = record {
 -- of a replay
 abbrev pub printed : List ℕ → ℕ → Printed
 printed input room = printedText (replayed input) room
+
+-- ---------------------------------------------------------------- programs
+-- the bytes that a program holds of its input; an input that fills them is too long: 11, and nothing is written
+abbrev pub wholeLimit : ℕ
+wholeLimit = 131072
+
+abbrev pub heldPrinted : ℕ → Printed → Printed
+heldPrinted n r = cond (ltb n wholeLimit) r noRoom
+
+-- the output then, from what is written into it where the input is held
+abbrev pub heldInto : ℕ → List ℕ → List ℕ → List ℕ
+heldInto n text out = cond (ltb n wholeLimit) text out

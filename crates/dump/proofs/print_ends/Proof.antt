@@ -11,4 +11,4 @@ abbrev μ-loop : tie.MeasureT-loop
 μ-loop table k p end count n₀ n = count - n
 
 pub print-ends-spec : {M : Type 1} → statement M
-print-ends-spec = tie.close (tie.spec Inv-loop μ-loop (λ c. tt) (λ _ _. tt) (λ c. omega arith) (λ c. omega arith) (λ c. tt) (λ c. tt) (λ c. tt))
+print-ends-spec = tie.close (tie.spec Inv-loop μ-loop (λ c. tt) (λ _ _. tt) (λ c. tt) (λ c. omega arith) (λ c. omega arith) (λ c. tt) (λ c. tt) (λ c. tt))

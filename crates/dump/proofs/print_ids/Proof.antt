@@ -12,4 +12,4 @@ abbrev μ-loop : tie.MeasureT-loop
 μ-loop q n i₀ t4 i = n - i
 
 pub print-ids-spec : {M : Type 1} → statement M
-print-ids-spec = tie.close (tie.spec Inv-loop μ-loop (λ c. tt) (λ _ _. tt) (λ c. omega arith) (λ c. omega arith) (λ c. tt) (λ c. search needs) (λ _ _. tt) (λ c. tt))
+print-ids-spec = tie.close (tie.spec Inv-loop μ-loop (λ c. tt) (λ _ _. tt) (λ c. tt) (λ c. omega arith) (λ c. omega arith) (λ c. tt) (λ c. search needs) (λ _ _. tt) (λ c. tt))

@@ -11,4 +11,4 @@ abbrev μ-loop : tie.MeasureT-loop
 μ-loop p item n id₀ id = n - id
 
 pub print-items-spec : {M : Type 1} → statement M
-print-items-spec = tie.close (tie.spec Inv-loop μ-loop (λ c. tt) (λ _ _. tt) (λ c. omega arith) (λ c. omega arith) (λ c. tt) (λ c. tt) (λ c. tt))
+print-items-spec = tie.close (tie.spec Inv-loop μ-loop (λ c. tt) (λ _ _. tt) (λ c. tt) (λ c. omega arith) (λ c. omega arith) (λ c. tt) (λ c. tt) (λ c. tt))

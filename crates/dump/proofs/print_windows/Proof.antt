@@ -11,4 +11,4 @@ abbrev μ-loop : tie.MeasureT-loop
 μ-loop m n i₀ i = n - i
 
 pub print-windows-spec : {M : Type 1} → statement M
-print-windows-spec = tie.close (tie.spec Inv-loop μ-loop (λ c. tt) (λ _ _. tt) (λ c. omega arith) (λ c. omega arith) (λ c. tt) (λ c. tt))
+print-windows-spec = tie.close (tie.spec Inv-loop μ-loop (λ c. tt) (λ _ _. tt) (λ c. tt) (λ c. omega arith) (λ c. omega arith) (λ c. tt) (λ c. tt))

@@ -4,7 +4,7 @@ use Rattle.standard_io.proofs.replay.Statement.{statement}
 use Rattle.standard_io.proofs.replay.Tie as tie
 
 returns : tie.Need-returns
-returns c = ends-after _ _ (c .before .before .before .read-all .ensures) _ (c .before .last-stream .ensures) _ (c .executive .ensures)
+returns c = ends-after _ _ (c .before .before .before .before .read-all .ensures) _ (c .before .before .before .last-turn .ensures) _ (c .executive .ensures)
 
 pub replay-spec : {M : Type 1} → statement M
 replay-spec =

@@ -111,11 +111,19 @@ touches (Handed o m) = true
 touches (LevelSet level holder) = false
 touches (Entered d) = true
 
+-- TIMED_WAIT that is not refused and does not wait puts its caller last, SET_PRIORITY a READY process, and no other call puts one last
+abbrev pub PutLast : Context → Request → Partition → ℕ → Change → Change → Type 0
+PutLast c r p j a b =
+    let id = numberOf (r .a) in
+    cond (eqb j 9) ((a ≡ Last (c .caller)) × (b ≡ Nothing))
+    (cond (eqb j 12) ((a ≡ Stored id (withCurrent (numberOf (r .b)) (process id p))) × (b ≡ cond (ready (process id p)) (Last id) Nothing))
+    ((lastOf a ≡ 0) × (lastOf b ≡ 0)))
+
 -- calls 1, 3 to 7, 11 and 12, which act on a process that they name, or on all of a partition
 abbrev pub told : ℕ → Bool
 told j = eqb j 1 || ((leb 3 j && leb j 7) || (eqb j 11 || eqb j 12))
 
--- what call j decides of processes, which one of its changes reaches at most: TIMED_WAIT's first change alone, and SET_PRIORITY's second alone, put one last, where they are not refused and do not wait
+-- what call j decides of processes, which one of its changes reaches at most
 abbrev pub Acts : Context → Request → Partition → ℕ → Decision → Type 0
 Acts c r p j (Refused n) = Unit {0}
 Acts c r p j (Unchanged v e) = (eqb j 9 || told j) ≡ false
@@ -123,7 +131,7 @@ Acts c r p j Ticked = ⊥
 Acts c r p j (Blocked id y) = (id ≡ c .caller) × (normalMode p ≡ true) × Begins r j (process id p) y
 Acts c r p j (Changed a b v) =
     Makes c r p j a × Makes c r p j b × ((touches b && touches a) ≡ false) × ((told j && not (touches a || touches b)) ≡ false)
-    × (lastOf a ≡ cond (eqb j 9) (c .caller) 0) × (lastOf b ≡ cond (eqb j 12 && ready (process (numberOf (r .a)) p)) (numberOf (r .a)) 0)
+    × PutLast c r p j a b
 Acts c r p j (Restarted mode) = (j ≡ 1) × (r .a ≡ Number mode) × (mode ≤ 2)
 Acts c r p j (Written i x) = j ≡ 21
 Acts c r p j (PassedOn i a v) = (j ≡ 30) ⊎ (j ≡ 31)
@@ -134,10 +142,6 @@ pub record Act (c : Context) (r : Request) (p : Partition) (j : ℕ) (d : Decisi
 infixr 20 _and_
 _and_ : {A B : Type 0} → A → B → A × B
 a and b = (a, b)
-
-last-if : (b : Bool) (id : ℕ) → lastOf (cond b (Last id) Nothing) ≡ cond b id 0
-last-if true id = refl
-last-if false id = refl
 
 last-off : (b : Bool) (id : ℕ) → touches (cond b (Last id) Nothing) ≡ false
 last-off true id = refl
@@ -172,7 +176,7 @@ module _ (c : Context) (x : Port) (r : Request) (p : Partition) (placed : x .exi
   -- START and DELAYED_START
   begins : (j : ℕ) → (j ≡ 3) ⊎ (j ≡ 4) → (delay : Field) → eqb j 9 ≡ false → eqb j 12 ≡ false → P j (start c (numberOf (r .a)) delay p)
   unfolding start Passed
-  begins j is delay n o = checks j _ _ (λ h. fine (starts is refl (not-true _ (not-false _ (h .1 .1 .0))) (numberOf delay) refl, tt, refl, and-false (told j), rw n, rw o))
+  begins j is delay n o = checks j _ _ (λ h. fine (starts is refl (not-true _ (not-false _ (h .1 .1 .0))) (numberOf delay) refl, tt, refl, and-false (told j), rw (n, o) (refl, refl)))
 
   live : (y : Process) → (not (y .started) || periodic y) ≡ false → y .started ≡ true
   live y h = not-false (y .started) (or-left (not (y .started)) (periodic y) h)
@@ -194,39 +198,39 @@ module _ (c : Context) (x : Port) (r : Request) (p : Partition) (placed : x .exi
   each-acts : Each (λ j (s : Service). P j (s .decides c x r p)) 1 services
   unfolding Each services setMode createProcess start stop stopSelf suspend suspendSelf timedWait periodicWait resume setPriority getStatus createSemaphore createEvent blocked waitSemaphore waitEvent signal setEvent resetEvent write read createBuffer sendBuffer receiveBuffer createBlackboard show readBlackboard clear send receive lockPreemption unlockPreemption getTicksLeft Passed
   each-acts =
-      checks 1 _ _ (λ h. by-test (P 1) (isNumber 3 (r .a)) (λ e. fine ((refl, e), tt, refl, refl, refl, refl)) (λ e. let m = mode-low (r .a) (not-false _ (h .0)) e in fine (refl, m .0, m .1)))
-      and checks 2 _ _ (λ _. fine (refl, tt, refl, refl, refl, refl))
+      checks 1 _ _ (λ h. by-test (P 1) (isNumber 3 (r .a)) (λ e. fine ((refl, e), tt, refl, refl, (refl, refl))) (λ e. let m = mode-low (r .a) (not-false _ (h .0)) e in fine (refl, m .0, m .1)))
+      and checks 2 _ _ (λ _. fine (refl, tt, refl, refl, (refl, refl)))
       and begins 3 (inl refl) (Number 0) refl refl
       and begins 4 (inr refl) (r .b) refl refl
-      and checks 5 _ _ (λ h. fine (stops refl refl (not-false _ (h .1 .1 .0)) refl, tt, refl, refl, refl, refl))
-      and checks 6 _ _ (λ h. fine (tt, stopsSelf refl refl (not-false _ (h .0)) refl, refl, refl, refl, refl))
-      and checks 7 _ _ (λ h. fine (marks refl refl (live (process (numberOf (r .a)) p) (h .1 .1 .0)) (h .1 .1 .1 .0) refl, tt, refl, refl, refl, refl))
+      and checks 5 _ _ (λ h. fine (stops refl refl (not-false _ (h .1 .1 .0)) refl, tt, refl, refl, (refl, refl)))
+      and checks 6 _ _ (λ h. fine (tt, stopsSelf refl refl (not-false _ (h .0)) refl, refl, refl, (refl, refl)))
+      and checks 7 _ _ (λ h. fine (marks refl refl (live (process (numberOf (r .a)) p) (h .1 .1 .0)) (h .1 .1 .1 .0) refl, tt, refl, refl, (refl, refl)))
       and checks 8 _ _ (λ h. by-test (P 8) (isNumber 0 (r .a)) (λ _. fine refl) (λ _. checks 8 _ _ (λ _. fine (refl, not-false _ (or-left (startMode p) _ (h .0)), suspends refl _ refl))))
-      and checks 9 _ _ (λ h. by-test (P 9) (isNumber 0 (r .a)) (λ _. fine (tt, tt, refl, refl, refl, refl)) (λ _. checks 9 _ _ (λ _. fine (refl, not-false _ (h .0), waits refl (inl refl) _ refl refl))))
+      and checks 9 _ _ (λ h. by-test (P 9) (isNumber 0 (r .a)) (λ _. fine (tt, tt, refl, refl, (refl, refl))) (λ _. checks 9 _ _ (λ _. fine (refl, not-false _ (h .0), waits refl (inl refl) _ refl refl))))
       and checks 10 _ _ (λ h. checks 10 _ _ (λ _. fine (refl, not-false _ (or-left (startMode p) _ (h .0)), releases refl (not-false _ (or-right (startMode p) _ (h .0))) refl)))
-      and checks 11 _ _ (λ h. fine (resumes refl refl (live (process (numberOf (r .a)) p) (h .1 .1 .0)) (not-false _ (h .1 .1 .1 .0)) refl, tt, refl, refl, refl, refl))
-      and checks 12 _ _ (λ h. fine (ranks refl refl (not-false _ (h .1 .1 .0)) (in-limits 1 priorityLimit (r .b) (not-false _ (h .1 .0)) .0) refl, by-test (Makes c r p 12) (ready (process (numberOf (r .a)) p)) (λ _. tt) (λ _. tt), rw (last-off (ready (process (numberOf (r .a)) p)) (numberOf (r .a))), refl, refl, last-if (ready (process (numberOf (r .a)) p)) (numberOf (r .a))))
+      and checks 11 _ _ (λ h. fine (resumes refl refl (live (process (numberOf (r .a)) p) (h .1 .1 .0)) (not-false _ (h .1 .1 .1 .0)) refl, tt, refl, refl, (refl, refl)))
+      and checks 12 _ _ (λ h. fine (ranks refl refl (not-false _ (h .1 .1 .0)) (in-limits 1 priorityLimit (r .b) (not-false _ (h .1 .0)) .0) refl, by-test (Makes c r p 12) (ready (process (numberOf (r .a)) p)) (λ _. tt) (λ _. tt), rw (last-off (ready (process (numberOf (r .a)) p)) (numberOf (r .a))), refl, (refl, refl)))
       and checks 13 _ _ (λ _. fine refl)
-      and checks 14 _ _ (λ _. fine (tt, tt, refl, refl, refl, refl))
-      and awaits 15 _ _ _ _ _ _ _ refl refl (λ h. (refl, some _ (h .0))) (λ _. fine (tt, tt, refl, refl, refl, refl))
-      and checks 16 _ _ (λ h. let s = signals (some _ (h .0)) _ refl in fine (s .0, tt, refl, refl, s .1, refl))
-      and checks 17 _ _ (λ _. fine (tt, tt, refl, refl, refl, refl))
-      and checks 18 _ _ (λ h. fine (tt, (refl, refl, some _ (h .0)), refl, refl, refl, refl))
-      and checks 19 _ _ (λ _. fine (tt, tt, refl, refl, refl, refl))
+      and checks 14 _ _ (λ _. fine (tt, tt, refl, refl, (refl, refl)))
+      and awaits 15 _ _ _ _ _ _ _ refl refl (λ h. (refl, some _ (h .0))) (λ _. fine (tt, tt, refl, refl, (refl, refl)))
+      and checks 16 _ _ (λ h. let s = signals (some _ (h .0)) _ refl in fine (s .0, tt, refl, refl, (s .1, refl)))
+      and checks 17 _ _ (λ _. fine (tt, tt, refl, refl, (refl, refl)))
+      and checks 18 _ _ (λ h. fine (tt, (refl, refl, some _ (h .0)), refl, refl, (refl, refl)))
+      and checks 19 _ _ (λ _. fine (tt, tt, refl, refl, (refl, refl)))
       and awaits 20 _ _ _ _ _ _ _ refl refl (λ h. (refl, some _ (h .0))) (λ _. fine refl)
       and checks 21 _ _ (λ _. checks 21 _ _ (λ _. fine refl))
       and checks 22 _ _ (λ _. checks 22 _ _ (λ _. fine refl))
-      and checks 23 _ _ (λ _. fine (tt, tt, refl, refl, refl, refl))
-      and awaits 24 _ _ _ _ _ _ _ refl refl (λ h. (refl, some _ (h .0))) (λ h. fine (sends refl refl (some _ (h .0)) _ refl, tt, refl, refl, refl, refl))
-      and awaits 25 _ _ _ _ _ _ _ refl refl (λ h. (refl, some _ (h .0))) (λ h. fine (receives refl refl (some _ (h .0)) _ refl, tt, refl, refl, refl, refl))
-      and checks 26 _ _ (λ _. fine (tt, tt, refl, refl, refl, refl))
-      and checks 27 _ _ (λ h. fine (tt, (refl, refl, some _ (h .0)), refl, refl, refl, refl))
+      and checks 23 _ _ (λ _. fine (tt, tt, refl, refl, (refl, refl)))
+      and awaits 24 _ _ _ _ _ _ _ refl refl (λ h. (refl, some _ (h .0))) (λ h. fine (sends refl refl (some _ (h .0)) _ refl, tt, refl, refl, (refl, refl)))
+      and awaits 25 _ _ _ _ _ _ _ refl refl (λ h. (refl, some _ (h .0))) (λ h. fine (receives refl refl (some _ (h .0)) _ refl, tt, refl, refl, (refl, refl)))
+      and checks 26 _ _ (λ _. fine (tt, tt, refl, refl, (refl, refl)))
+      and checks 27 _ _ (λ h. fine (tt, (refl, refl, some _ (h .0)), refl, refl, (refl, refl)))
       and awaits 28 _ _ _ _ _ _ _ refl refl (λ h. (refl, some _ (h .0))) (λ _. fine refl)
-      and checks 29 _ _ (λ _. fine (tt, tt, refl, refl, refl, refl))
+      and checks 29 _ _ (λ _. fine (tt, tt, refl, refl, (refl, refl)))
       and awaits 30 _ _ _ _ _ _ _ refl refl (λ h. let at = placed-at _ _ h in (ap (λ k. Source k (numberOf (r .b))) at, λ z. omega arith)) (λ _. fine (inl refl))
       and awaits 31 _ _ _ _ _ _ _ refl refl (λ h. let at = placed-at _ _ h in (ap Destination at, λ z. omega arith)) (λ _. fine (inr refl))
-      and checks 32 _ _ (λ _. fine (tt, tt, refl, refl, refl, refl))
-      and checks 33 _ _ (λ _. fine (tt, tt, refl, refl, refl, refl))
+      and checks 32 _ _ (λ _. fine (tt, tt, refl, refl, (refl, refl)))
+      and checks 33 _ _ (λ _. fine (tt, tt, refl, refl, (refl, refl)))
       and fine refl
       and tt
 

@@ -57,4 +57,5 @@ pub mod EachProcess
 pub mod ProcessStates
 pub mod Priorities
 pub mod Periods
+pub mod Arrivals
 pub mod TableLines

@@ -245,7 +245,7 @@ asleep-in frame t p v id off = either (contains id (idsFrom (p .processCount) 1)
 
 -- ---------------------------------------------------------------- a tick
 -- an event of no partition that is not refused is a tick
-tick-state : (m : Module) (e : EventT) → e .partition ≡ pos 0 → step m e .answer .code ≡ 0 → step m e .state ≡ tickModule m
+pub tick-state : (m : Module) (e : EventT) → e .partition ≡ pos 0 → step m e .answer .code ≡ 0 → step m e .state ≡ tickModule m
 unfolding step
 tick-state m e by z =
     let r = requestOf e in

@@ -36,4 +36,5 @@ pub mod EachProcess
 pub mod ProcessStates
 pub mod Priorities
 pub mod Periods
+pub mod Arrivals
 pub mod TableLines

@@ -1,23 +1,18 @@
--- The order of the arrival list: each change, every event. Assumes nothing.
+-- The order of the arrival list: every event. Assumes nothing.
 use Prim.Native.Nat.{ℕ, _+_, _-_, _≤_, _<_}
 use mathlib.Core.Path.{_≡_, refl, sym, ap, subst, _∙_}
-use mathlib.Core.Bool.{Bool, true, false, cond, not, _&&_, _||_, and-true, and-false, or-true, or-false, true≢false}
-use mathlib.Core.List.{List, [], _∷_, _++_, append-nil, append-assoc}
+use mathlib.Core.Bool.{Bool, true, false, cond, not, _&&_, _||_, and-false, or-true, true≢false}
+use mathlib.Core.List.{List, [], _∷_, _++_, append-nil}
 use mathlib.Core.Logic.{_⊎_, ⊎-elim}
 use native.Mathlib.Omega.{arith}
 use lib.ListN.{take}
 use lib.Dec.{eqb, leb}
 use lib.IntN.{pos}
 use borrow.Author.Tests.{eq-eqb, ne-eqb, eqb-true, not-false}
-use Rattle.machine.specs.declared.Ids.{Ids}
-use Rattle.machine.specs.declared.Process.{Process}
 use Rattle.machine.specs.declared.Partition.{Partition}
-use Rattle.machine.specs.declared.Context.{Context}
-use Rattle.machine.specs.declared.Buffer.{Buffer}
 use Rattle.machine.specs.declared.Transfer.{Transfer}
-use Rattle.machine.specs.declared.Transfer.the-variants.{Put, HandedTo, Taken, LetIn}
 use Rattle.machine.specs.declared.Change.{Change}
-use Rattle.machine.specs.declared.Change.the-variants.{Nothing, Stored, Created, Last, StoredSemaphore, StoredEvent, CreatedBuffer, Moved, StoredBlackboard, Ended, Handed, LevelSet, Entered}
+use Rattle.machine.specs.declared.Change.the-variants.{Nothing, Stored, Last}
 use Rattle.machine.specs.declared.Request.{Request}
 use Rattle.machine.specs.declared.Decision.{Decision}
 use Rattle.machine.specs.declared.Decision.the-variants.{Refused, Unchanged, Ticked, Blocked, Changed, Restarted, Written, Passed as PassedOn}
@@ -25,10 +20,10 @@ use Rattle.machine.specs.declared.Field.the-variants.{Number}
 use Rattle.machine.specs.declared.Wait.the-variants.{Source}
 use Rattle.machine.specs.declared.Event.{Event as EventT}
 use Rattle.machine.specs.declared.Module.{Module}
-use Rattle.machine.specs.Ids.{members, keptIf, kept, other}
-use Rattle.machine.specs.Limits.{callLimit, processLimit, semaphoreLimit, eventLimit, bufferLimit, blackboardLimit, modeLimit, channelLimit}
-use Rattle.machine.specs.Process.{blankProcess, withCurrent, ticked, ready, served, handed, entered, object}
-use Rattle.machine.specs.Partition.{arrivedLast, normalMode, noted, running, tickPartition, within, byId, process, stored, created, storedSemaphore, storedEvent, storedBuffer, storedBlackboard, emptyBuffer, movedIn, endedBy, buffer, waiters, changedAll, each, withMode, enteredNormal, applied, nothingCreated}
+use Rattle.machine.specs.Ids.{members, kept, other}
+use Rattle.machine.specs.Limits.{processLimit, modeLimit, channelLimit}
+use Rattle.machine.specs.Process.{blankProcess, withCurrent, ticked, ready, served, object}
+use Rattle.machine.specs.Partition.{arrivedLast, normalMode, noted, running, tickPartition, process, stored, endedBy, waiters, changedAll, applied, nothingCreated}
 use Rattle.machine.specs.Fields.{requestOf, numberOf}
 use Rattle.machine.specs.Module.{noPartition, part, withPart, channel, queue, withQueue}
 use Rattle.machine.specs.Places.{malformed, ticks}
@@ -41,190 +36,27 @@ use Rattle.machine.specs.Starred.{own}
 use Rattle.machine.specs.EachCall.{idOf}
 use Rattle.machine.specs.Arrivals.{movedAt, movedBy, ArrivalAfter, Arrivals}
 use Rattle.machine.specs.Valid.{SoundModule, SoundDecision, Between, contains, Distinct, ListedIn, Valid, SoundContext, SoundChange, SoundEnd, Reached}
-use Rattle.machine.specs.Plain.{followed, idsFrom, plainNumber}
+use Rattle.machine.specs.Plain.{idsFrom, plainNumber}
 use Rattle.machine.proofs.Tests.{by-test, not-both, or-left, or-right}
 use Rattle.machine.proofs.Either.{either}
-use Rattle.machine.proofs.Bounds.{not-so, same-or-not, within-in, buffer-in, named-replicate}
-use Rattle.machine.proofs.Lists.{kept-snoc, members-idsOf}
-use Rattle.machine.proofs.Flows.{kept-append}
-use Rattle.machine.proofs.Tracking.{contains-kept, kept-same, kept-kept, kept-all, kept-no}
-use Rattle.machine.proofs.Keeping.{AllCreated, process-other, process-stored, stored-rest, rest-count, stored-listed, changed-process, process-created, each-changed, from-range, distinct-from}
-use Rattle.machine.proofs.Kept.{change-valid, end-same, waiters-created, waiters-distinct, firsts-created, firsts-distinct, take-in, waiters-on, nothing-valid}
-use Rattle.machine.proofs.Queues.{stored-arrival, followed-same}
-use Rattle.machine.proofs.Acts.{lastOf, touches, Acts, call-acts}
-use Rattle.machine.proofs.Turns.{untouched, id-of}
+use Rattle.machine.proofs.Bounds.{not-so, same-or-not, named-replicate}
+use Rattle.machine.proofs.Tracking.{contains-kept, kept-no}
+use Rattle.machine.proofs.Keeping.{process-stored, stored-listed, changed-process, each-changed, from-range, distinct-from}
+use Rattle.machine.proofs.Kept.{change-valid, firsts-created, firsts-distinct, take-in, waiters-on, nothing-valid}
+use Rattle.machine.proofs.Queues.{readyIn, becomesReady, arrive-all, stored-arrival, followed-same}
+use Rattle.machine.proofs.Acts.{lastOf, touches, Acts, event-partition, event-call, made-acts}
+use Rattle.machine.proofs.Alike.{untouched}
+use Rattle.machine.proofs.Turns.{id-of}
 use Rattle.machine.proofs.EachProcess.{ticked-part}
-use Rattle.machine.proofs.Plain.{arrived-plain}
 use Rattle.machine.proofs.Fields.{between-zero, in-limits}
 use Rattle.machine.proofs.Sound.{object-not-ready}
 use Rattle.machine.proofs.Bodies.{OnQueue, Bodily}
 use Rattle.machine.proofs.ProcessStates.{tick-state}
 use Rattle.machine.proofs.Answers.{step-table}
-use Rattle.machine.proofs.Calling.{number-of, number-is}
-use Rattle.machine.proofs.Refusals.{call-in-range}
+use Rattle.machine.proofs.Calling.{number-is}
 use Rattle.machine.proofs.Dispatch.{Calls, by-event}
 use Rattle.machine.proofs.Reached.{at-set, context-sound, Fills, refilled-keeps, part-sound, erased-sound, place, on-queue, transfer-sound, made, made-sound, made-body, valid-sound, reached-valid}
-
--- ---------------------------------------------------------------- several processes changed
--- who is READY then
-abbrev on : Partition → ℕ → Bool
-on p y = ready (process y p)
-
--- who becomes READY
-abbrev comes : Partition → Partition → ℕ → Bool
-comes p q y = on q y && not (on p y)
-
--- each process once: who stays READY keeps its place, and who becomes so joins in the order of the changes
-arrive-all : (f : Process → Process) (l : List ℕ) (p : Partition) → ListedIn p → AllCreated l (p .processCount) → Distinct l
-    → let q = changedAll f l p in members (q .arrival) ≡ kept (on q) (members (p .arrival)) ++ kept (comes p q) l
-unfolding changedAll contains Distinct kept
-arrive-all f [] p v all dis = sym (append-nil _ ∙ kept-all (on p) (members (p .arrival)) (λ y c. sym (v .arrivals .exact y) ∙ c))
-arrive-all f (id ∷ l) p v all dis =
-    let x = f (process id p) in
-    let b = all id (rw (eq-eqb id id refl)) in
-    let p₁ = stored id x p in
-    let v₁ = stored-listed p id x v b in
-    let all₁ : AllCreated l (p₁ .processCount) = λ y c. rw (rest-count p _ (stored-rest p id x)) (all y (rw c (or-true (eqb id y)))) in
-    let q = changedAll f l p₁ in
-    let apart : (y : ℕ) → contains y l ≡ true → y ≡ id → ⊥ = λ y c e. not-both _ (rw e at c) (dis .0) in
-    let is : process id q ≡ x = changed-process f l p₁ v₁ all₁ (dis .1) id ∙ rw (dis .0) (process-stored p id x v b) in
-    arrive-all f l p₁ v₁ all₁ (dis .1)
-    ∙ ap (λ (k : List ℕ). kept (on q) (members (p₁ .arrival)) ++ k) (kept-same (comes p₁ q) (comes p q) l (λ y c. ap (λ (z : Process). on q y && not (ready z)) (process-other p id x y (apart y c))))
-    ∙ ap (λ (k : List ℕ). kept (on q) k ++ kept (comes p q) l) (stored-arrival p v id b x)
-    ∙ go q (on p id) (ready x) refl (ap ready is) (members (p .arrival)) (kept (comes p q) l)
-  where
-    go : (q : Partition) (o n : Bool) → on p id ≡ o → on q id ≡ n → (a k : List ℕ) → kept (on q) (followed o n id a) ++ k ≡ kept (on q) a ++ keptIf (on q id && not (on p id)) id k
-    go q true true was now a k = rw (was, now)
-    go q true false was now a k = rw now (ap (λ (l : List ℕ). l ++ k) (kept-kept (on q) (other id) a ∙ kept-same (λ y. on q y && other id y) (on q) a (λ y _. ⊎-elim
-        (λ (s : y ≡ id). rw (s, now))
-        (λ (ne : y ≡ id → ⊥). rw (ne-eqb y id ne) (and-true (on q y)))
-        (same-or-not y id))))
-    go q false true was now a k = rw (kept-snoc, was, now) (append-assoc (kept (on q) a) (id ∷ []) k)
-    go q false false was now a k = rw now
-
--- ---------------------------------------------------------------- a partition then
--- who of the list of p is READY in q keeps its place, and behind them stands who joins
-record Keeps (p q : Partition) : Type 0 where
-  joined : List ℕ
-  order : members (q .arrival) ≡ kept (on q) (members (p .arrival)) ++ joined
-
--- the same without the one that is moved
-record Arrives (moved : ℕ) (p q : Partition) : Type 0 where
-  joined : List ℕ
-  order : members (q .arrival) ≡ kept (λ y. on q y && other moved y) (members (p .arrival)) ++ joined
-
--- one that is not READY then is not in the list anyway
-arrives-off : (moved : ℕ) (p q : Partition) → on q moved ≡ false → Keeps p q → Arrives moved p q
-arrives-off moved p q off h = record {
-  joined = h .joined;
-  order = h .order ∙ ap (λ (l : List ℕ). l ++ h .joined) (kept-same (on q) (λ y. on q y && other moved y) (members (p .arrival)) (λ y _. ⊎-elim
-      (λ (s : y ≡ moved). rw (s, off))
-      (λ (ne : y ≡ moved → ⊥). sym (rw (ne-eqb y moved ne) (and-true (on q y))))
-      (same-or-not y moved)));
-}
-
--- no process has the id 0
-none-zero : (q : Partition) → on q 0 ≡ false
-unfolding byId
-none-zero q = refl
-
-keeps-same : (p q : Partition) → ListedIn q → q .arrival ≡ p .arrival → Keeps p q
-keeps-same p q v e = record { joined = []; order = sym (append-nil _ ∙ ap (λ (a : Ids). kept (on q) (members a)) (sym e) ∙ kept-all (on q) (members (q .arrival)) (λ y c. sym (v .arrivals .exact y) ∙ c)) }
-
-keeps-all : (f : Process → Process) (l : List ℕ) (p : Partition) → ListedIn p → AllCreated l (p .processCount) → Distinct l → Keeps p (changedAll f l p)
-keeps-all f l p v all dis = record { joined = _; order = arrive-all f l p v all dis }
-
-keeps-one : (id : ℕ) (x : Process) (p : Partition) → ListedIn p → Between 1 (p .processCount) id → Keeps p (stored id x p)
-unfolding changedAll contains Distinct
-keeps-one id x p v b = keeps-all (λ _. x) (id ∷ []) p v (λ y c. subst (Between 1 (p .processCount)) (eqb-true id y (sym (or-false (eqb id y)) ∙ c)) b) (refl, tt)
-
-keeps-each : (f : Process → Process) (p : Partition) → ListedIn p → Keeps p (each f p)
-keeps-each f p v = rw (each-changed f (p .processCount) 1 p) (keeps-all f (idsFrom (p .processCount) 1) p v (λ y t. let b = from-range (p .processCount) 1 y t in (b .0, omega arith)) (distinct-from (p .processCount) 1))
-
--- from a partition with the same list
-keeps-from : (p p′ q : Partition) → p′ .arrival ≡ p .arrival → Keeps p′ q → Keeps p q
-keeps-from p p′ q e h = record { joined = h .joined; order = h .order ∙ ap (λ (a : Ids). kept (on q) (members a) ++ h .joined) e }
-
--- to a partition with the same list and the same processes
-keeps-to : (p q q′ : Partition) → q′ .arrival ≡ q .arrival → q′ .processes ≡ q .processes → Keeps p q → Keeps p q′
-keeps-to p q q′ e f h = record { joined = h .joined; order = ap members e ∙ h .order ∙ ap (λ (l : List Process). kept (λ y. ready (byId processLimit blankProcess y l)) (members (p .arrival)) ++ h .joined) (sym f) }
-
--- ---------------------------------------------------------------- each change
-buffer-arrival : (k : ℕ) (b : Buffer) (p : Partition) → storedBuffer k b p .arrival ≡ p .arrival
-unfolding storedBuffer
-buffer-arrival k b p = by-test (λ (q : Partition). q .arrival ≡ p .arrival) (within bufferLimit k) (λ _. refl) (λ _. refl)
-
--- a change that reaches no process and moves none
-idle-arrival : (c : Context) (a : Change) (p : Partition) → ListedIn p → SoundChange c p a → touches a ≡ false → lastOf a ≡ 0 → applied a p .arrival ≡ p .arrival
-unfolding storedSemaphore storedEvent storedBlackboard
-idle-arrival c Nothing p v h t z = refl
-idle-arrival c (Stored id y) p v h t z = not-both _ refl t
-idle-arrival c (Created id y) p v h t z = not-both _ refl t
-idle-arrival c (Last id) p v h t z = let b = process-created ready refl p v id h in absurd (omega (arith, b .0))
-idle-arrival c (StoredSemaphore k s) p v h t z = by-test (λ (q : Partition). q .arrival ≡ p .arrival) (within semaphoreLimit k) (λ _. refl) (λ _. refl)
-idle-arrival c (StoredEvent k s) p v h t z = by-test (λ (q : Partition). q .arrival ≡ p .arrival) (within eventLimit k) (λ _. refl) (λ _. refl)
-idle-arrival c (CreatedBuffer k name limit) p v h t z = buffer-arrival k (emptyBuffer name limit) p
-idle-arrival c (Moved k a) p v h t z = not-both _ refl t
-idle-arrival c (StoredBlackboard k b) p v h t z = by-test (λ (q : Partition). q .arrival ≡ p .arrival) (within blackboardLimit k) (λ _. refl) (λ _. refl)
-idle-arrival c (Ended o) p v h t z = not-both _ refl t
-idle-arrival c (Handed o m) p v h t z = not-both _ refl t
-idle-arrival c (LevelSet level holder) p v h t z = refl
-idle-arrival c (Entered d) p v h t z = not-both _ refl t
-
--- the wait that a transfer ends
-keeps-ended : (p : Partition) → ListedIn p → (a : Transfer) → SoundEnd p a → Keeps p (endedBy a p)
-keeps-ended p v (Put m) h = keeps-same p p v refl
-keeps-ended p v (HandedTo id m) h = keeps-one id _ p v (h .0)
-keeps-ended p v Taken h = keeps-same p p v refl
-keeps-ended p v (LetIn id m) h = keeps-one id _ p v (h .0)
-
-module _ (c : Context) {o : Partition} (k : SoundContext c o) (p : Partition) (v : Valid (c .frame) (c .time) p) where
-  change-keeps : (a : Change) → SoundChange c p a → lastOf a ≡ 0 → Keeps p (applied a p)
-  unfolding created enteredNormal
-  change-keeps Nothing h z = keeps-same p p (v .lists) refl
-  change-keeps (Stored id y) h z = keeps-one id y p (v .lists) (h .0)
-  change-keeps (Created id y) h z = keeps-same p _ (change-valid c k p v (Created id y) h .lists) (by-test (λ (q : Partition). q .arrival ≡ p .arrival) (within processLimit id) (λ _. refl) (λ _. refl))
-  change-keeps (Last id) h z = keeps-same p _ (change-valid c k p v (Last id) h .lists) (idle-arrival c (Last id) p (v .lists) h refl z)
-  change-keeps (StoredSemaphore j s) h z = keeps-same p _ (change-valid c k p v (StoredSemaphore j s) h .lists) (idle-arrival c (StoredSemaphore j s) p (v .lists) h refl z)
-  change-keeps (StoredEvent j s) h z = keeps-same p _ (change-valid c k p v (StoredEvent j s) h .lists) (idle-arrival c (StoredEvent j s) p (v .lists) h refl z)
-  change-keeps (CreatedBuffer j name limit) h z = keeps-same p _ (change-valid c k p v (CreatedBuffer j name limit) h .lists) (idle-arrival c (CreatedBuffer j name limit) p (v .lists) h refl z)
-  change-keeps (Moved j a) h z =
-      let b = movedIn a (buffer j p) in
-      let is = buffer-in j b p (within-in bufferLimit j (h .0 .0) (omega (arith, h .0 .1, v .objects .buffers .numbered .few))) in
-      keeps-from p (storedBuffer j b p) _ (buffer-arrival j b p) (keeps-ended (storedBuffer j b p) (rw is (v .lists)) a (rw is (end-same p _ a refl refl (h .2))))
-  change-keeps (StoredBlackboard j b) h z = keeps-same p _ (change-valid c k p v (StoredBlackboard j b) h .lists) (idle-arrival c (StoredBlackboard j b) p (v .lists) h refl z)
-  change-keeps (Ended u) h z = keeps-all served (waiters u p) p (v .lists) (waiters-created p (v .lists) u) (waiters-distinct p (v .lists) u)
-  change-keeps (Handed u m) h z = keeps-all (handed m) (waiters u p) p (v .lists) (waiters-created p (v .lists) u) (waiters-distinct p (v .lists) u)
-  change-keeps (LevelSet level holder) h z = keeps-same p _ (v .lists) refl
-  change-keeps (Entered d) h z = keeps-from p (withMode 3 p) _ refl (keeps-each (entered d) (withMode 3 p) (v .lists))
-
--- ---------------------------------------------------------------- one put last
-last-arrives : (p : Partition) → ListedIn p → (id : ℕ) → on p id ≡ true → Arrives id p (arrivedLast id p)
-unfolding arrivedLast
-last-arrives p v id h = record {
-  joined = id ∷ [];
-  order =
-      ap (λ (q : Partition). members (q .arrival)) (arrived-plain p v id h) ∙ members-idsOf _
-      ∙ ap (λ (l : List ℕ). l ++ (id ∷ [])) (kept-same (other id) (λ y. on p y && other id y) (members (p .arrival)) (λ y c. sym (rw (sym (v .arrivals .exact y) ∙ c))));
-}
-
--- from a partition with the same list, and to one as it is noted
-arrives-from : (moved : ℕ) (p p′ q : Partition) → members (p′ .arrival) ≡ members (p .arrival) → Arrives moved p′ q → Arrives moved p q
-arrives-from moved p p′ q e h = record { joined = h .joined; order = h .order ∙ ap (λ (l : List ℕ). kept (λ y. on q y && other moved y) l ++ h .joined) e }
-
-arrives-noted : (moved : ℕ) (p q : Partition) → Arrives moved p q → Arrives moved p (noted q)
-arrives-noted moved p q h = record { joined = h .joined; order = h .order }
-
--- two steps, of which the first leaves all READY who are
-keeps-then : (p q r : Partition) → ListedIn p → ((y : ℕ) → on p y ≡ true → on q y ≡ true) → Keeps p q → Keeps q r → Keeps p r
-keeps-then p q r v stays g h = record {
-  joined = kept (on r) (g .joined) ++ h .joined;
-  order =
-      h .order
-      ∙ ap (λ (l : List ℕ). l ++ h .joined) (ap (kept (on r)) (g .order) ∙ kept-append (on r) (kept (on q) (members (p .arrival))) (g .joined)
-      ∙ ap (λ (l : List ℕ). l ++ kept (on r) (g .joined)) (kept-kept (on r) (on q) (members (p .arrival)) ∙ kept-same (λ y. on r y && on q y) (on r) (members (p .arrival)) (λ y c. rw (stays y (sym (v .arrivals .exact y) ∙ c)) (and-true (on r y)))))
-      ∙ append-assoc (kept (on r) (members (p .arrival))) (kept (on r) (g .joined)) (h .joined);
-}
+use Rattle.machine.proofs.Arriving.{kept-ready, Keeps, Arrives, arrives-off, none-zero, keeps-same, keeps-all, keeps-one, keeps-each, keeps-from, keeps-to, idle-arrival, keeps-ended, last-arrives, arrives-from, arrives-noted, keeps-then, change-keeps}
 
 -- ---------------------------------------------------------------- an event
 module _ (m : Module) (s : SoundModule m) (e : EventT) (k : ℕ) (b : Between 1 (m .table .size) k) where
@@ -271,13 +103,10 @@ module _ (m : Module) (s : SoundModule m) (e : EventT) (k : ℕ) (b : Between 1 
 
   module _ (q : Calls m asks) where
     by : e .partition ≡ pos from
-    by = number-of (e .partition) (q .some)
-
-    in-range : (1 ≤ number) × (number ≤ callLimit)
-    in-range = call-in-range (m .table) asks (q .formed) (ne-eqb from 0 (q .some))
+    by = event-partition m s e q
 
     call : e .call ≡ pos number
-    call = let u = in-range in number-of (e .call) (λ z. omega arith)
+    call = event-call m s e q
 
     puts : (code : ℕ) (u : Module) → u .partitions ≡ m .partitions → (j : ℕ) → j < m .table .size → ((k - 1 ≡ j → ⊥) → movedAt m e code k ≡ 0) → (o : Partition) → (j ≡ k - 1 → Is code o) → Is code (part (withPart j o u) (k - 1))
     puts code u z j l none o h = rw z (at-set (λ i o. i ≡ k - 1 → Is code o) (m .partitions) j (noted o) noPartition (omega (arith, l, s .partitionsSize, s .table .size .1)) (k - 1) (λ y. arrives-noted _ p o (h y)) (λ ne _. same code (none ne)) refl)
@@ -297,16 +126,16 @@ module _ (m : Module) (s : SoundModule m) (e : EventT) (k : ℕ) (b : Between 1 
       moved-twelve z = let c = call ∙ ap pos z in rw (its, eq-eqb k k refl, c)
 
       -- SET_PRIORITY
-      ranked-is : number ≡ 12 → (id n : ℕ) → id ≡ numberOf (asks .a) → SoundChange (contextOf m k) p (Stored id (withCurrent n (process id p)))
+      priority-is : number ≡ 12 → (id n : ℕ) → id ≡ numberOf (asks .a) → SoundChange (contextOf m k) p (Stored id (withCurrent n (process id p)))
           → Is 0 (applied (cond (ready (process id p)) (Last id) Nothing) (stored id (withCurrent n (process id p)) p))
-      ranked-is twelve id n a h =
+      priority-is twelve id n a h =
           let w = withCurrent n (process id p) in
           let u = stored id w p in
           let v = stored-listed p id w (valid .lists) (h .0) in
-          let now : on u id ≡ on p id = ap ready (process-stored p id w (valid .lists) (h .0)) in
+          let now : readyIn u id ≡ readyIn p id = ap ready (process-stored p id w (valid .lists) (h .0)) in
           let moved : movedAt m e 0 k ≡ id = moved-twelve twelve ∙ id-of (e .a) (λ z. omega (arith, h .0 .0)) ∙ sym a in
-          subst (λ j. Arrives j p (applied (cond (on p id) (Last id) Nothing) u)) (sym moved) (by-test (λ (c : Change). Arrives id p (applied c u)) (on p id)
-          (λ t. arrives-from id p u _ (stored-arrival p (valid .lists) id (h .0) w ∙ followed-same (on p id) id (members (p .arrival))) (last-arrives u v id (now ∙ t)))
+          subst (λ j. Arrives j p (applied (cond (readyIn p id) (Last id) Nothing) u)) (sym moved) (by-test (λ (c : Change). Arrives id p (applied c u)) (readyIn p id)
+          (λ t. arrives-from id p u _ (stored-arrival p (valid .lists) id (h .0) w ∙ followed-same (readyIn p id) id (members (p .arrival))) (last-arrives u v id (now ∙ t)))
           (λ t. arrives-off id p u (now ∙ t) (keeps-one id w p (valid .lists) (h .0))))
 
       changed-is : (x y : Change) (v : ℕ) → SoundDecision (contextOf m k) p (Changed x y v) → Acts (contextOf m k) asks p number (Changed x y v) → Is 0 (applied y (applied x p))
@@ -320,7 +149,7 @@ module _ (m : Module) (s : SoundModule m) (e : EventT) (k : ℕ) (b : Between 1 
           let id = numberOf (asks .a) in
           let w = withCurrent (numberOf (asks .b)) (process id p) in
           let g : (x ≡ Stored id w) × (y ≡ cond (ready (process id p)) (Last id) Nothing) = rw (nine, twelve) at (a .4) in
-          subst (λ (c : Change). Is 0 (applied y (applied c p))) (sym (g .0)) (subst (λ (c : Change). Is 0 (applied c (stored id w p))) (sym (g .1)) (ranked-is (eqb-true _ 12 twelve) id (numberOf (asks .b)) refl (subst (SoundChange (contextOf m k) p) (g .0) (h .0)))))
+          subst (λ (c : Change). Is 0 (applied y (applied c p))) (sym (g .0)) (subst (λ (c : Change). Is 0 (applied c (stored id w p))) (sym (g .1)) (priority-is (eqb-true _ 12 twelve) id (numberOf (asks .b)) refl (subst (SoundChange (contextOf m k) p) (g .0) (h .0)))))
           (λ twelve.
           let g : (lastOf x ≡ 0) × (lastOf y ≡ 0) = rw (nine, twelve) at (a .4) in
           let after = change-valid (contextOf m k) sound p valid x (h .0) in
@@ -333,8 +162,8 @@ module _ (m : Module) (s : SoundModule m) (e : EventT) (k : ℕ) (b : Between 1 
     -- ---------------------------------------------------------------- a restart
     -- of its own: nobody is READY; of another: who is READY stays so
     record Restarts (o : Partition) : Type 0 where
-      gone : from ≡ k → (members (o .arrival) ≡ []) × ((y : ℕ) → on o y ≡ false)
-      left : (from ≡ k → ⊥) → Keeps p o × ((y : ℕ) → on p y ≡ true → on o y ≡ true)
+      gone : from ≡ k → (members (o .arrival) ≡ []) × ((y : ℕ) → readyIn o y ≡ false)
+      left : (from ≡ k → ⊥) → Keeps p o × ((y : ℕ) → readyIn p y ≡ true → readyIn o y ≡ true)
 
     abbrev There : ℕ → Partition → Type 0
     There i o = i ≡ k - 1 → Restarts o
@@ -351,7 +180,7 @@ module _ (m : Module) (s : SoundModule m) (e : EventT) (k : ℕ) (b : Between 1 
         let all = firsts-created frame t o v w size in
         let dis = firsts-distinct frame t o v w size in
         let q = changedAll served l o in
-        let stays : (y : ℕ) → on o y ≡ true → on q y ≡ true = λ y r. ap ready (changed-process served l o (v .lists) all dis y) ∙ either (contains y l)
+        let stays : (y : ℕ) → readyIn o y ≡ true → readyIn q y ≡ true = λ y r. ap ready (changed-process served l o (v .lists) all dis y) ∙ either (contains y l)
         (λ c. not-both _ r (object-not-ready (process y o) (waiters-on o (v .lists) w y (take-in size (waiters w o) y c))))
         (λ c. rw c r) in
         record {
@@ -370,10 +199,10 @@ module _ (m : Module) (s : SoundModule m) (e : EventT) (k : ℕ) (b : Between 1 
         let r = part (restarted from o m) (k - 1) in
         let start : (i : ℕ) → i < m .table .size → There i (part w i) = λ i l. at-set There (m .partitions) (from - 1) (noted o) noPartition (omega (arith, here, s .partitionsSize, s .table .size .1)) i
         (λ z. record { gone = λ _. (refl, λ y. ap ready (named-replicate processLimit processLimit y blankProcess)); left = λ other. absurd (other (omega (arith, z, b .0, q .some))) })
-        (λ ne z. record { gone = λ own. absurd (ne (rw own z)); left = λ _. subst (λ j. Keeps p (part m j) × ((y : ℕ) → on p y ≡ true → on (part m j) y ≡ true)) (sym z) (keeps-same p p (valid .lists) refl, λ _ t. t) }) in
+        (λ ne z. record { gone = λ own. absurd (ne (rw own z)); left = λ _. subst (λ j. Keeps p (part m j) × ((y : ℕ) → readyIn p y ≡ true → readyIn (part m j) y ≡ true)) (sym z) (keeps-same p p (valid .lists) refl, λ _ t. t) }) in
         let g = refilled-keeps There from w (part-sound u (erased-sound from channelLimit m (omega arith) s) (from - 1) here o (nothing-valid (m .table .frame) (m .t) mode few)) channelLimit (λ i _. let-in w refl i) start (k - 1) (omega (arith, b .0, b .1)) refl in
         still 0 r (by-call 0 number call (rw one) (rw one)) (⊎-elim
-        (λ (own : from ≡ k). let h = g .gone own in record { joined = []; order = h .0 ∙ sym (append-nil _ ∙ kept-no (on r) (members (p .arrival)) (λ y _. h .1 y)) })
+        (λ (own : from ≡ k). let h = g .gone own in record { joined = []; order = h .0 ∙ sym (append-nil _ ∙ kept-no (readyIn r) (members (p .arrival)) (λ y _. h .1 y)) })
         (λ (other : from ≡ k → ⊥). g .left other .0)
         (same-or-not from k))
 
@@ -405,8 +234,7 @@ module _ (m : Module) (s : SoundModule m) (e : EventT) (k : ℕ) (b : Between 1 
   event-is = by-event m asks (λ (d : Decision). Is (replyOf d .code) (part (moduleAfter m from d) (k - 1)))
       (λ n t. let w = in-limits 8 13 (Number n) t in same n (by-code n (λ z. omega arith)))
       (λ formed none _. tick-is formed none)
-      (λ q. decided-is q (made m s asks q) (made-sound m s asks q) (made-body m s asks q)
-      (call-acts (contextOf m from) (portOf m from asks) asks (part m (from - 1)) (λ there. let w = in-limits 1 (m .table .channelCount) (asks .a) there in omega (arith, w .0)) number (in-range q .0) (in-range q .1) .is))
+      (λ q. decided-is q (made m s asks q) (made-sound m s asks q) (made-body m s asks q) (made-acts m s e q))
 
 -- ---------------------------------------------------------------- who joins
 contains-append : (y : ℕ) (l k : List ℕ) → contains y (l ++ k) ≡ (contains y l || contains y k)
@@ -431,13 +259,13 @@ joins-by true false false false h f = sym h
 joins-by false e was true h f = sym h
 joins-by false e was false h f = refl
 
-joins-in : (id₀ : ℕ) (o q : Partition) → ListedIn o → ListedIn q → (l : List ℕ) → members (q .arrival) ≡ kept (λ y. on q y && other id₀ y) (members (o .arrival)) ++ l
-    → (id : ℕ) → contains id l ≡ (on q id && (not (on o id) || eqb id id₀))
+joins-in : (id₀ : ℕ) (o q : Partition) → ListedIn o → ListedIn q → (l : List ℕ) → members (q .arrival) ≡ kept (λ y. readyIn q y && other id₀ y) (members (o .arrival)) ++ l
+    → (id : ℕ) → contains id l ≡ (readyIn q id && (not (readyIn o id) || eqb id id₀))
 joins-in id₀ o q v u l order id =
-    let f : ℕ → Bool = λ y. on q y && other id₀ y in
+    let f : ℕ → Bool = λ y. readyIn q y && other id₀ y in
     let a = kept f (members (o .arrival)) in
-    let there : contains id a ≡ ((on q id && not (eqb id id₀)) && on o id) = contains-kept f id (members (o .arrival)) ∙ ap (λ (t : Bool). f id && t) (v .arrivals .exact id) in
-    joins-by (on q id) (eqb id id₀) (on o id) (contains id l)
+    let there : contains id a ≡ ((readyIn q id && not (eqb id id₀)) && readyIn o id) = contains-kept f id (members (o .arrival)) ∙ ap (λ (t : Bool). f id && t) (v .arrivals .exact id) in
+    joins-by (readyIn q id) (eqb id id₀) (readyIn o id) (contains id l)
     (sym (u .arrivals .exact id) ∙ ap (contains id) order ∙ contains-append id a l ∙ ap (λ (t : Bool). t || contains id l) there)
     (λ c. sym there ∙ apart-append id a l (rw order at (u .arrivals .distinct)) c)
 
@@ -465,16 +293,16 @@ module _ (m : Module) (h : Reached m) (e : EventT) (k : ℕ) (b : Between 1 (m .
   }
 
   -- by ascending id
-  ticked-arrival : e .partition ≡ pos 0 → step m e .answer .code ≡ 0 → let q = own (step m e .state) k in members (q .arrival) ≡ kept (on q) (members (own m k .arrival)) ++ kept (comes (own m k) q) (idsFrom (own m k .processCount) 1)
-  unfolding tickPartition keeps-same
+  ticked-arrival : e .partition ≡ pos 0 → step m e .answer .code ≡ 0 → let q = own (step m e .state) k in members (q .arrival) ≡ kept (readyIn q) (members (own m k .arrival)) ++ kept (becomesReady (own m k) q) (idsFrom (own m k .processCount) 1)
+  unfolding tickPartition
   ticked-arrival by z =
       let p = own m k in
       let v = sound-here .eachPartition (k - 1) (omega (arith, b .0, b .1)) .lists in
       let is = ap (λ (u : Module). own u k) (tick-state m e by z) ∙ ticked-part m sound-here k b in
-      subst (λ (q : Partition). members (q .arrival) ≡ kept (on q) (members (p .arrival)) ++ kept (comes p q) (idsFrom (p .processCount) 1)) (sym is)
-      (by-test (λ (q : Partition). members (q .arrival) ≡ kept (on q) (members (p .arrival)) ++ kept (comes p q) (idsFrom (p .processCount) 1)) (normalMode p)
+      subst (λ (q : Partition). members (q .arrival) ≡ kept (readyIn q) (members (p .arrival)) ++ kept (becomesReady p q) (idsFrom (p .processCount) 1)) (sym is)
+      (by-test (λ (q : Partition). members (q .arrival) ≡ kept (readyIn q) (members (p .arrival)) ++ kept (becomesReady p q) (idsFrom (p .processCount) 1)) (normalMode p)
       (λ _. rw (each-changed (ticked (m .t + 1)) (p .processCount) 1 p) (arrive-all (ticked (m .t + 1)) (idsFrom (p .processCount) 1) p v (λ y t. let b = from-range (p .processCount) 1 y t in (b .0, omega arith)) (distinct-from (p .processCount) 1)))
-      (λ _. keeps-same p p v refl .order ∙ ap (λ (l : List ℕ). kept (on p) (members (p .arrival)) ++ l) (sym (kept-no (comes p p) (idsFrom (p .processCount) 1) (λ y _. never (on p y))))))
+      (λ _. sym (kept-ready p v) ∙ ap (λ (l : List ℕ). kept (readyIn p) (members (p .arrival)) ++ l) (sym (kept-no (becomesReady p p) (idsFrom (p .processCount) 1) (λ y _. never (readyIn p y))))))
     where
       never : (t : Bool) → (t && not t) ≡ false
       never true = refl

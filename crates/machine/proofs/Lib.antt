@@ -52,10 +52,12 @@ pub mod Locks
 pub mod TicksLeft
 pub mod EachCall
 pub mod Acts
+pub mod Alike
 pub mod Turns
 pub mod EachProcess
 pub mod ProcessStates
 pub mod Priorities
 pub mod Periods
+pub mod Arriving
 pub mod Arrivals
 pub mod TableLines

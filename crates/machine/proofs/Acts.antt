@@ -1,12 +1,13 @@
 -- What the calls do to processes and to the arrival list, each by its number: for every record and every request. Assumes nothing.
-use Prim.Native.Nat.{ℕ, _+_, _≤_}
+use Prim.Native.Nat.{ℕ, _+_, _-_, _≤_}
 use mathlib.Core.Path.{_≡_, refl, ap}
 use mathlib.Core.Bool.{Bool, true, false, cond, not, _&&_, _||_, and-false}
 use mathlib.Core.List.{List, [], _∷_}
 use mathlib.Core.Logic.{_⊎_, inl, inr}
 use native.Mathlib.Omega.{arith}
+use lib.IntN.{pos}
 use lib.Dec.{eqb, leb}
-use borrow.Author.Tests.{eq-eqb, eqb-false, not-false, not-true}
+use borrow.Author.Tests.{eq-eqb, eqb-false, not-false, not-true, ne-eqb}
 use Rattle.machine.specs.declared.Process.{Process}
 use Rattle.machine.specs.declared.Partition.{Partition}
 use Rattle.machine.specs.declared.Context.{Context}
@@ -24,55 +25,62 @@ use Rattle.machine.specs.declared.Change.the-variants.{Nothing, Stored, 
 use Rattle.machine.specs.declared.Decision.{Decision}
 use Rattle.machine.specs.declared.Decision.the-variants.{Refused, Unchanged, Ticked, Blocked, Changed, Restarted, Written, Passed as PassedOn}
 use Rattle.machine.specs.Limits.{callLimit, modeLimit, priorityLimit}
-use Rattle.machine.specs.Fields.{isNumber, between, numberOf, timeOf}
+use Rattle.machine.specs.Fields.{isNumber, between, numberOf, timeOf, requestOf}
 use Rattle.machine.specs.Messages.{sent, received}
 use Rattle.machine.specs.Process.{object, later, periodic, ready, waitsForNothing, withSuspended, withCurrent, waitingFor, suspendedUntil, startRule, startedEarly, stopped, resumed, nextRelease, served}
 use Rattle.machine.specs.Partition.{normalMode, process, waiters, firstWaiter}
 use Rattle.machine.specs.Decisions.{checked, blocked, startMode, unknown, queued, awaiting}
 use Rattle.machine.specs.Calls.{setMode, createProcess, start, stop, stopSelf, suspend, suspendSelf, timedWait, periodicWait, resume, setPriority, getStatus, lockPreemption, unlockPreemption, getTicksLeft}
 use Rattle.machine.specs.Objects.{createSemaphore, waitSemaphore, signalled, signal, createEvent, setEvent, resetEvent, waitEvent}
-use Rattle.machine.specs.Channels.{channelChecks, write, read, send, receive}
+use Rattle.machine.specs.Channels.{channelChecks, write, read, send, receive, portOf}
 use Rattle.machine.specs.Buffers.{createBuffer, sendBuffer, receiveBuffer}
 use Rattle.machine.specs.Blackboards.{createBlackboard, show, readBlackboard, clear}
 use Rattle.machine.specs.Services.{Service, services, callDecision}
-use Rattle.machine.specs.Valid.{contains}
+use Rattle.machine.specs.Valid.{contains, SoundModule}
 use Rattle.machine.specs.EachProcess.{waitOf}
 use Rattle.machine.proofs.Tests.{by-test, Passed, passed-parts, by-checks, or-left, or-right, not-both}
 use Rattle.machine.proofs.Fields.{in-limits}
 use Rattle.machine.proofs.Bounds.{known-id}
-use Rattle.machine.proofs.Dispatch.{Each, by-each}
+use Rattle.machine.proofs.Dispatch.{Each, by-each, Calls}
+use Rattle.machine.specs.declared.Event.{Event as EventT}
+use Rattle.machine.specs.declared.Module.{Module}
+use Rattle.machine.specs.Module.{part}
+use Rattle.machine.specs.Step.{contextOf}
+use Rattle.machine.proofs.Refusals.{call-in-range}
+use Rattle.machine.proofs.Reached.{made}
+use Rattle.machine.proofs.Calling.{number-of}
 
 -- process id of p stored with the record y: by which call, and what y is
-pub data Puts (c : Context) (r : Request) (p : Partition) (j id : ℕ) (y : Process) : Type 0 where
-  starts : (j ≡ 3) ⊎ (j ≡ 4) → id ≡ numberOf (r .a) → process id p .started ≡ false → (delay : ℕ) → y ≡ cond (normalMode p) (startRule c delay (process id p)) (startedEarly delay (process id p)) → Puts c r p j id y
-  stops : j ≡ 5 → id ≡ numberOf (r .a) → process id p .started ≡ true → y ≡ stopped (process id p) → Puts c r p j id y
-  stopsSelf : j ≡ 6 → id ≡ c .caller → normalMode p ≡ true → y ≡ stopped (process id p) → Puts c r p j id y
-  marks : j ≡ 7 → id ≡ numberOf (r .a) → process id p .started ≡ true → process id p .suspended ≡ false → y ≡ withSuspended true (process id p) → Puts c r p j id y
-  resumes : j ≡ 11 → id ≡ numberOf (r .a) → process id p .started ≡ true → process id p .suspended ≡ true → y ≡ resumed (process id p) → Puts c r p j id y
-  ranks : j ≡ 12 → id ≡ numberOf (r .a) → process id p .started ≡ true → 1 ≤ numberOf (r .b) → y ≡ withCurrent (numberOf (r .b)) (process id p) → Puts c r p j id y
-  serves : j ≡ 16 → (numberOf (r .a) ≡ 0 → ⊥) → contains id (waiters (object (Semaphore (numberOf (r .a)))) p) ≡ true → y ≡ served (process id p) → Puts c r p j id y
+pub data StoredBy (c : Context) (r : Request) (p : Partition) (j id : ℕ) (y : Process) : Type 0 where
+  starts : (j ≡ 3) ⊎ (j ≡ 4) → id ≡ numberOf (r .a) → process id p .started ≡ false → (delay : ℕ) → y ≡ cond (normalMode p) (startRule c delay (process id p)) (startedEarly delay (process id p)) → StoredBy c r p j id y
+  stops : j ≡ 5 → id ≡ numberOf (r .a) → process id p .started ≡ true → y ≡ stopped (process id p) → StoredBy c r p j id y
+  stopsSelf : j ≡ 6 → id ≡ c .caller → normalMode p ≡ true → y ≡ stopped (process id p) → StoredBy c r p j id y
+  marks : j ≡ 7 → id ≡ numberOf (r .a) → process id p .started ≡ true → process id p .suspended ≡ false → y ≡ withSuspended true (process id p) → StoredBy c r p j id y
+  resumes : j ≡ 11 → id ≡ numberOf (r .a) → process id p .started ≡ true → process id p .suspended ≡ true → y ≡ resumed (process id p) → StoredBy c r p j id y
+  prioritises : j ≡ 12 → id ≡ numberOf (r .a) → process id p .started ≡ true → 1 ≤ numberOf (r .b) → y ≡ withCurrent (numberOf (r .b)) (process id p) → StoredBy c r p j id y
+  serves : j ≡ 16 → (numberOf (r .a) ≡ 0 → ⊥) → contains id (waiters (object (Semaphore (numberOf (r .a)))) p) ≡ true → y ≡ served (process id p) → StoredBy c r p j id y
 
 -- the caller, of record x, stored with the record y, code 7: by which call, and what y is
-pub data Begins (r : Request) (j : ℕ) (x y : Process) : Type 0 where
-  suspends : j ≡ 8 → (until : Time) → y ≡ suspendedUntil until x → Begins r j x y
-  releases : j ≡ 10 → periodic x ≡ true → y ≡ nextRelease x → Begins r j x y
-  waits : (eqb j 8 || eqb j 10) ≡ false → (eqb j 9 ≡ true) ⊎ (numberOf (r .a) ≡ 0 → ⊥) → (until : Time) → waitsForNothing (waitOf j (numberOf (r .a)) (numberOf (r .b))) ≡ false → y ≡ waitingFor (waitOf j (numberOf (r .a)) (numberOf (r .b))) until x → Begins r j x y
+pub data BlockedBy (r : Request) (j : ℕ) (x y : Process) : Type 0 where
+  suspends : j ≡ 8 → (until : Time) → y ≡ suspendedUntil until x → BlockedBy r j x y
+  releases : j ≡ 10 → periodic x ≡ true → y ≡ nextRelease x → BlockedBy r j x y
+  waits : (eqb j 8 || eqb j 10) ≡ false → (eqb j 9 ≡ true) ⊎ (numberOf (r .a) ≡ 0 → ⊥) → (until : Time) → waitsForNothing (waitOf j (numberOf (r .a)) (numberOf (r .b))) ≡ false → y ≡ waitingFor (waitOf j (numberOf (r .a)) (numberOf (r .b))) until x → BlockedBy r j x y
 
 -- the transfer of a buffer, by the call that makes it
-pub data Moves (r : Request) (p : Partition) (j k : ℕ) (a : Transfer) : Type 0 where
-  sends : j ≡ 24 → k ≡ numberOf (r .a) → (k ≡ 0 → ⊥) → (m : ℕ) → a ≡ sent (firstWaiter (object (Receiving k)) p) m → Moves r p j k a
-  receives : j ≡ 25 → k ≡ numberOf (r .a) → (k ≡ 0 → ⊥) → (m : ℕ) → a ≡ received (firstWaiter (object (Sending k 0)) p) m → Moves r p j k a
+pub data TransferBy (r : Request) (p : Partition) (j k : ℕ) (a : Transfer) : Type 0 where
+  sends : j ≡ 24 → k ≡ numberOf (r .a) → (k ≡ 0 → ⊥) → (m : ℕ) → a ≡ sent (firstWaiter (object (Receiving k)) p) m → TransferBy r p j k a
+  receives : j ≡ 25 → k ≡ numberOf (r .a) → (k ≡ 0 → ⊥) → (m : ℕ) → a ≡ received (firstWaiter (object (Sending k 0)) p) m → TransferBy r p j k a
 
 -- a change of p by call j
 abbrev pub Makes : Context → Request → Partition → ℕ → Change → Type 0
 Makes c r p j Nothing = Unit {0}
-Makes c r p j (Stored id y) = Puts c r p j id y
+Makes c r p j (Stored id y) = StoredBy c r p j id y
 Makes c r p j (Created id y) = j ≡ 2
 Makes c r p j (Last id) = Unit {0}
 Makes c r p j (StoredSemaphore k s) = Unit {0}
 Makes c r p j (StoredEvent k e) = Unit {0}
 Makes c r p j (CreatedBuffer k name limit) = Unit {0}
-Makes c r p j (Moved k a) = Moves r p j k a
+Makes c r p j (Moved k a) = TransferBy r p j k a
 Makes c r p j (StoredBlackboard k b) = Unit {0}
 Makes c r p j (Ended o) = (j ≡ 18) × (o ≡ object (Event (numberOf (r .a)))) × (numberOf (r .a) ≡ 0 → ⊥)
 Makes c r p j (Handed o m) = (j ≡ 27) × (o ≡ object (Blackboard (numberOf (r .a)))) × (numberOf (r .a) ≡ 0 → ⊥)
@@ -111,19 +119,27 @@ touches (Handed o m) = true
 touches (LevelSet level holder) = false
 touches (Entered d) = true
 
--- calls 1, 3 to 7, 11 and 12, which act on a process that they name, or on all of a partition
-abbrev pub told : ℕ → Bool
-told j = eqb j 1 || ((leb 3 j && leb j 7) || (eqb j 11 || eqb j 12))
+-- TIMED_WAIT that is not refused and does not wait puts its caller last, SET_PRIORITY a READY process, and no other call puts one last
+abbrev pub PutLast : Context → Request → Partition → ℕ → Change → Change → Type 0
+PutLast c r p j a b =
+    let id = numberOf (r .a) in
+    cond (eqb j 9) ((a ≡ Last (c .caller)) × (b ≡ Nothing))
+    (cond (eqb j 12) ((a ≡ Stored id (withCurrent (numberOf (r .b)) (process id p))) × (b ≡ cond (ready (process id p)) (Last id) Nothing))
+    ((lastOf a ≡ 0) × (lastOf b ≡ 0)))
 
--- what call j decides of processes, which one of its changes reaches at most: TIMED_WAIT's first change alone, and SET_PRIORITY's second alone, put one last, where they are not refused and do not wait
+-- calls 1, 3 to 7, 11 and 12, which act on a process that they name, or on all of a partition
+abbrev pub actsOnNamed : ℕ → Bool
+actsOnNamed j = eqb j 1 || ((leb 3 j && leb j 7) || (eqb j 11 || eqb j 12))
+
+-- what call j decides of processes, which one of its changes reaches at most
 abbrev pub Acts : Context → Request → Partition → ℕ → Decision → Type 0
 Acts c r p j (Refused n) = Unit {0}
-Acts c r p j (Unchanged v e) = (eqb j 9 || told j) ≡ false
+Acts c r p j (Unchanged v e) = (eqb j 9 || actsOnNamed j) ≡ false
 Acts c r p j Ticked = ⊥
-Acts c r p j (Blocked id y) = (id ≡ c .caller) × (normalMode p ≡ true) × Begins r j (process id p) y
+Acts c r p j (Blocked id y) = (id ≡ c .caller) × (normalMode p ≡ true) × BlockedBy r j (process id p) y
 Acts c r p j (Changed a b v) =
-    Makes c r p j a × Makes c r p j b × ((touches b && touches a) ≡ false) × ((told j && not (touches a || touches b)) ≡ false)
-    × (lastOf a ≡ cond (eqb j 9) (c .caller) 0) × (lastOf b ≡ cond (eqb j 12 && ready (process (numberOf (r .a)) p)) (numberOf (r .a)) 0)
+    Makes c r p j a × Makes c r p j b × ((touches b && touches a) ≡ false) × ((actsOnNamed j && not (touches a || touches b)) ≡ false)
+    × PutLast c r p j a b
 Acts c r p j (Restarted mode) = (j ≡ 1) × (r .a ≡ Number mode) × (mode ≤ 2)
 Acts c r p j (Written i x) = j ≡ 21
 Acts c r p j (PassedOn i a v) = (j ≡ 30) ⊎ (j ≡ 31)
@@ -134,10 +150,6 @@ pub record Act (c : Context) (r : Request) (p : Partition) (j : ℕ) (d : Decisi
 infixr 20 _and_
 _and_ : {A B : Type 0} → A → B → A × B
 a and b = (a, b)
-
-last-if : (b : Bool) (id : ℕ) → lastOf (cond b (Last id) Nothing) ≡ cond b id 0
-last-if true id = refl
-last-if false id = refl
 
 last-off : (b : Bool) (id : ℕ) → touches (cond b (Last id) Nothing) ≡ false
 last-off true id = refl
@@ -172,7 +184,7 @@ module _ (c : Context) (x : Port) (r : Request) (p : Partition) (placed : x .exi
   -- START and DELAYED_START
   begins : (j : ℕ) → (j ≡ 3) ⊎ (j ≡ 4) → (delay : Field) → eqb j 9 ≡ false → eqb j 12 ≡ false → P j (start c (numberOf (r .a)) delay p)
   unfolding start Passed
-  begins j is delay n o = checks j _ _ (λ h. fine (starts is refl (not-true _ (not-false _ (h .1 .1 .0))) (numberOf delay) refl, tt, refl, and-false (told j), rw n, rw o))
+  begins j is delay n o = checks j _ _ (λ h. fine (starts is refl (not-true _ (not-false _ (h .1 .1 .0))) (numberOf delay) refl, tt, refl, and-false (actsOnNamed j), rw (n, o) (refl, refl)))
 
   live : (y : Process) → (not (y .started) || periodic y) ≡ false → y .started ≡ true
   live y h = not-false (y .started) (or-left (not (y .started)) (periodic y) h)
@@ -194,42 +206,65 @@ module _ (c : Context) (x : Port) (r : Request) (p : Partition) (placed : x .exi
   each-acts : Each (λ j (s : Service). P j (s .decides c x r p)) 1 services
   unfolding Each services setMode createProcess start stop stopSelf suspend suspendSelf timedWait periodicWait resume setPriority getStatus createSemaphore createEvent blocked waitSemaphore waitEvent signal setEvent resetEvent write read createBuffer sendBuffer receiveBuffer createBlackboard show readBlackboard clear send receive lockPreemption unlockPreemption getTicksLeft Passed
   each-acts =
-      checks 1 _ _ (λ h. by-test (P 1) (isNumber 3 (r .a)) (λ e. fine ((refl, e), tt, refl, refl, refl, refl)) (λ e. let m = mode-low (r .a) (not-false _ (h .0)) e in fine (refl, m .0, m .1)))
-      and checks 2 _ _ (λ _. fine (refl, tt, refl, refl, refl, refl))
+      checks 1 _ _ (λ h. by-test (P 1) (isNumber 3 (r .a)) (λ e. fine ((refl, e), tt, refl, refl, (refl, refl))) (λ e. let m = mode-low (r .a) (not-false _ (h .0)) e in fine (refl, m .0, m .1)))
+      and checks 2 _ _ (λ _. fine (refl, tt, refl, refl, (refl, refl)))
       and begins 3 (inl refl) (Number 0) refl refl
       and begins 4 (inr refl) (r .b) refl refl
-      and checks 5 _ _ (λ h. fine (stops refl refl (not-false _ (h .1 .1 .0)) refl, tt, refl, refl, refl, refl))
-      and checks 6 _ _ (λ h. fine (tt, stopsSelf refl refl (not-false _ (h .0)) refl, refl, refl, refl, refl))
-      and checks 7 _ _ (λ h. fine (marks refl refl (live (process (numberOf (r .a)) p) (h .1 .1 .0)) (h .1 .1 .1 .0) refl, tt, refl, refl, refl, refl))
+      and checks 5 _ _ (λ h. fine (stops refl refl (not-false _ (h .1 .1 .0)) refl, tt, refl, refl, (refl, refl)))
+      and checks 6 _ _ (λ h. fine (tt, stopsSelf refl refl (not-false _ (h .0)) refl, refl, refl, (refl, refl)))
+      and checks 7 _ _ (λ h. fine (marks refl refl (live (process (numberOf (r .a)) p) (h .1 .1 .0)) (h .1 .1 .1 .0) refl, tt, refl, refl, (refl, refl)))
       and checks 8 _ _ (λ h. by-test (P 8) (isNumber 0 (r .a)) (λ _. fine refl) (λ _. checks 8 _ _ (λ _. fine (refl, not-false _ (or-left (startMode p) _ (h .0)), suspends refl _ refl))))
-      and checks 9 _ _ (λ h. by-test (P 9) (isNumber 0 (r .a)) (λ _. fine (tt, tt, refl, refl, refl, refl)) (λ _. checks 9 _ _ (λ _. fine (refl, not-false _ (h .0), waits refl (inl refl) _ refl refl))))
+      and checks 9 _ _ (λ h. by-test (P 9) (isNumber 0 (r .a)) (λ _. fine (tt, tt, refl, refl, (refl, refl))) (λ _. checks 9 _ _ (λ _. fine (refl, not-false _ (h .0), waits refl (inl refl) _ refl refl))))
       and checks 10 _ _ (λ h. checks 10 _ _ (λ _. fine (refl, not-false _ (or-left (startMode p) _ (h .0)), releases refl (not-false _ (or-right (startMode p) _ (h .0))) refl)))
-      and checks 11 _ _ (λ h. fine (resumes refl refl (live (process (numberOf (r .a)) p) (h .1 .1 .0)) (not-false _ (h .1 .1 .1 .0)) refl, tt, refl, refl, refl, refl))
-      and checks 12 _ _ (λ h. fine (ranks refl refl (not-false _ (h .1 .1 .0)) (in-limits 1 priorityLimit (r .b) (not-false _ (h .1 .0)) .0) refl, by-test (Makes c r p 12) (ready (process (numberOf (r .a)) p)) (λ _. tt) (λ _. tt), rw (last-off (ready (process (numberOf (r .a)) p)) (numberOf (r .a))), refl, refl, last-if (ready (process (numberOf (r .a)) p)) (numberOf (r .a))))
+      and checks 11 _ _ (λ h. fine (resumes refl refl (live (process (numberOf (r .a)) p) (h .1 .1 .0)) (not-false _ (h .1 .1 .1 .0)) refl, tt, refl, refl, (refl, refl)))
+      and checks 12 _ _ (λ h. fine (prioritises refl refl (not-false _ (h .1 .1 .0)) (in-limits 1 priorityLimit (r .b) (not-false _ (h .1 .0)) .0) refl, by-test (Makes c r p 12) (ready (process (numberOf (r .a)) p)) (λ _. tt) (λ _. tt), rw (last-off (ready (process (numberOf (r .a)) p)) (numberOf (r .a))), refl, (refl, refl)))
       and checks 13 _ _ (λ _. fine refl)
-      and checks 14 _ _ (λ _. fine (tt, tt, refl, refl, refl, refl))
-      and awaits 15 _ _ _ _ _ _ _ refl refl (λ h. (refl, some _ (h .0))) (λ _. fine (tt, tt, refl, refl, refl, refl))
-      and checks 16 _ _ (λ h. let s = signals (some _ (h .0)) _ refl in fine (s .0, tt, refl, refl, s .1, refl))
-      and checks 17 _ _ (λ _. fine (tt, tt, refl, refl, refl, refl))
-      and checks 18 _ _ (λ h. fine (tt, (refl, refl, some _ (h .0)), refl, refl, refl, refl))
-      and checks 19 _ _ (λ _. fine (tt, tt, refl, refl, refl, refl))
+      and checks 14 _ _ (λ _. fine (tt, tt, refl, refl, (refl, refl)))
+      and awaits 15 _ _ _ _ _ _ _ refl refl (λ h. (refl, some _ (h .0))) (λ _. fine (tt, tt, refl, refl, (refl, refl)))
+      and checks 16 _ _ (λ h. let s = signals (some _ (h .0)) _ refl in fine (s .0, tt, refl, refl, (s .1, refl)))
+      and checks 17 _ _ (λ _. fine (tt, tt, refl, refl, (refl, refl)))
+      and checks 18 _ _ (λ h. fine (tt, (refl, refl, some _ (h .0)), refl, refl, (refl, refl)))
+      and checks 19 _ _ (λ _. fine (tt, tt, refl, refl, (refl, refl)))
       and awaits 20 _ _ _ _ _ _ _ refl refl (λ h. (refl, some _ (h .0))) (λ _. fine refl)
       and checks 21 _ _ (λ _. checks 21 _ _ (λ _. fine refl))
       and checks 22 _ _ (λ _. checks 22 _ _ (λ _. fine refl))
-      and checks 23 _ _ (λ _. fine (tt, tt, refl, refl, refl, refl))
-      and awaits 24 _ _ _ _ _ _ _ refl refl (λ h. (refl, some _ (h .0))) (λ h. fine (sends refl refl (some _ (h .0)) _ refl, tt, refl, refl, refl, refl))
-      and awaits 25 _ _ _ _ _ _ _ refl refl (λ h. (refl, some _ (h .0))) (λ h. fine (receives refl refl (some _ (h .0)) _ refl, tt, refl, refl, refl, refl))
-      and checks 26 _ _ (λ _. fine (tt, tt, refl, refl, refl, refl))
-      and checks 27 _ _ (λ h. fine (tt, (refl, refl, some _ (h .0)), refl, refl, refl, refl))
+      and checks 23 _ _ (λ _. fine (tt, tt, refl, refl, (refl, refl)))
+      and awaits 24 _ _ _ _ _ _ _ refl refl (λ h. (refl, some _ (h .0))) (λ h. fine (sends refl refl (some _ (h .0)) _ refl, tt, refl, refl, (refl, refl)))
+      and awaits 25 _ _ _ _ _ _ _ refl refl (λ h. (refl, some _ (h .0))) (λ h. fine (receives refl refl (some _ (h .0)) _ refl, tt, refl, refl, (refl, refl)))
+      and checks 26 _ _ (λ _. fine (tt, tt, refl, refl, (refl, refl)))
+      and checks 27 _ _ (λ h. fine (tt, (refl, refl, some _ (h .0)), refl, refl, (refl, refl)))
       and awaits 28 _ _ _ _ _ _ _ refl refl (λ h. (refl, some _ (h .0))) (λ _. fine refl)
-      and checks 29 _ _ (λ _. fine (tt, tt, refl, refl, refl, refl))
+      and checks 29 _ _ (λ _. fine (tt, tt, refl, refl, (refl, refl)))
       and awaits 30 _ _ _ _ _ _ _ refl refl (λ h. let at = placed-at _ _ h in (ap (λ k. Source k (numberOf (r .b))) at, λ z. omega arith)) (λ _. fine (inl refl))
       and awaits 31 _ _ _ _ _ _ _ refl refl (λ h. let at = placed-at _ _ h in (ap Destination at, λ z. omega arith)) (λ _. fine (inr refl))
-      and checks 32 _ _ (λ _. fine (tt, tt, refl, refl, refl, refl))
-      and checks 33 _ _ (λ _. fine (tt, tt, refl, refl, refl, refl))
+      and checks 32 _ _ (λ _. fine (tt, tt, refl, refl, (refl, refl)))
+      and checks 33 _ _ (λ _. fine (tt, tt, refl, refl, (refl, refl)))
       and fine refl
       and tt
 
 -- Law. What each call does to processes and to the arrival list.
 pub call-acts : (c : Context) (x : Port) (r : Request) (p : Partition) → (x .exists ≡ true → x .place + 1 ≡ numberOf (r .a)) → (n : ℕ) → 1 ≤ n → n ≤ callLimit → Act c r p n (callDecision c x n r p)
 call-acts c x r p placed n lo hi = by-each c x r p (Act c r p) (each-acts c x r p placed) n lo hi
+
+-- ---------------------------------------------------------------- a call that comes to its body
+module _ (m : Module) (s : SoundModule m) (e : EventT) (q : Calls m (requestOf e)) where
+  abbrev from : ℕ
+  from = numberOf (requestOf e .partition)
+
+  abbrev number : ℕ
+  number = numberOf (requestOf e .call)
+
+  -- its partition and its number are those of the event
+  pub event-partition : e .partition ≡ pos from
+  event-partition = number-of (e .partition) (q .some)
+
+  number-range : (1 ≤ number) × (number ≤ callLimit)
+  number-range = call-in-range (m .table) (requestOf e) (q .formed) (ne-eqb from 0 (q .some))
+
+  pub event-call : e .call ≡ pos number
+  event-call = let u = number-range in number-of (e .call) (λ z. omega arith)
+
+  pub made-acts : Acts (contextOf m from) (requestOf e) (part m (from - 1)) number (made m s (requestOf e) q)
+  made-acts =
+      call-acts (contextOf m from) (portOf m from (requestOf e)) (requestOf e) (part m (from - 1))
+      (λ there. let w = in-limits 1 (m .table .channelCount) (requestOf e .a) there in omega (arith, w .0)) number (number-range .0) (number-range .1) .is

@@ -21,7 +21,7 @@ use Rattle.machine.specs.declared.Traffic.{Traffic}
 use Rattle.machine.specs.declared.Field.the-variants.{Number}
 use Rattle.machine.specs.declared.Event.{Event as EventT}
 use Rattle.machine.specs.declared.Module.{Module}
-use Rattle.machine.specs.Limits.{callLimit, modeLimit, channelLimit, processLimit}
+use Rattle.machine.specs.Limits.{modeLimit, channelLimit, processLimit}
 use Rattle.machine.specs.Fields.{requestOf, numberOf}
 use Rattle.machine.specs.Messages.{sent, received, moved, endsWait}
 use Rattle.machine.specs.Process.{blankProcess, object, served, ready, ticked}
@@ -35,7 +35,7 @@ use Rattle.machine.specs.Channels.{otherEnd, otherQueue, portOf, passed,
 use Rattle.machine.specs.Valid.{Between, contains, Valid, SoundModule, SoundContext, SoundDecision, SoundEnd, plainTick}
 use Rattle.machine.specs.Plain.{idsFrom, atTick}
 use Rattle.machine.specs.Starred.{own}
-use Rattle.machine.specs.EachProcess.{Service, Untold, Becomes, EachProcess}
+use Rattle.machine.specs.EachProcess.{Service, ActsElsewhere, Becomes, EachProcess}
 use Rattle.machine.proofs.Tests.{by-test, not-both, or-left, or-right}
 use Rattle.machine.proofs.Bounds.{named-replicate, not-so, same-or-not}
 use Rattle.machine.proofs.Either.{either}
@@ -44,12 +44,12 @@ use Rattle.machine.proofs.Kept.{take-in, firsts-created, firsts-distinc
 use Rattle.machine.proofs.Plain.{tick-one}
 use Rattle.machine.proofs.Calling.{number-of, number-is}
 use Rattle.machine.proofs.Fields.{in-limits, between-zero}
-use Rattle.machine.proofs.Refusals.{call-in-range}
 use Rattle.machine.proofs.Dispatch.{Calls, by-event}
 use Rattle.machine.proofs.Bodies.{Sends, Receives, OnQueue, Bodily}
 use Rattle.machine.proofs.Reached.{made, made-sound, made-body, on-queue, transfer-sound, valid-sound, reached-valid, Fills, refilled-keeps, part-sound, erased-sound, place, context-sound, at-set, plain-part, tick-module-plain}
-use Rattle.machine.proofs.Turns.{same-number, untold-none, untold-code, untold-from, untold-seven, untold-number, not-created, alike-same, untouched, alike-process, sent-is, received-is, begin, turned}
-use Rattle.machine.proofs.Acts.{Begins, touches, told, Acts, call-acts}
+use Rattle.machine.proofs.Alike.{not-created, alike-same, untouched, alike-process}
+use Rattle.machine.proofs.Turns.{same-number, elsewhere-none, elsewhere-code, elsewhere-from, elsewhere-seven, elsewhere-number, sent-is, received-is, begin, turned}
+use Rattle.machine.proofs.Acts.{BlockedBy, touches, actsOnNamed, Acts, event-partition, event-call, made-acts}
 
 -- ---------------------------------------------------------------- a tick
 module _ (m : Module) (s : SoundModule m) (k : ℕ) (b : Between 1 (m .table .size) k) where
@@ -96,28 +96,25 @@ module _ (m : Module) (s : SoundModule m) (e : EventT) (k : ℕ) (b : Between 1 
       let by = number-is (e .partition) 0 (between-zero (m .table .size) (asks .partition) (not-false _ (or-left _ _ (or-right (eqb (m .table .size) 0) _ formed))) zero) in
       subst (Becomes m e 0 k id) (sym (tick-process m s k b id)) (by-test (Becomes m e 0 k id) (normalMode p)
       (λ t. Becomes.ticked (by, refl, eqb-true _ 3 t) refl)
-      (λ t. Becomes.same (untold-none m e k id 0 (λ c. not-both _ (eq-eqb (p .mode) 3 (c .2)) t) (λ n c _ w. let z = same-number (sym by ∙ w .0) in omega (arith, b .0))) refl))
+      (λ t. Becomes.same (elsewhere-none m e k id 0 (λ c. not-both _ (eq-eqb (p .mode) 3 (c .2)) t) (λ n c _ w. let z = same-number (sym by ∙ w .0) in omega (arith, b .0))) refl))
 
   module _ (q : Calls m asks) where
     by : e .partition ≡ pos from
-    by = number-of (e .partition) (q .some)
-
-    in-range : (1 ≤ number) × (number ≤ callLimit)
-    in-range = call-in-range (m .table) asks (q .formed) (ne-eqb from 0 (q .some))
+    by = event-partition m s e q
 
     call : e .call ≡ pos number
-    call = let u = in-range in number-of (e .call) (λ z. omega arith)
+    call = event-call m s e q
 
     -- the caller's partition is another
-    elsewhere : (code : ℕ) → (from ≡ k → ⊥) → Untold m e code k id
-    elsewhere code other = untold-from m e k id code from by other (q .some)
+    other-partition : (code : ℕ) → (from ≡ k → ⊥) → ActsElsewhere m e code k id
+    other-partition code other = elsewhere-from m e k id code from by other (q .some)
 
     -- a call that names no process
-    nameless : told number ≡ false → Untold m e 0 k id
-    nameless t = untold-number m e k id number from by (q .some) call t
+    nameless : actsOnNamed number ≡ false → ActsElsewhere m e 0 k id
+    nameless t = elsewhere-number m e k id number from by (q .some) call t
 
     -- a partition stored at place j
-    puts : (code : ℕ) (u : Module) → u .partitions ≡ m .partitions → (j : ℕ) → j < m .table .size → ((k - 1 ≡ j → ⊥) → Untold m e code k id) → (p : Partition) → (j ≡ k - 1 → Is code p) → Is code (part (withPart j p u) (k - 1))
+    puts : (code : ℕ) (u : Module) → u .partitions ≡ m .partitions → (j : ℕ) → j < m .table .size → ((k - 1 ≡ j → ⊥) → ActsElsewhere m e code k id) → (p : Partition) → (j ≡ k - 1 → Is code p) → Is code (part (withPart j p u) (k - 1))
     puts code u z j l none p h = rw z (at-set (λ i q. i ≡ k - 1 → Is code q) (m .partitions) j (noted p) noPartition (omega (arith, l, s .partitionsSize, s .table .size .1)) (k - 1) h (λ ne _. Becomes.same (none ne) refl) refl)
 
     -- ---------------------------------------------------------------- a call of its own partition
@@ -140,8 +137,8 @@ module _ (m : Module) (s : SoundModule m) (e : EventT) (k : ℕ) (b : Between 1 
           ⊎-elim
           (λ (z : id ≡ w).
           subst (Becomes m e 7 k id) (sym (ap (λ i. process i (stored w y p)) z ∙ process-stored p w y (valid .lists) (h .0)))
-          (begin m s e k id number its call (b .0) y valid (rw z (h .0)) (a .1) (z ∙ a .0) (ap (λ i. ready (process i p)) (z ∙ a .0) ∙ c .isReady) (subst (λ i. Begins asks number (process i p) y) (sym z) (a .2))))
-          (λ (ne : id ≡ w → ⊥). Becomes.same (untold-seven m e k id (λ z. ne (z ∙ sym (a .0)))) (process-other p w y id ne))
+          (begin m s e k id number its call (b .0) y valid (rw z (h .0)) (a .1) (z ∙ a .0) (ap (λ i. ready (process i p)) (z ∙ a .0) ∙ c .isReady) (subst (λ i. BlockedBy asks number (process i p) y) (sym z) (a .2))))
+          (λ (ne : id ≡ w → ⊥). Becomes.same (elsewhere-seven m e k id (λ z. ne (z ∙ sym (a .0)))) (process-other p w y id ne))
           (same-or-not id w)
 
       changed-is : (x y : Change) (v : ℕ) → SoundDecision (contextOf m k) p (Changed x y v) → Acts (contextOf m k) asks p number (Changed x y v) → Is 0 (applied y (applied x p))
@@ -151,7 +148,7 @@ module _ (m : Module) (s : SoundModule m) (e : EventT) (k : ℕ) (b : Between 1 
           (λ t.
           let off : touches y ≡ false = not-so (touches y) (λ g. not-both _ (rw (g, t)) (a .2)) in
           subst (Becomes m e 0 k id) (sym (alike-process (applied x p) _ (untouched y (applied x p) off) id)) (f x p (alike-same p) valid (h .0) (a .0) (λ g. not-both _ t g)))
-          (λ t. f y (applied x p) (untouched x p t) (change-valid (contextOf m k) sound p valid x (h .0)) (h .1) (a .1) (λ g. nameless (not-so (told number) (λ on. not-both _ (rw (on, t, g)) (a .3)))))
+          (λ t. f y (applied x p) (untouched x p t) (change-valid (contextOf m k) sound p valid x (h .0)) (h .1) (a .1) (λ g. nameless (not-so (actsOnNamed number) (λ on. not-both _ (rw (on, t, g)) (a .3)))))
 
     -- ---------------------------------------------------------------- a restart
     -- of its own partition; of another, where it may be let in
@@ -202,7 +199,7 @@ module _ (m : Module) (s : SoundModule m) (e : EventT) (k : ℕ) (b : Between 1 
           ⊎-elim
           (λ (own : from ≡ k). Becomes.erased (record { call = (by ∙ ap pos own, call ∙ ap pos one, refl); mode = mode; is = a-is; low = low }) (g .gone own))
           (λ (other : from ≡ k → ⊥). ⊎-elim
-          (λ (same : process id (part (restarted from p m) (k - 1)) ≡ process id (own m k)). Becomes.same (elsewhere 0 other) same)
+          (λ (same : process id (part (restarted from p m) (k - 1)) ≡ process id (own m k)). Becomes.same (other-partition 0 other) same)
           (λ (done : Service m e 0 k id × (process id (part (restarted from p m) (k - 1)) ≡ served (process id (own m k)))). subst (Becomes m e 0 k id) (sym (done .1)) (Becomes.served (done .0) refl))
           (g .left other))
           (same-or-not from k)
@@ -243,13 +240,13 @@ module _ (m : Module) (s : SoundModule m) (e : EventT) (k : ℕ) (b : Between 1 
     -- ---------------------------------------------------------------- every decision of a call
     decided-is : (d : Decision) → SoundDecision (contextOf m from) (part m (from - 1)) d → Bodily (portOf m from asks) number d → Acts (contextOf m from) asks (part m (from - 1)) number d
         → Is (replyOf d .code) (part (moduleAfter m from d) (k - 1))
-    decided-is (Refused n) h g a = Becomes.same (let w = in-limits 1 5 (Number n) g in untold-code m e k id n (λ z. omega arith) (λ z. omega arith)) refl
+    decided-is (Refused n) h g a = Becomes.same (let w = in-limits 1 5 (Number n) g in elsewhere-code m e k id n (λ z. omega arith) (λ z. omega arith)) refl
     decided-is (Unchanged n x) h g a = Becomes.same (nameless (or-right (eqb number 9) _ a)) refl
     decided-is Ticked h g a = absurd a
-    decided-is (Blocked w y) h g a = puts 7 m refl (from - 1) (place m s asks q) (λ ne. elsewhere 7 (λ z. ne (omega (arith, z)))) (stored w y (part m (from - 1))) (λ z.
+    decided-is (Blocked w y) h g a = puts 7 m refl (from - 1) (place m s asks q) (λ ne. other-partition 7 (λ z. ne (omega (arith, z)))) (stored w y (part m (from - 1))) (λ z.
         let is : from ≡ k = omega (arith, z, q .some, b .0) in
         subst (λ i. Is 7 (stored w y (part m i))) (sym z) (blocked-is is w y (subst (λ j. SoundDecision (contextOf m j) (part m (j - 1)) (Blocked w y)) is h) (subst (λ j. Acts (contextOf m j) asks (part m (j - 1)) number (Blocked w y)) is a)))
-    decided-is (Changed x y n) h g a = puts 0 m refl (from - 1) (place m s asks q) (λ ne. elsewhere 0 (λ z. ne (omega (arith, z)))) (applied y (applied x (part m (from - 1)))) (λ z.
+    decided-is (Changed x y n) h g a = puts 0 m refl (from - 1) (place m s asks q) (λ ne. other-partition 0 (λ z. ne (omega (arith, z)))) (applied y (applied x (part m (from - 1)))) (λ z.
         let is : from ≡ k = omega (arith, z, q .some, b .0) in
         subst (λ i. Is 0 (applied y (applied x (part m i)))) (sym z) (changed-is is x y n (subst (λ j. SoundDecision (contextOf m j) (part m (j - 1)) (Changed x y n)) is h) (subst (λ j. Acts (contextOf m j) asks (part m (j - 1)) number (Changed x y n)) is a)))
     decided-is (Restarted mode) h g a = restart-is mode (a .2) (a .0) (a .1) h
@@ -258,10 +255,9 @@ module _ (m : Module) (s : SoundModule m) (e : EventT) (k : ℕ) (b : Between 1 
 
   event-is : Is (replyOf (decision m asks) .code) (part (moduleAfter m from (decision m asks)) (k - 1))
   event-is = by-event m asks (λ (d : Decision). Is (replyOf d .code) (part (moduleAfter m from d) (k - 1)))
-      (λ n t. Becomes.same (let w = in-limits 8 13 (Number n) t in untold-code m e k id n (λ z. omega arith) (λ z. omega arith)) refl)
+      (λ n t. Becomes.same (let w = in-limits 8 13 (Number n) t in elsewhere-code m e k id n (λ z. omega arith) (λ z. omega arith)) refl)
       (λ formed zero _. tick-is formed zero)
-      (λ q. decided-is q (made m s asks q) (made-sound m s asks q) (made-body m s asks q)
-      (call-acts (contextOf m from) (portOf m from asks) asks (part m (from - 1)) (λ there. let w = in-limits 1 (m .table .channelCount) (asks .a) there in omega (arith, w .0)) number (in-range q .0) (in-range q .1) .is))
+      (λ q. decided-is q (made m s asks q) (made-sound m s asks q) (made-body m s asks q) (made-acts m s e q))
 
 -- Law. What every event of every reached record makes of each process.
 pub each-process : EachProcess

@@ -45,7 +45,7 @@ first-kept f x l = go (f x) refl
     go true e = rw e
     go false e = rw e
 
-kept-append : (f : ℕ → Bool) (l k : List ℕ) → kept f (l ++ k) ≡ kept f l ++ kept f k
+pub kept-append : (f : ℕ → Bool) (l k : List ℕ) → kept f (l ++ k) ≡ kept f l ++ kept f k
 unfolding kept
 kept-append f [] k = refl
 kept-append f (x ∷ l) k = first-kept f x (l ++ k) ∙ ap (λ (r : List ℕ). cond (f x) (x ∷ []) [] ++ r) (kept-append f l k) ∙ sym (append-assoc (cond (f x) (x ∷ []) []) (kept f l) (kept f k)) ∙ ap (λ (r : List ℕ). r ++ kept f k) (sym (first-kept f x l))

@@ -54,11 +54,14 @@ pub mod TicksLeft
 pub mod EachCall
 pub mod Entering
 pub mod Acts
+pub mod Alike
 pub mod Turns
 pub mod EachProcess
 pub mod ProcessStates
 pub mod Priorities
 pub mod Periods
+pub mod Arriving
+pub mod Arrivals
 pub mod TableLines
 pub mod Terms
 pub mod PerPartition

@@ -29,7 +29,8 @@ use Rattle.machine.proofs.Either.{either}
 use Rattle.machine.proofs.Bounds.{not-so}
 use Rattle.machine.proofs.Keeping.{process-created}
 use Rattle.machine.proofs.Reached.{valid-sound, reached-valid}
-use Rattle.machine.proofs.Turns.{same-started, same-given, same-release, same-number}
+use Rattle.machine.proofs.Alike.{same-started, same-given, same-release}
+use Rattle.machine.proofs.Turns.{same-number}
 use Rattle.machine.proofs.EachProcess.{each-process}
 use Rattle.machine.proofs.Priorities.{number-at, between-after}
 
@@ -84,7 +85,7 @@ module _ (m : Module) (e : EventT) (k id : ℕ) (normal : own m k .mode ≡ 3) w
     lasts-by y (Becomes.waiting n message c ten none some is) = stays y (same-started is) (same-given is) (same-release is) (λ g. ten (same-number (sym (c .0 .1) ∙ g .0 .1)))
     lasts-by y (Becomes.released c none is) = record { started = same-started is ∙ on; given = same-given is; release = same-release is ∙ sym (rw (waits-so c)) }
     lasts-by y (Becomes.resumed c on marked is) = stays y (same-started is) (same-given is) (same-release is) (zero (c .0 .2))
-    lasts-by y (Becomes.ranked c on is) = stays y (same-started is) (same-given is) (same-release is) (zero (c .0 .2))
+    lasts-by y (Becomes.prioritised c on is) = stays y (same-started is) (same-given is) (same-release is) (zero (c .0 .2))
     lasts-by y (Becomes.served c is) = stays y (same-started is) (same-given is) (same-release is) (zero (service-zero c))
     lasts-by y (Becomes.entered c is wait) = absurd (early (c .waits))
     lasts-by y (Becomes.erased c is) = absurd (erase c)

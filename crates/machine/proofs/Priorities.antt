@@ -31,7 +31,8 @@ use Rattle.machine.proofs.Answers.{step-table}
 use Rattle.machine.proofs.Reached.{valid-sound, reached-valid}
 use Rattle.machine.proofs.Tables.{table-read}
 use Rattle.machine.proofs.Bounds.{named-replicate}
-use Rattle.machine.proofs.Turns.{same-current, same-number}
+use Rattle.machine.proofs.Alike.{same-current}
+use Rattle.machine.proofs.Turns.{same-number}
 use Rattle.machine.proofs.EachProcess.{each-process}
 
 -- ---------------------------------------------------------------- numbers
@@ -51,7 +52,7 @@ module _ (m : Module) (e : EventT) (k id : ℕ) where
   -- none of the events that give a priority
   record Quiet : Type 0 where
     start : Start m e code k id → ⊥
-    rank : CallOf m e code k id 12 → ⊥
+    priority : CallOf m e code k id 12 → ⊥
     erase : Erasure m e code k id → ⊥
 
   quiet-stays : Quiet → (n : ℕ) → priorityAfter m e k id n ≡ n
@@ -66,7 +67,7 @@ module _ (m : Module) (e : EventT) (k id : ℕ) where
       (λ w. q .start (inl ((by, number-at 3 (e .call) w, zero), a)))
       (λ w. q .start (inr ((by, number-at 4 (e .call) (rw w at (and-right (plainNumber id (e .a)) _ u)), zero), a)))))
       (λ u. either (plainNumber id (e .a) && plainNumber 12 (e .call))
-      (λ w. absurd (q .rank ((by, number-at 12 (e .call) (and-right (plainNumber id (e .a)) _ w), zero), number-at id (e .a) (and-left (plainNumber id (e .a)) _ w))))
+      (λ w. absurd (q .priority ((by, number-at 12 (e .call) (and-right (plainNumber id (e .a)) _ w), zero), number-at id (e .a) (and-left (plainNumber id (e .a)) _ w))))
       (λ w. either (plainNumber 1 (e .call) && plainBetween 0 2 (e .a))
       (λ v. let l = low-mode (e .a) (and-right (plainNumber 1 (e .call)) _ v) in absurd (q .erase (record { call = (by, number-at 1 (e .call) (and-left (plainNumber 1 (e .call)) _ v), zero); mode = idOf (e .a); is = l .0; low = l .1 })))
       (λ v. rw (t, u, w, v)))))
@@ -76,8 +77,8 @@ module _ (m : Module) (e : EventT) (k id : ℕ) where
   started-gives (inl c) n = rw (c .0 .2, c .0 .0, c .0 .1, c .1, eq-eqb k k refl, eq-eqb id id refl)
   started-gives (inr c) n = rw (c .0 .2, c .0 .0, c .0 .1, c .1, eq-eqb k k refl, eq-eqb id id refl)
 
-  ranked-gives : CallOf m e code k id 12 → (n : ℕ) → priorityAfter m e k id n ≡ idOf (e .b)
-  ranked-gives c n = rw (c .0 .2, c .0 .0, c .0 .1, c .1, eq-eqb k k refl, eq-eqb id id refl)
+  priority-gives : CallOf m e code k id 12 → (n : ℕ) → priorityAfter m e k id n ≡ idOf (e .b)
+  priority-gives c n = rw (c .0 .2, c .0 .0, c .0 .1, c .1, eq-eqb k k refl, eq-eqb id id refl)
 
   erased-gives : Erasure m e code k id → (n : ℕ) → priorityAfter m e k id n ≡ 0
   erased-gives c n = rw (c .call .2, c .call .0, c .call .1, c .is, eq-eqb k k refl, and-false (eqb (c .mode) id), le-leb 0 (c .mode) (omega arith), le-leb (c .mode) 2 (c .low))
@@ -88,7 +89,7 @@ module _ (m : Module) (e : EventT) (k id : ℕ) where
       let is : (j : ℕ) → e .call ≡ pos j → n ≡ j = λ j z. same-number (sym call ∙ z) in
       record {
         start = ⊎-elim (λ (g : CallOf m e code k id 3). b (is 3 (g .0 .1))) (λ (g : CallOf m e code k id 4). c (is 4 (g .0 .1)));
-        rank = λ g. d (is 12 (g .0 .1));
+        priority = λ g. d (is 12 (g .0 .1));
         erase = λ g. a (is 1 (g .call .1));
       }
 
@@ -96,7 +97,7 @@ module _ (m : Module) (e : EventT) (k id : ℕ) where
   quiet-none : ((n : ℕ) → Call m e code k id n 0 → ⊥) → Quiet
   quiet-none z = record {
     start = ⊎-elim (λ (g : CallOf m e code k id 3). z 3 (g .0)) (λ (g : CallOf m e code k id 4). z 4 (g .0));
-    rank = λ g. z 12 (g .0);
+    priority = λ g. z 12 (g .0);
     erase = λ g. z 1 (g .call);
   }
 
@@ -119,7 +120,7 @@ module _ (m : Module) (e : EventT) (k id : ℕ) where
   kept y is q = is ∙ sym (quiet-stays q _)
 
   current-by : SoundModule m → 1 ≤ k → (y : Process) → Becomes m e code k id y → Given y
-  current-by s low y (Becomes.same u is) = kept y (same-current is) (record { start = u .start; rank = u .rank; erase = u .erase })
+  current-by s low y (Becomes.same u is) = kept y (same-current is) (record { start = u .start; priority = u .priority; erase = u .erase })
   current-by s low y (Becomes.ticked t is) = kept y (same-current is) (quiet-from 0 (t .0) (λ z. omega arith))
   current-by s low y (Becomes.created c none is) = kept y (same-current is ∙ sym (same-current none)) (quiet-call 2 (c .1) (λ z. omega arith) (λ z. omega arith) (λ z. omega arith) (λ z. omega arith))
   current-by s low y (Becomes.started c off is in-normal early) = same-current is ∙ sym (started-gives c _)
@@ -130,11 +131,11 @@ module _ (m : Module) (e : EventT) (k id : ℕ) where
   current-by s low y (Becomes.waiting n message c ten none some is) = kept y (same-current is) (quiet-seven (c .0 .2))
   current-by s low y (Becomes.released c none is) = kept y (same-current is) (quiet-seven (c .0 .2))
   current-by s low y (Becomes.resumed c on marked is) = kept y (same-current is) (quiet-call 11 (c .0 .1) (λ z. omega arith) (λ z. omega arith) (λ z. omega arith) (λ z. omega arith))
-  current-by s low y (Becomes.ranked c on is) = same-current is ∙ sym (ranked-gives c _)
+  current-by s low y (Becomes.prioritised c on is) = same-current is ∙ sym (priority-gives c _)
   current-by s low y (Becomes.served c is) = kept y (same-current is) (quiet-service s c)
   current-by s low y (Becomes.entered c is wait) = kept y (same-current is) (record {
     start = ⊎-elim (λ (g : CallOf m e code k id 3). omega (arith, same-number (sym (c .call .1) ∙ g .0 .1))) (λ (g : CallOf m e code k id 4). omega (arith, same-number (sym (c .call .1) ∙ g .0 .1)));
-    rank = λ g. omega (arith, same-number (sym (c .call .1) ∙ g .0 .1));
+    priority = λ g. omega (arith, same-number (sym (c .call .1) ∙ g .0 .1));
     erase = λ g. omega (arith, same-number (sym (c .is) ∙ g .is), g .low);
   })
   current-by s low y (Becomes.erased c is) = same-current is ∙ sym (erased-gives c _)
@@ -159,7 +160,7 @@ unfolding NoneGives
 list-stays k id [] m h b q = refl
 list-stays k id (e ∷ es) m h b q =
     list-stays k id es (step m e .state) (Reached.stepped m e h) (between-after m h k id b e) (q .3)
-    ∙ event-current m h k id b e ∙ quiet-stays m e k id (record { start = q .0; rank = q .1; erase = q .2 }) _
+    ∙ event-current m h k id b e ∙ quiet-stays m e k id (record { start = q .0; priority = q .1; erase = q .2 }) _
 
 -- the record that reading a table gives has no process
 none-created : (input : List ℕ) (k id : ℕ) → Between 1 (readTable input .state .table .size) k → process id (own (readTable input .state) k) ≡ blankProcess

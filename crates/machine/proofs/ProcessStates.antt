@@ -39,7 +39,7 @@ use Rattle.machine.proofs.Plain.{stored-plain}
 use Rattle.machine.proofs.Queues.{followed-same, stored-queue, same-queue}
 use Rattle.machine.proofs.Reasons.{for-none}
 use Rattle.machine.proofs.EachProcess.{ticked-part, tick-process, each-process}
-use Rattle.machine.proofs.Turns.{same-started, same-wait, same-mark, same-missed, not-created}
+use Rattle.machine.proofs.Alike.{same-started, same-wait, same-mark, same-missed, not-created}
 use Rattle.machine.proofs.Refusals.{places}
 use Rattle.machine.proofs.Dispatch.{ticks-decided}
 use Rattle.machine.proofs.Reached.{valid-sound, reached-valid}
@@ -222,7 +222,7 @@ module _ (m : Module) (e : EventT) (code k id : ℕ) (asleep : process id (own m
       (λ _ _. inr (record { number = 10; message = 0; call = c; is = same-wait is }), λ a _. absurd (a none), λ a _ _. absurd (a none))
       (marking y (same-mark is)) (missing y (same-missed is))
   changes-by y (Becomes.resumed c on marked is) = altogether y (starting y (same-started is)) (waiting y (same-wait is)) (λ _ t. not-both _ t (same-mark is), λ _ _. inl c) (missing y (same-missed is))
-  changes-by y (Becomes.ranked c on is) = altogether y (starting y (same-started is)) (waiting y (same-wait is)) (marking y (same-mark is)) (missing y (same-missed is))
+  changes-by y (Becomes.prioritised c on is) = altogether y (starting y (same-started is)) (waiting y (same-wait is)) (marking y (same-mark is)) (missing y (same-missed is))
   changes-by y (Becomes.served c is) = altogether y (starting y (same-started is))
       (λ _ b. absurd (b (same-wait is)), λ _ _. inr (inr (inr (inl c))), λ _ b _. absurd (b (same-wait is)))
       (marking y (same-mark is)) (missing y (same-missed is))
@@ -246,7 +246,7 @@ asleep-in frame t p v id off = either (contains id (idsFrom (p .processCount) 1)
 
 -- ---------------------------------------------------------------- a tick
 -- an event of no partition that is not refused is a tick
-tick-state : (m : Module) (e : EventT) → e .partition ≡ pos 0 → step m e .answer .code ≡ 0 → step m e .state ≡ tickModule m
+pub tick-state : (m : Module) (e : EventT) → e .partition ≡ pos 0 → step m e .answer .code ≡ 0 → step m e .state ≡ tickModule m
 unfolding step
 tick-state m e by z =
     let r = requestOf e in

@@ -652,25 +652,51 @@ queue-after m h e i l o some =
     }
 
 -- ---------------------------------------------------------------- waits that end, and the arrival list
--- several processes, none of them READY, are changed: those READY then join the arrival list in the order of the changes
-pub all-arrive : (f : Process → Process) (l : List ℕ) (p : Partition) → ListedIn p → AllCreated l (p .processCount) → Distinct l → ((y : ℕ) → contains y l ≡ true → ready (process y p) ≡ false)
-    → members (changedAll f l p .arrival) ≡ members (p .arrival) ++ kept (λ y. ready (f (process y p))) l
+-- who is READY then
+abbrev pub readyIn : Partition → ℕ → Bool
+readyIn p y = ready (process y p)
+
+-- who becomes READY
+abbrev pub becomesReady : Partition → Partition → ℕ → Bool
+becomesReady p q y = readyIn q y && not (readyIn p y)
+
+-- each process once: who stays READY keeps its place, and who becomes so joins in the order of the changes
+pub arrive-all : (f : Process → Process) (l : List ℕ) (p : Partition) → ListedIn p → AllCreated l (p .processCount) → Distinct l
+    → let q = changedAll f l p in members (q .arrival) ≡ kept (readyIn q) (members (p .arrival)) ++ kept (becomesReady p q) l
 unfolding changedAll contains Distinct kept
-all-arrive f [] p v all dis none = sym (append-nil (members (p .arrival)))
-all-arrive f (id ∷ l) p v all dis none =
+arrive-all f [] p v all dis = sym (append-nil _ ∙ kept-all (readyIn p) (members (p .arrival)) (λ y c. sym (v .arrivals .exact y) ∙ c))
+arrive-all f (id ∷ l) p v all dis =
     let x = f (process id p) in
     let b = all id (rw (eq-eqb id id refl)) in
-    let q = stored id x p in
+    let p₁ = stored id x p in
+    let v₁ = stored-listed p id x v b in
+    let all₁ : AllCreated l (p₁ .processCount) = λ y c. rw (rest-count p _ (stored-rest p id x)) (all y (rw c (or-true (eqb id y)))) in
+    let q = changedAll f l p₁ in
     let apart : (y : ℕ) → contains y l ≡ true → y ≡ id → ⊥ = λ y c e. not-both _ (rw e at c) (dis .0) in
-    let left : (y : ℕ) → contains y l ≡ true → process y q ≡ process y p = λ y c. process-other p id x y (apart y c) in
-    all-arrive f l q (stored-listed p id x v b) (λ y c. rw (rest-count p _ (stored-rest p id x)) (all y (rw c (or-true (eqb id y))))) (dis .1)
-    (λ y c. rw (left y c) (none y (rw c (or-true (eqb id y)))))
-    ∙ rw (stored-arrival p v id b x, none id (rw (eq-eqb id id refl)), kept-same (λ y. ready (f (process y q))) (λ y. ready (f (process y p))) l (λ y c. ap (λ (z : Process). ready (f z)) (left y c)))
-    (go (ready x) (members (p .arrival)) (kept (λ y. ready (f (process y p))) l))
+    let is : process id q ≡ x = changed-process f l p₁ v₁ all₁ (dis .1) id ∙ rw (dis .0) (process-stored p id x v b) in
+    arrive-all f l p₁ v₁ all₁ (dis .1)
+    ∙ ap (λ (k : List ℕ). kept (readyIn q) (members (p₁ .arrival)) ++ k) (kept-same (becomesReady p₁ q) (becomesReady p q) l (λ y c. ap (λ (z : Process). readyIn q y && not (ready z)) (process-other p id x y (apart y c))))
+    ∙ ap (λ (k : List ℕ). kept (readyIn q) k ++ kept (becomesReady p q) l) (stored-arrival p v id b x)
+    ∙ go q (readyIn p id) (ready x) refl (ap ready is) (members (p .arrival)) (kept (becomesReady p q) l)
   where
-    go : (b : Bool) (a k : List ℕ) → followed false b id a ++ k ≡ a ++ keptIf b id k
-    go true a k = append-assoc a (id ∷ []) k
-    go false a k = refl
+    go : (q : Partition) (o n : Bool) → readyIn p id ≡ o → readyIn q id ≡ n → (a k : List ℕ) → kept (readyIn q) (followed o n id a) ++ k ≡ kept (readyIn q) a ++ keptIf (readyIn q id && not (readyIn p id)) id k
+    go q true true was now a k = rw (was, now)
+    go q true false was now a k = rw now (ap (λ (l : List ℕ). l ++ k) (kept-kept (readyIn q) (other id) a ∙ kept-same (λ y. readyIn q y && other id y) (readyIn q) a (λ y _. ⊎-elim
+        (λ (s : y ≡ id). rw (s, now))
+        (λ (ne : y ≡ id → ⊥). rw (ne-eqb y id ne) (and-true (readyIn q y)))
+        (same-or-not y id))))
+    go q false true was now a k = rw (kept-snoc, was, now) (append-assoc (kept (readyIn q) a) (id ∷ []) k)
+    go q false false was now a k = rw now
+
+-- none of them READY before: those READY then join, and the others stay
+pub all-arrive : (f : Process → Process) (l : List ℕ) (p : Partition) → ListedIn p → AllCreated l (p .processCount) → Distinct l → ((y : ℕ) → contains y l ≡ true → ready (process y p) ≡ false)
+    → members (changedAll f l p .arrival) ≡ members (p .arrival) ++ kept (λ y. ready (f (process y p))) l
+all-arrive f l p v all dis none =
+    let q = changedAll f l p in
+    let is = changed-process f l p v all dis in
+    arrive-all f l p v all dis
+    ∙ ap (λ (k : List ℕ). k ++ kept (becomesReady p q) l) (kept-all (readyIn q) (members (p .arrival)) (λ y c. let r = sym (v .arrivals .exact y) ∙ c in ap ready (is y) ∙ either (contains y l) (λ t. not-both _ r (none y t)) (λ t. rw t r)))
+    ∙ ap (λ (k : List ℕ). members (p .arrival) ++ k) (kept-same (becomesReady p q) (λ y. ready (f (process y p))) l (λ y c. rw (is y, c, none y c) (and-true _)))
 
 -- one that waits on an object is not READY
 on-not-ready : (x : Process) → onObject x ≡ true → ready x ≡ false

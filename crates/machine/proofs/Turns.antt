@@ -1,15 +1,14 @@
 -- What a call makes of the record of a process of its own partition. Assumes nothing.
-use Prim.Native.Nat.{ℕ, _-_, _≤_, _<_}
+use Prim.Native.Nat.{ℕ, _-_, _≤_}
 use mathlib.Core.Path.{_≡_, refl, sym, ap, subst, _∙_}
-use mathlib.Core.Bool.{Bool, true, false, not}
+use mathlib.Core.Bool.{true, false}
 use mathlib.Core.List.{List}
 use mathlib.Core.Logic.{_⊎_, inl, inr, ⊎-elim}
 use native.Mathlib.Omega.{arith}
 use lib.ListN.{set}
-use lib.Dec.{eqb, ltb}
+use lib.Dec.{eqb}
 use lib.IntN.{ℤ, pos}
-use borrow.Author.Tests.{eq-eqb, eqb-true, eqb-false, ltb-true, ltb-false}
-use Rattle.machine.specs.declared.Buffer.{Buffer}
+use borrow.Author.Tests.{eq-eqb, eqb-true, eqb-false}
 use Rattle.machine.specs.declared.Process.{Process}
 use Rattle.machine.specs.declared.Partition.{Partition}
 use Rattle.machine.specs.declared.Context.{Context}
@@ -18,131 +17,30 @@ use Rattle.machine.specs.declared.Transfer.{Transfer}
 use Rattle.machine.specs.declared.Change.{Change}
 use Rattle.machine.specs.declared.Change.the-variants.{Nothing, Stored, Created, Last, StoredSemaphore, StoredEvent, CreatedBuffer, Moved, StoredBlackboard, Ended, Handed, LevelSet, Entered}
 use Rattle.machine.specs.declared.Wait.the-variants.{None, Normal, Period, Semaphore, Sending, Receiving}
-use Rattle.machine.specs.declared.Time.{Time}
-use Rattle.machine.specs.declared.Time.the-variants.{Never, At}
+use Rattle.machine.specs.declared.Time.the-variants.{Never}
 use Rattle.machine.specs.declared.Event.{Event as EventT}
 use Rattle.machine.specs.declared.Module.{Module}
-use Rattle.machine.specs.Limits.{processLimit, semaphoreLimit, eventLimit, bufferLimit, blackboardLimit}
+use Rattle.machine.specs.Limits.{processLimit, bufferLimit}
 use Rattle.machine.specs.Fields.{field, requestOf, isNumber, numberOf}
 use Rattle.machine.specs.Messages.{sent, received}
-use Rattle.machine.specs.Process.{blankProcess, isNever, object, periodic, served, handed, startRule, forNothing, waitsForNothing, waitsForNormal, ready, entered, withSuspended, withCurrent}
-use Rattle.machine.specs.Partition.{within, byId, normalMode, process, stored, arrivedLast, storedSemaphore, storedEvent, storedBuffer, storedBlackboard, movedIn, endedBy, emptyBuffer, buffer, waiters, firstWaiter, changedAll, withMode, enteredNormal, applied, running}
+use Rattle.machine.specs.Process.{blankProcess, object, served, handed, stopped, forNothing, waitsForNothing, waitsForNormal, ready, entered}
+use Rattle.machine.specs.Partition.{byId, normalMode, process, stored, created, storedBuffer, movedIn, endedBy, buffer, waiters, firstWaiter, changedAll, withMode, enteredNormal, applied, running}
 use Rattle.machine.specs.Step.{contextOf}
 use Rattle.machine.specs.Valid.{Between, contains, Distinct, Valid, ListedIn, SoundModule, SoundChange, SoundEnd, settingOf}
 use Rattle.machine.specs.Plain.{idsFrom}
 use Rattle.machine.specs.Starred.{own}
-use Rattle.machine.specs.EachCall.{idOf, periodicAt, with, withPriority}
-use Rattle.machine.specs.EachProcess.{waitOf, servedBy, begunWith, StartWait, Call, CallOf, CallBy, Tick, Service, Untold, Becomes}
+use Rattle.machine.specs.EachCall.{idOf, with, withPriority}
+use Rattle.machine.specs.EachProcess.{waitOf, servedBy, Call, CallOf, CallBy, Tick, Service, ActsElsewhere, Becomes}
 use Rattle.machine.proofs.Tests.{by-test, not-both, or-right}
-use Rattle.machine.proofs.Bounds.{same-or-not, named-out, within-in, within-out, named-same, named-other, created-in, buffer-in}
-use Rattle.machine.proofs.Either.{either}
-use Rattle.machine.proofs.Keeping.{process-other, process-stored, changed-process, each-changed, AllCreated, from-range, from-has, distinct-from}
+use Rattle.machine.proofs.Bounds.{same-or-not, within-in, named-same, named-other, created-in, buffer-in}
+use Rattle.machine.proofs.Keeping.{process-other, process-stored, changed-process, each-changed, AllCreated, from-range, distinct-from}
 use Rattle.machine.proofs.Kept.{end-same, first-in, waiters-created, waiters-distinct, waiters-exact}
 use Rattle.machine.proofs.Sound.{ready-parts}
 use Rattle.machine.proofs.Plain.{next-plain, next-deadline-plain}
 use Rattle.machine.proofs.Calling.{number-of, number-is}
-use Rattle.machine.proofs.Queues.{same-queue}
-use Rattle.machine.proofs.Reasons.{for-none, for-normal}
-use Rattle.machine.proofs.Acts.{Puts, Begins, Moves, Makes, touches, told}
-
--- ---------------------------------------------------------------- equal records
-module _ {x y : Process} (e : x ≡ y) where
-  pub same-started : x .started ≡ y .started
-  same-started = ap (λ (z : Process). z .started) e
-
-  pub same-wait : x .wait ≡ y .wait
-  same-wait = ap (λ (z : Process). z .wait) e
-
-  pub same-mark : x .suspended ≡ y .suspended
-  same-mark = ap (λ (z : Process). z .suspended) e
-
-  pub same-missed : x .missed ≡ y .missed
-  same-missed = ap (λ (z : Process). z .missed) e
-
-  pub same-given : x .given ≡ y .given
-  same-given = ap (λ (z : Process). z .given) e
-
-  pub same-current : x .current ≡ y .current
-  same-current = ap (λ (z : Process). z .current) e
-
-  pub same-release : x .times .release ≡ y .times .release
-  same-release = ap (λ (z : Process). z .times .release) e
-
--- ---------------------------------------------------------------- partitions that differ in no process
--- no process and no queue differs
-pub record Alike (p q : Partition) : Type 0 where
-  pub processes : q .processes ≡ p .processes
-  pub waiting : q .waiting ≡ p .waiting
-
-pub alike-same : (p : Partition) → Alike p p
-alike-same p = record { processes = refl; waiting = refl }
-
-buffer-alike : (k : ℕ) (b : Buffer) (p : Partition) → Alike p (storedBuffer k b p)
-unfolding storedBuffer
-buffer-alike k b p = by-test (Alike p) (within bufferLimit k) (λ _. record { processes = refl; waiting = refl }) (λ _. alike-same p)
-
--- a change that reaches no process
-pub untouched : (a : Change) (p : Partition) → touches a ≡ false → Alike p (applied a p)
-unfolding arrivedLast storedSemaphore storedEvent storedBuffer storedBlackboard
-untouched Nothing p h = alike-same p
-untouched (Stored id y) p h = not-both _ refl h
-untouched (Created id y) p h = not-both _ refl h
-untouched (Last id) p h = record { processes = refl; waiting = refl }
-untouched (StoredSemaphore k s) p h = by-test (Alike p) (within semaphoreLimit k) (λ _. record { processes = refl; waiting = refl }) (λ _. alike-same p)
-untouched (StoredEvent k s) p h = by-test (Alike p) (within eventLimit k) (λ _. record { processes = refl; waiting = refl }) (λ _. alike-same p)
-untouched (CreatedBuffer k name limit) p h = buffer-alike k (emptyBuffer name limit) p
-untouched (Moved k a) p h = not-both _ refl h
-untouched (StoredBlackboard k b) p h = by-test (Alike p) (within blackboardLimit k) (λ _. record { processes = refl; waiting = refl }) (λ _. alike-same p)
-untouched (Ended o) p h = not-both _ refl h
-untouched (Handed o m) p h = not-both _ refl h
-untouched (LevelSet level holder) p h = record { processes = refl; waiting = refl }
-untouched (Entered d) p h = not-both _ refl h
-
-alike-along : (p q r : Partition) → Alike p q → Alike q r → Alike p r
-alike-along p q r a b = record { processes = b .processes ∙ a .processes; waiting = b .waiting ∙ a .waiting }
-
-pub alike-process : (p q : Partition) → Alike p q → (id : ℕ) → process id q ≡ process id p
-alike-process p q a id = ap (byId processLimit blankProcess id) (a .processes)
-
-pub alike-waiters : (p q : Partition) → Alike p q → (o : ℕ) → waiters o q ≡ waiters o p
-alike-waiters p q a o = same-queue o p q (a .waiting) (λ y. ap (λ (x : Process). object (x .wait)) (alike-process p q a y))
-
--- where no process has been created stands a blank one
-pub not-created : (p : Partition) → ListedIn p → (id : ℕ) → contains id (idsFrom (p .processCount) 1) ≡ false → process id p ≡ blankProcess
-not-created p v id h = either (within processLimit id)
-    (λ e. ⊎-elim
-    (λ (out : p .processCount < id). v .numbered .past id out)
-    (λ (few : id ≤ p .processCount). not-both _ (from-has (p .processCount) 1 id (within-out processLimit id e .0) (omega arith)) h)
-    (either (ltb (p .processCount) id) (λ t. inl (ltb-true _ _ t)) (λ t. inr (ltb-false _ _ t))))
-    (λ e. named-out processLimit id blankProcess (p .processes) e)
-
--- ---------------------------------------------------------------- the start rule
--- what it makes of a process
-record Begun (x y : Process) (n : ℕ) (mark : Bool) : Type 0 where
-  is : y ≡ begunWith (y .times) n mark (y .wait) x
-  wait : StartWait x (y .wait)
-
-periodic-at : (a : Time) (b : Bool) → not (isNever a) ≡ b → periodicAt a ≡ b
-periodic-at Never b e = e
-periodic-at (At n) b e = e
-
-starts-as : (c : Context) (delay : ℕ) (x : Process) → Begun x (startRule c delay x) (x .given .base) false
-unfolding startRule
-starts-as c delay x = by-test (λ (y : Process). Begun x y (x .given .base) false) (periodic x)
-    (λ e. record { is = refl; wait = rw (periodic-at (x .given .period) true e) refl })
-    (λ e. by-test (λ (y : Process). Begun x y (x .given .base) false) (eqb delay 0)
-    (λ _. record { is = refl; wait = rw (periodic-at (x .given .period) false e) (inl refl) })
-    (λ _. record { is = refl; wait = rw (periodic-at (x .given .period) false e) (inr refl) }))
-
--- on entering NORMAL
-abbrev Enters : Process → Process → Type 0
-Enters x y = ((x .wait ≡ Normal) × Begun x y (x .current) (x .suspended)) ⊎ ((x .wait ≡ Normal → ⊥) × (y ≡ x))
-
-enters-as : (c : Context) (x : Process) → Enters x (entered c x)
-unfolding entered
-enters-as c x = by-test (Enters x) (waitsForNormal (x .wait))
-    (λ e. let b = starts-as c (x .times .delay) x in inl (for-normal (x .wait) e, record { is = ap (λ (y : Process). withSuspended (x .suspended) (withCurrent (x .current) y)) (b .is); wait = b .wait }))
-    (λ t. inr (λ z. not-both _ (ap waitsForNormal z) t, refl))
+use Rattle.machine.proofs.Reasons.{for-none}
+use Rattle.machine.proofs.Acts.{StoredBy, BlockedBy, TransferBy, Makes, touches, actsOnNamed}
+use Rattle.machine.proofs.Alike.{Alike, buffer-alike, untouched, alike-along, alike-process, alike-waiters, not-created, Begun, starts-as, enters-as}
 
 -- ---------------------------------------------------------------- an event's numbers
 -- the id that a field names
@@ -155,66 +53,66 @@ same-number e = ap idOf e
 
 module _ (m : Module) (e : EventT) (k id : ℕ) where
   -- no tick, and no call of the partition answered 0 or 7
-  pub untold-none : (code : ℕ) → (Tick m e code k id → ⊥) → ((n c : ℕ) → (c ≡ 0) ⊎ (c ≡ 7) → Call m e code k id n c → ⊥) → Untold m e code k id
-  untold-none code still none = record {
+  pub elsewhere-none : (code : ℕ) → (Tick m e code k id → ⊥) → ((n c : ℕ) → (c ≡ 0) ⊎ (c ≡ 7) → Call m e code k id n c → ⊥) → ActsElsewhere m e code k id
+  elsewhere-none code still none = record {
     tick = still;
     start = ⊎-elim (λ (c : CallOf m e code k id 3). none 3 0 (inl refl) (c .0)) (λ (c : CallOf m e code k id 4). none 4 0 (inl refl) (c .0));
     stop = ⊎-elim (λ (c : CallOf m e code k id 5). none 5 0 (inl refl) (c .0)) (λ (c : CallBy m e code k id 6 0). none 6 0 (inl refl) (c .0));
     suspend = λ c. none 7 0 (inl refl) (c .0);
     resume = λ c. none 11 0 (inl refl) (c .0);
-    rank = λ c. none 12 0 (inl refl) (c .0);
+    priority = λ c. none 12 0 (inl refl) (c .0);
     wait = λ n c. none n 7 (inr refl) (c .0);
     enter = λ c. none 1 0 (inl refl) (c .call);
     erase = λ c. none 1 0 (inl refl) (c .call);
   }
 
   -- a code other than 0 and 7
-  pub untold-code : (code : ℕ) → (code ≡ 0 → ⊥) → (code ≡ 7 → ⊥) → Untold m e code k id
-  untold-code code f g = untold-none code (λ t. f (t .1)) (λ n c z w. ⊎-elim (λ (y : c ≡ 0). f (w .2 ∙ y)) (λ (y : c ≡ 7). g (w .2 ∙ y)) z)
+  pub elsewhere-code : (code : ℕ) → (code ≡ 0 → ⊥) → (code ≡ 7 → ⊥) → ActsElsewhere m e code k id
+  elsewhere-code code f g = elsewhere-none code (λ t. f (t .1)) (λ n c z w. ⊎-elim (λ (y : c ≡ 0). f (w .2 ∙ y)) (λ (y : c ≡ 7). g (w .2 ∙ y)) z)
 
   -- a call of another partition
-  pub untold-from : (code h : ℕ) → e .partition ≡ pos h → (h ≡ k → ⊥) → (h ≡ 0 → ⊥) → Untold m e code k id
-  untold-from code h by other some = untold-none code (λ t. some (same-number (sym by ∙ t .0))) (λ n c z w. other (same-number (sym by ∙ w .0)))
+  pub elsewhere-from : (code h : ℕ) → e .partition ≡ pos h → (h ≡ k → ⊥) → (h ≡ 0 → ⊥) → ActsElsewhere m e code k id
+  elsewhere-from code h by other some = elsewhere-none code (λ t. some (same-number (sym by ∙ t .0))) (λ n c z w. other (same-number (sym by ∙ w .0)))
 
   -- a call by another process that waits
-  pub untold-seven : (id ≡ running (own m k) → ⊥) → Untold m e 7 k id
-  untold-seven ne = record {
+  pub elsewhere-seven : (id ≡ running (own m k) → ⊥) → ActsElsewhere m e 7 k id
+  elsewhere-seven ne = record {
     tick = λ t. omega (arith, t .1);
     start = ⊎-elim (λ (c : CallOf m e 7 k id 3). omega (arith, c .0 .2)) (λ (c : CallOf m e 7 k id 4). omega (arith, c .0 .2));
     stop = ⊎-elim (λ (c : CallOf m e 7 k id 5). omega (arith, c .0 .2)) (λ (c : CallBy m e 7 k id 6 0). omega (arith, c .0 .2));
     suspend = λ c. omega (arith, c .0 .2);
     resume = λ c. omega (arith, c .0 .2);
-    rank = λ c. omega (arith, c .0 .2);
+    priority = λ c. omega (arith, c .0 .2);
     wait = λ n c. ne (c .2);
     enter = λ c. omega (arith, c .call .2);
     erase = λ c. omega (arith, c .call .2);
   }
 
   -- call n answered 0: it names another process, is not by this one, and lets it enter NORMAL no more than it erases it
-  pub untold-call : (n h : ℕ) → e .partition ≡ pos h → (h ≡ 0 → ⊥) → e .call ≡ pos n → ((n ≡ 1 → ⊥) → (n ≡ 6 → ⊥) → told n ≡ true → e .a ≡ pos id → ⊥) → (n ≡ 6 → id ≡ running (own m k) → ⊥)
-      → (n ≡ 1 → (e .a ≡ pos 3) × (process id (own m k) .wait ≡ Normal → ⊥)) → Untold m e 0 k id
-  untold-call n h by some call other self one =
+  pub elsewhere-call : (n h : ℕ) → e .partition ≡ pos h → (h ≡ 0 → ⊥) → e .call ≡ pos n → ((n ≡ 1 → ⊥) → (n ≡ 6 → ⊥) → actsOnNamed n ≡ true → e .a ≡ pos id → ⊥) → (n ≡ 6 → id ≡ running (own m k) → ⊥)
+      → (n ≡ 1 → (e .a ≡ pos 3) × (process id (own m k) .wait ≡ Normal → ⊥)) → ActsElsewhere m e 0 k id
+  elsewhere-call n h by some call other self one =
       let is : (j : ℕ) → e .call ≡ pos j → n ≡ j = λ j z. same-number (sym call ∙ z) in
-      let names : (j : ℕ) → (j ≡ 1 → ⊥) → (j ≡ 6 → ⊥) → told j ≡ true → CallOf m e 0 k id j → ⊥ = λ j a b t c. let z = is j (c .0 .1) in other (λ w. a (sym z ∙ w)) (λ w. b (sym z ∙ w)) (rw z t) (c .1) in
+      let names : (j : ℕ) → (j ≡ 1 → ⊥) → (j ≡ 6 → ⊥) → actsOnNamed j ≡ true → CallOf m e 0 k id j → ⊥ = λ j a b t c. let z = is j (c .0 .1) in other (λ w. a (sym z ∙ w)) (λ w. b (sym z ∙ w)) (rw z t) (c .1) in
       record {
         tick = λ t. some (same-number (sym by ∙ t .0));
         start = ⊎-elim (names 3 (λ z. omega arith) (λ z. omega arith) refl) (names 4 (λ z. omega arith) (λ z. omega arith) refl);
         stop = ⊎-elim (names 5 (λ z. omega arith) (λ z. omega arith) refl) (λ (c : CallBy m e 0 k id 6 0). self (is 6 (c .0 .1)) (c .2));
         suspend = names 7 (λ z. omega arith) (λ z. omega arith) refl;
         resume = names 11 (λ z. omega arith) (λ z. omega arith) refl;
-        rank = names 12 (λ z. omega arith) (λ z. omega arith) refl;
+        priority = names 12 (λ z. omega arith) (λ z. omega arith) refl;
         wait = λ n c. omega (arith, c .0 .2);
         enter = λ c. one (is 1 (c .call .1)) .1 (c .waits);
         erase = λ c. let z = same-number (sym (c .is) ∙ one (is 1 (c .call .1)) .0) in omega (arith, c .low);
       }
 
   -- a call that names no process
-  pub untold-number : (n h : ℕ) → e .partition ≡ pos h → (h ≡ 0 → ⊥) → e .call ≡ pos n → told n ≡ false → Untold m e 0 k id
-  untold-number n h by some call off = untold-call n h by some call (λ _ _ t _. not-both _ t off) (λ z _. not-both _ (rw z) off) (λ z. not-both _ (rw z) off)
+  pub elsewhere-number : (n h : ℕ) → e .partition ≡ pos h → (h ≡ 0 → ⊥) → e .call ≡ pos n → actsOnNamed n ≡ false → ActsElsewhere m e 0 k id
+  elsewhere-number n h by some call off = elsewhere-call n h by some call (λ _ _ t _. not-both _ t off) (λ z _. not-both _ (rw z) off) (λ z. not-both _ (rw z) off)
 
 -- ---------------------------------------------------------------- waits that end
 -- process id of partition k waits on o where it is in that queue, and its service there is given
-module _ (m : Module) (e : EventT) (k id : ℕ) (v : ListedIn (own m k)) (o : ℕ) (some : o ≡ 0 → ⊥) (serves : object (process id (own m k) .wait) ≡ o → Service m e 0 k id) (none : Untold m e 0 k id) where
+module _ (m : Module) (e : EventT) (k id : ℕ) (v : ListedIn (own m k)) (o : ℕ) (some : o ≡ 0 → ⊥) (serves : object (process id (own m k) .wait) ≡ o → Service m e 0 k id) (none : ActsElsewhere m e 0 k id) where
   waits-there : contains id (waiters o (own m k)) ≡ true → (msg : ℕ) → Becomes m e 0 k id (handed msg (process id (own m k)))
   waits-there h msg = Becomes.served (serves (eqb-true _ o (sym (waiters-exact (own m k) v o some id) ∙ h))) refl
 
@@ -279,43 +177,43 @@ module _ (m : Module) (s : SoundModule m) (e : EventT) (k : ℕ) (id : ℕ) (n :
   serve j is known o o-is some w = Service.here j (calls j is) (w ∙ o-is ∙ ap (λ b. object (servedBy j b)) (sym (id-of (e .a) known))) (λ z. some (sym w ∙ z))
 
   -- call j names no process
-  off : (j : ℕ) → n ≡ j → told j ≡ false → Untold m e 0 k id
-  off j is t = untold-number m e k id n k by (λ z. omega arith) call (rw is t)
+  off : (j : ℕ) → n ≡ j → actsOnNamed j ≡ false → ActsElsewhere m e 0 k id
+  off j is t = elsewhere-number m e k id n k by (λ z. omega arith) call (rw is t)
 
   -- call j acts on process w alone
-  others : (j w : ℕ) → n ≡ j → (j ≡ 1 → ⊥) → (j ≡ 6 → ⊥) → 1 ≤ w → w ≡ numberOf (r .a) → (id ≡ w → ⊥) → Untold m e 0 k id
-  others j w is one six some a ne = untold-call m e k id n k by (λ z. omega arith) call
+  others : (j w : ℕ) → n ≡ j → (j ≡ 1 → ⊥) → (j ≡ 6 → ⊥) → 1 ≤ w → w ≡ numberOf (r .a) → (id ≡ w → ⊥) → ActsElsewhere m e 0 k id
+  others j w is one six some a ne = elsewhere-call m e k id n k by (λ z. omega arith) call
       (λ _ _ _ z. ne (same-number (sym z ∙ number-of (e .a) (λ y. omega arith)) ∙ sym a))
       (λ z _. six (sym is ∙ z))
       (λ z. absurd (one (sym is ∙ z)))
 
-  puts-other : (w : ℕ) (y : Process) → 1 ≤ w → Puts c r p n w y → (id ≡ w → ⊥) → Untold m e 0 k id
-  puts-other w y b (Puts.starts is a on delay y-is) ne = ⊎-elim (λ (i : n ≡ 3). others 3 w i (λ z. omega arith) (λ z. omega arith) b a ne) (λ (i : n ≡ 4). others 4 w i (λ z. omega arith) (λ z. omega arith) b a ne) is
-  puts-other w y b (Puts.stops is a on y-is) ne = others 5 w is (λ z. omega arith) (λ z. omega arith) b a ne
-  puts-other w y b (Puts.stopsSelf is self normal y-is) ne = untold-call m e k id n k by (λ z. omega arith) call (λ _ six _ _. six is) (λ _ z. ne (z ∙ sym self)) (λ z. absurd (omega (arith, is, z)))
-  puts-other w y b (Puts.marks is a on unmarked y-is) ne = others 7 w is (λ z. omega arith) (λ z. omega arith) b a ne
-  puts-other w y b (Puts.resumes is a on marked y-is) ne = others 11 w is (λ z. omega arith) (λ z. omega arith) b a ne
-  puts-other w y b (Puts.ranks is a on some y-is) ne = others 12 w is (λ z. omega arith) (λ z. omega arith) b a ne
-  puts-other w y b (Puts.serves is known in-queue y-is) ne = off 16 is refl
+  puts-other : (w : ℕ) (y : Process) → 1 ≤ w → StoredBy c r p n w y → (id ≡ w → ⊥) → ActsElsewhere m e 0 k id
+  puts-other w y b (StoredBy.starts is a on delay y-is) ne = ⊎-elim (λ (i : n ≡ 3). others 3 w i (λ z. omega arith) (λ z. omega arith) b a ne) (λ (i : n ≡ 4). others 4 w i (λ z. omega arith) (λ z. omega arith) b a ne) is
+  puts-other w y b (StoredBy.stops is a on y-is) ne = others 5 w is (λ z. omega arith) (λ z. omega arith) b a ne
+  puts-other w y b (StoredBy.stopsSelf is self normal y-is) ne = elsewhere-call m e k id n k by (λ z. omega arith) call (λ _ six _ _. six is) (λ _ z. ne (z ∙ sym self)) (λ z. absurd (omega (arith, is, z)))
+  puts-other w y b (StoredBy.marks is a on unmarked y-is) ne = others 7 w is (λ z. omega arith) (λ z. omega arith) b a ne
+  puts-other w y b (StoredBy.resumes is a on marked y-is) ne = others 11 w is (λ z. omega arith) (λ z. omega arith) b a ne
+  puts-other w y b (StoredBy.prioritises is a on some y-is) ne = others 12 w is (λ z. omega arith) (λ z. omega arith) b a ne
+  puts-other w y b (StoredBy.serves is known in-queue y-is) ne = off 16 is refl
 
-  put : (y : Process) → 1 ≤ id → ListedIn p → Puts c r p n id y → After y
-  put y b v (Puts.starts is a off delay y-is) =
+  put : (y : Process) → 1 ≤ id → ListedIn p → StoredBy c r p n id y → After y
+  put y b v (StoredBy.starts is a off delay y-is) =
       let st = ⊎-elim (λ (i : n ≡ 3). inl (of 3 i b a)) (λ (i : n ≡ 4). inr (of 4 i b a)) is in
       to y-is (by-test After (normalMode p)
       (λ t. let g = starts-as c delay x in Becomes.started st off (g .is) (λ _. g .wait) (λ early. absurd (early (eqb-true _ 3 t))))
       (λ t. Becomes.started st off refl (λ z. not-both _ (eq-eqb (p .mode) 3 z) t) (λ _. refl)))
-  put y b v (Puts.stops is a on y-is) = to y-is (Becomes.stopped (inl (of 5 is b a)) refl)
-  put y b v (Puts.stopsSelf is self normal y-is) = to y-is (Becomes.stopped (inr (calls 6 is, eqb-true _ 3 normal, self)) refl)
-  put y b v (Puts.marks is a on off y-is) = to y-is (Becomes.suspended (of 7 is b a) on off refl)
-  put y b v (Puts.resumes is a on marked y-is) =
+  put y b v (StoredBy.stops is a on y-is) = to y-is (Becomes.stopped (inl (of 5 is b a)) refl)
+  put y b v (StoredBy.stopsSelf is self normal y-is) = to y-is (Becomes.stopped (inr (calls 6 is, eqb-true _ 3 normal, self)) refl)
+  put y b v (StoredBy.marks is a on off y-is) = to y-is (Becomes.suspended (of 7 is b a) on off refl)
+  put y b v (StoredBy.resumes is a on marked y-is) =
       to y-is (by-test After (waitsForNothing (x .wait))
       (λ t. Becomes.resumed (of 11 is b a) on marked (ap (λ w. with false Never 0 w x) (sym (for-none (x .wait) t))))
       (λ _. Becomes.resumed (of 11 is b a) on marked refl))
-  put y b v (Puts.ranks is a on some y-is) = to y-is (Becomes.ranked (of 12 is b a) on (ap (λ j. withPriority j x) (sym (id-of (e .b) (λ z. omega arith)))))
-  put y b v (Puts.serves is known in-queue y-is) = let o = object (Semaphore (numberOf (r .a))) in to y-is (waits-there m e k id v o (λ z. omega arith) (serve 16 is known o refl (λ z. omega arith)) (off 16 is refl) in-queue (x .message))
+  put y b v (StoredBy.prioritises is a on some y-is) = to y-is (Becomes.prioritised (of 12 is b a) on (ap (λ j. withPriority j x) (sym (id-of (e .b) (λ z. omega arith)))))
+  put y b v (StoredBy.serves is known in-queue y-is) = let o = object (Semaphore (numberOf (r .a))) in to y-is (waits-there m e k id v o (λ z. omega arith) (serve 16 is known o refl (λ z. omega arith)) (off 16 is refl) in-queue (x .message))
 
   -- the caller begins to wait, code 7
-  pub begin : (y : Process) → Valid (m .table .frame) (m .t) p → Between 1 (p .processCount) id → normalMode p ≡ true → id ≡ running p → ready x ≡ true → Begins r n x y → Becomes m e 7 k id y
+  pub begin : (y : Process) → Valid (m .table .frame) (m .t) p → Between 1 (p .processCount) id → normalMode p ≡ true → id ≡ running p → ready x ≡ true → BlockedBy r n x y → Becomes m e 7 k id y
   begin y v b normal self on g = go g
     where
       none : x .wait ≡ None
@@ -324,43 +222,43 @@ module _ (m : Module) (s : SoundModule m) (e : EventT) (k : ℕ) (id : ℕ) (n :
       its : (j : ℕ) → n ≡ j → CallBy m e 7 k id j 7
       its j is = ((by, call ∙ ap pos is, refl), eqb-true _ 3 normal, self)
 
-      go : Begins r n x y → Becomes m e 7 k id y
-      go (Begins.suspends is until y-is) = subst (Becomes m e 7 k id) (sym y-is) (Becomes.suspendedSelf (its 8 is) none (ap (λ w. with true until (x .code) w x) none))
-      go (Begins.releases is per y-is) =
+      go : BlockedBy r n x y → Becomes m e 7 k id y
+      go (BlockedBy.suspends is until y-is) = subst (Becomes m e 7 k id) (sym y-is) (Becomes.suspendedSelf (its 8 is) none (ap (λ w. with true until (x .code) w x) none))
+      go (BlockedBy.releases is per y-is) =
           let sound = v .eachProcess id b in
           let at = next-plain (settingOf (m .table .frame) (m .t) p) x sound normal on (s .time) per in
           let d = next-deadline-plain (settingOf (m .table .frame) (m .t) p) x sound normal on (s .time) per in
           subst (Becomes m e 7 k id) (sym y-is) (Becomes.released (its 10 is) none (λ i. record { given = x .given; times = record { release = at i; deadline = d i; wake = at i; delay = x .times .delay }; current = x .current; suspended = x .suspended; missed = x .missed; code = x .code; message = x .message; started = x .started; wait = Period }))
-      go (Begins.waits off known until wait y-is) =
+      go (BlockedBy.waits off known until wait y-is) =
           let b = numberOf (r .b) in
           let w : waitOf n (numberOf (r .a)) b ≡ waitOf n (idOf (e .a)) b = ⊎-elim (λ (nine : eqb n 9 ≡ true). rw nine) (λ (some : numberOf (r .a) ≡ 0 → ⊥). ap (λ j. waitOf n j b) (sym (id-of (e .a) some))) known in
           subst (Becomes m e 7 k id) (sym y-is) (Becomes.waiting n b (its n refl) (eqb-false n 10 (or-right (eqb n 8) _ off)) none (λ z. not-both _ (ap waitsForNothing (w ∙ z)) wait) (ap (λ v. with (x .suspended) until (x .code) v x) w))
 
   module _ (v : ListedIn p) where
-    moved-turn : (j : ℕ) (a : Transfer) (q : Partition) → Alike p q → ListedIn q → SoundEnd q a → Moves r p n j a → After (process id (endedBy a q))
-    moved-turn j a q al u h (Moves.sends is j-is some msg a-is) =
+    moved-turn : (j : ℕ) (a : Transfer) (q : Partition) → Alike p q → ListedIn q → SoundEnd q a → TransferBy r p n j a → After (process id (endedBy a q))
+    moved-turn j a q al u h (TransferBy.sends is j-is some msg a-is) =
         let o = object (Receiving j) in
         sent-is m e k id v o (λ z. omega arith) (serve 24 is (λ z. some (j-is ∙ z)) o (ap (λ i. object (Receiving i)) j-is) (λ z. omega arith)) (off 24 is refl) q al u a msg a-is h
-    moved-turn j a q al u h (Moves.receives is j-is some msg a-is) =
+    moved-turn j a q al u h (TransferBy.receives is j-is some msg a-is) =
         let o = object (Sending j 0) in
         received-is m e k id v o (λ z. omega arith) (serve 25 is (λ z. some (j-is ∙ z)) o (ap (λ i. object (Sending i 0)) j-is) (λ z. omega arith)) (off 25 is refl) q al u a msg a-is h
 
     -- several processes changed by f, where those of them become z
-    all-turn : (f : Process → Process) (l : List ℕ) (q : Partition) → Alike p q → ListedIn q → AllCreated l (q .processCount) → Distinct l → (contains id l ≡ true → After (f x)) → (contains id l ≡ false → Untold m e 0 k id) → After (process id (changedAll f l q))
+    all-turn : (f : Process → Process) (l : List ℕ) (q : Partition) → Alike p q → ListedIn q → AllCreated l (q .processCount) → Distinct l → (contains id l ≡ true → After (f x)) → (contains id l ≡ false → ActsElsewhere m e 0 k id) → After (process id (changedAll f l q))
     all-turn f l q a u all dis g none =
         to (changed-process f l q u all dis id)
         (by-test After (contains id l) (λ t. to (ap f (alike-process p q a id)) (g t)) (λ t. Becomes.same (none t) (alike-process p q a id)))
 
-    entering : n ≡ 1 → isNumber 3 (r .a) ≡ true → (x .wait ≡ Normal → ⊥) → Untold m e 0 k id
-    entering is three out = untold-call m e k id n k by (λ z. omega arith) call (λ one _ _ _. one is) (λ z _. omega (arith, is)) (λ _. (number-is (e .a) 3 three, out))
+    entering : n ≡ 1 → isNumber 3 (r .a) ≡ true → (x .wait ≡ Normal → ⊥) → ActsElsewhere m e 0 k id
+    entering is three out = elsewhere-call m e k id n k by (λ z. omega arith) call (λ one _ _ _. one is) (λ z _. omega (arith, is)) (λ _. (number-is (e .a) 3 three, out))
 
-    pub turned : (a : Change) (q : Partition) → Alike p q → Valid (m .table .frame) (m .t) q → SoundChange c q a → Makes c r p n a → (touches a ≡ false → Untold m e 0 k id) → After (process id (applied a q))
+    pub turned : (a : Change) (q : Partition) → Alike p q → Valid (m .table .frame) (m .t) q → SoundChange c q a → Makes c r p n a → (touches a ≡ false → ActsElsewhere m e 0 k id) → After (process id (applied a q))
     unfolding enteredNormal
     turned Nothing q al u h g none = Becomes.same (none refl) (alike-process p q al id)
     turned (Stored w y) q al u h g none = ⊎-elim
         (λ (z : id ≡ w).
         to (ap (λ i. process i (stored w y q)) z ∙ process-stored q w y (u .lists) (h .0))
-        (put y (omega (arith, h .0 .0)) v (subst (λ i. Puts c r p n i y) (sym z) g)))
+        (put y (omega (arith, h .0 .0)) v (subst (λ i. StoredBy c r p n i y) (sym z) g)))
         (λ (ne : id ≡ w → ⊥). Becomes.same (puts-other w y (h .0 .0) g ne) (process-other q w y id ne ∙ alike-process p q al id))
         (same-or-not id w)
     turned (Created w y) q al u h g none =

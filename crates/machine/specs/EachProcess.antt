@@ -109,20 +109,20 @@ module _ (m : Module) (e : EventT) (code k id : ℕ) where
     restart : (i mode : ℕ) → i < m .table .channelCount → e .partition ≡ pos (channel (m .table) i .destination) → e .call ≡ pos 1 → e .a ≡ pos mode → mode ≤ 2 → code ≡ 0 → k ≡ channel (m .table) i .source → object (was .wait) ≡ object (Source (i + 1) 0) → Service
 
   -- none of these, and no call by it that waits
-  pub record Untold : Type 0 where
+  pub record ActsElsewhere : Type 0 where
     pub tick : Tick → ⊥
     pub start : Start → ⊥
     pub stop : Stop → ⊥
     pub suspend : CallOf 7 → ⊥
     pub resume : CallOf 11 → ⊥
-    pub rank : CallOf 12 → ⊥
+    pub priority : CallOf 12 → ⊥
     pub wait : (n : ℕ) → CallBy n 7 → ⊥
     pub enter : Entry → ⊥
     pub erase : Erasure → ⊥
 
   -- its record after the event is y
   pub data Becomes (y : Process) : Type 0 where
-    same : Untold → y ≡ was → Becomes y
+    same : ActsElsewhere → y ≡ was → Becomes y
     ticked : Tick → y ≡ atTick (m .t + 1) was → Becomes y
     created : Call 2 0 → was ≡ blankProcess → y ≡ newProcess (y .given) → Becomes y
     started : Start → was .started ≡ false → y ≡ begunWith (y .times) (was .given .base) false (y .wait) was
@@ -133,7 +133,7 @@ module _ (m : Module) (e : EventT) (code k id : ℕ) where
     waiting : (n message : ℕ) → CallBy n 7 → (n ≡ 10 → ⊥) → was .wait ≡ None → (waitOf n (idOf (e .a)) message ≡ None → ⊥) → y ≡ with (was .suspended) (y .times .wake) (was .code) (waitOf n (idOf (e .a)) message) was → Becomes y
     released : CallBy 10 7 → was .wait ≡ None → y ≡ releasedNext was → Becomes y
     resumed : CallOf 11 → was .started ≡ true → was .suspended ≡ true → y ≡ with false (y .times .wake) (y .code) (was .wait) was → Becomes y
-    ranked : CallOf 12 → was .started ≡ true → y ≡ withPriority (idOf (e .b)) was → Becomes y
+    prioritised : CallOf 12 → was .started ≡ true → y ≡ withPriority (idOf (e .b)) was → Becomes y
     served : Service → y ≡ waitOver 0 (y .message) was → Becomes y
     entered : Entry → y ≡ begunWith (y .times) (was .current) (was .suspended) (y .wait) was → StartWait was (y .wait) → Becomes y
     erased : Erasure → y ≡ blankProcess → Becomes y

@@ -37,6 +37,7 @@ pub mod EachProcess
 pub mod ProcessStates
 pub mod Priorities
 pub mod Periods
+pub mod Arrivals
 pub mod TableLines
 pub mod Terms
 pub mod Modes

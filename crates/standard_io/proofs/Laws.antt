@@ -132,7 +132,7 @@ pub bytes-within : (got : Got) (n most : ℕ) → got ≡ Bytes n → byteCount 
 bytes-within got n most e h = rw e at h
 
 -- a read that gives bytes gives one at least, where there is room
-pub got-some : (z : ℤ) (most n : ℕ) → 0 < most → Bytes n ≡ gotOf z most → 0 < n
+got-some : (z : ℤ) (most n : ℕ) → 0 < most → Bytes n ≡ gotOf z most → 0 < n
 got-some (pos k) most n h e =
     by-test (λ (g : Got). Bytes n ≡ g → 0 < n) (eqb k 0)
     (λ _ q. no-end (cc))
@@ -306,8 +306,11 @@ pub record Filling (input₀ input : List ℕ) (at : ℕ) : Type 0 where
 pub filling-begins : (input : List ℕ) → Filling input input 0
 filling-begins input = record { filled = empty; within = omega arith; size = refl }
 
-from-within : (most : ℕ) (got : Got) → GotFrom most got → byteCount got ≤ most
-from-within most got g = got-within (g .answer) most got (g .is)
+-- what a read that gave bytes leaves
+pub record FilledOn (input₀ input input′ : List ℕ) (at n : ℕ) : Type 0 where
+  pub some : 0 < n
+  pub inside : at + n ≤ length input
+  pub next : Filling input₀ input′ (at + n)
 
 module _ (input₀ input : List ℕ) (at : ℕ) (k : Filling input₀ input at) (less : at < length input) (got : Got) (g : GotFrom (length input - at) got) where
   got-left : GotFrom (length input₀ - at) got
@@ -316,19 +319,14 @@ module _ (input₀ input : List ℕ) (at : ℕ) (k : Filling input₀ input at) 
   short : at < length input₀
   short = omega (arith, k .size)
 
-  module _ (n : ℕ) (e : got ≡ Bytes n) where
-    pub filling-within : at + n ≤ length input
-    filling-within = omega (arith, bytes-within got n (length input - at) e (from-within (length input - at) got g))
-
-    pub filling-some : 0 < n
-    filling-some = got-some (g .answer) (length input - at) n (omega arith) (sym e ∙ g .is)
-
-    pub filling-goes : (input′ : List ℕ) → length input′ ≡ length input → Filling input₀ input′ (at + n)
-    filling-goes input′ s = record {
-      filled = more at n (k .filled) short (rw e at got-left);
-      within = omega (arith, filling-within, k .size);
-      size = s ∙ k .size;
-    }
+  pub filling-goes : (n : ℕ) → got ≡ Bytes n → (input′ : List ℕ) → length input′ ≡ length input → FilledOn input₀ input input′ at n
+  filling-goes n e input′ s =
+      let within : at + n ≤ length input = omega (arith, bytes-within got n (length input - at) e (got-within (g .answer) (length input - at) got (g .is))) in
+      record {
+        some = got-some (g .answer) (length input - at) n (omega arith) (sym e ∙ g .is);
+        inside = within;
+        next = record { filled = more at n (k .filled) short (rw e at got-left); within = omega (arith, within, k .size); size = s ∙ k .size };
+      }
 
   pub filling-ends : got ≡ Nothing → ReadWhole (length input₀) (record { length = at; failed = false })
   filling-ends e = record { filled = k .filled; over = ended at short (rw e at got-left) }

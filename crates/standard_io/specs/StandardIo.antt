@@ -65,6 +65,13 @@ isGoing Table = false
 isGoing Unread = false
 isGoing Unwritten = false
 
+abbrev pub isFailure : End → Bool
+isFailure Going = false
+isFailure Input = false
+isFailure Table = false
+isFailure Unread = true
+isFailure Unwritten = true
+
 -- so many reads, one after another as long as reading goes on
 pub data Reads (prints : Bool) : ℕ → Turn → Type 0 where
   before : Reads prints 0 (record { stream = begun; end = Going })
@@ -142,6 +149,10 @@ pub data Over (most : ℕ) : Whole → Type 0 where
   full : Over most (record { length = most; failed = false })
   ended : (at : ℕ) → at < most → GotFrom (most - at) Nothing → Over most (record { length = at; failed = false })
   cut : (at : ℕ) → at < most → GotFrom (most - at) Failure → Over most (record { length = at; failed = true })
+
+-- whether so many bytes were written is free, but for none
+abbrev pub Wrote : ℕ → Bool → Type 0
+Wrote n written = n ≡ 0 → written ≡ true
 
 pub record ReadWhole (most : ℕ) (r : Whole) : Type 0 where
   pub filled : Filled most (r .length)

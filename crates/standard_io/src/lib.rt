@@ -6,7 +6,7 @@ ghost use lib.ListN.{length};
 ghost use Rattle.machine.specs.Limits.{lineLength};
 ghost use Rattle.stream.specs.Stream.{fedAll, closed};
 ghost use Rattle.io.specs.Counts.{Counts};
-ghost use Rattle.standard_io.specs.StandardIo.{gotOf, Quiet, endAfter, afterShown, byteCount, TookRead, ReadOnce, isGoing, ReadToEnd, inputEnd, afterLast, LastTurn, AfterInput, GotFrom, ReadWhole};
+ghost use Rattle.standard_io.specs.StandardIo.{gotOf, Quiet, endAfter, afterShown, byteCount, TookRead, ReadOnce, isGoing, isFailure, ReadToEnd, inputEnd, afterLast, LastTurn, AfterInput, GotFrom, ReadWhole, Wrote};
 use executive::Executive;
 use libc::STDERR_FILENO;
 use libc::STDIN_FILENO;
@@ -222,18 +222,22 @@ fn last_turn(t: Turn, prints: bool) -> Turn
     }
 }
 
-// Says on standard error that a read or a write failed.
-pub fn report(end: End) {
+// Says on standard error that a read or a write failed, and gives whether one did.
+pub fn report(end: End) -> bool
+    ensures { λ b. ⌜ b ≡ isFailure end ⌝ }
+{
     match end {
         End::Unread => {
             io::write_all(STDERR_FILENO, b"the input cannot be read\n");
+            true
         }
         End::Unwritten => {
             io::write_all(STDERR_FILENO, b"the output cannot be written\n");
+            true
         }
-        End::Going => {}
-        End::Input => {}
-        End::Table => {}
+        End::Going => false,
+        End::Input => false,
+        End::Table => false,
     }
 }
 
@@ -293,9 +297,16 @@ pub fn read_whole(input: &mut [u8]) -> Whole
     }
 }
 
-// Writes a whole output; standard error is told where it cannot be written.
-pub fn write_whole(text: &[u8]) {
-    if !io::write_all(STDOUT_FILENO, text) {
-        report(End::Unwritten);
+// Writes a whole output, and gives whether it was written; standard error is told where it was not.
+pub fn write_whole(text: &[u8]) -> bool
+    ensures { λ written. ⌜ Wrote (length (now (text .entry))) written ⌝ }
+{
+    if text.len() == 0 {
+        return true;
     }
+    if io::write_all(STDOUT_FILENO, text) {
+        return true;
+    }
+    report(End::Unwritten);
+    false
 }

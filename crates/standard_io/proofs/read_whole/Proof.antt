@@ -3,9 +3,13 @@ use mathlib.Core.Path.{refl, _∙_}
 use Prim.Native.Nat.{_-_}
 use lib.ListN.{length}
 use borrow.Author.Needs.{needs}
-use Rattle.standard_io.proofs.Laws.{Filling, filling-begins, filling-within, filling-some, filling-goes, filling-counts, filling-ends, filling-cut, filling-full}
+use Rattle.standard_io.proofs.Laws.{Filling, FilledOn, filling-begins, filling-goes, filling-counts, filling-ends, filling-cut, filling-full}
 use Rattle.standard_io.proofs.read_whole.Statement.{statement}
 use Rattle.standard_io.proofs.read_whole.Tie as tie
+use Rattle.standard_io.proofs.read_whole.Reads as reads
+use Rattle.standard_io.proofs.read_whole.Lts as lts
+use Rattle.standard_io.proofs.read_from.Reads as read-from-reads
+use Rattle.standard_io.proofs.report.Reads as report-reads
 
 abbrev Inv-loop : tie.InvT-loop
 Inv-loop input₀ at₀ input at = Filling input₀ input at
@@ -19,14 +23,21 @@ loop-holds c = filling-begins _
 read-from-requires : tie.Need-read-from-requires Inv-loop μ-loop
 read-from-requires c κs = omega (arith, c .before .loop-test .taken)
 
+-- after a read that gave bytes
+abbrev Given : Type 0
+Given = lts.After-known-told (read-from-reads.Asked, read-from-reads.Learnt, report-reads.Asked, report-reads.Learnt) reads.Pre reads.Post Inv-loop μ-loop
+
+turn : (c : Given) → FilledOn (c .before .before .before .before .before .before .before .before .before .before .args .input .now) (c .before .before .before .before .before .before .before .before .loop .input) (c .before .before .before .before .before .read-from .last .0) (c .before .before .before .before .before .before .before .before .loop .at) (c .before .n .given .0 .0)
+turn c = filling-goes _ _ _ (c .before .before .before .before .before .before .before .before .loop .inv) (c .before .before .before .before .before .before .before .loop-test .taken) _ (c .before .before .before .before .before .read-from .ensures) _ (c .before .n .given .1) _ (c .before .before .before .before .before .read-from .kept .0)
+
 add-at : tie.Need-add-at Inv-loop μ-loop
-add-at c = omega (arith, filling-within _ _ _ (c .before .before .before .before .before .before .before .before .loop .inv) (c .before .before .before .before .before .before .before .loop-test .taken) _ (c .before .before .before .before .before .read-from .ensures) _ (c .before .n .given .1), c .before .before .before .before .before .before .before .before .before .before .good)
+add-at c = omega (arith, turn c .inside, c .before .before .before .before .before .before .before .before .before .before .good)
 
 loop-less : tie.Need-loop-less Inv-loop μ-loop
-loop-less c = omega (arith, filling-within _ _ _ (c .before .before .before .before .before .before .before .before .loop .inv) (c .before .before .before .before .before .before .before .loop-test .taken) _ (c .before .before .before .before .before .read-from .ensures) _ (c .before .n .given .1), filling-some _ _ _ (c .before .before .before .before .before .before .before .before .loop .inv) (c .before .before .before .before .before .before .before .loop-test .taken) _ (c .before .before .before .before .before .read-from .ensures) _ (c .before .n .given .1), c .before .before .before .before .before .before .before .before .loop .inv .size)
+loop-less c = omega (arith, turn c .some, turn c .inside, c .before .before .before .before .before .before .before .before .loop .inv .size)
 
 loop-again : tie.Need-loop-again Inv-loop μ-loop
-loop-again c = filling-goes _ _ _ (c .before .before .before .before .before .before .before .before .loop .inv) (c .before .before .before .before .before .before .before .loop-test .taken) _ (c .before .before .before .before .before .read-from .ensures) _ (c .before .n .given .1) _ (c .before .before .before .before .before .read-from .kept .0)
+loop-again c = turn c .next
 
 same-length : tie.Need-same-length Inv-loop μ-loop
 same-length c = c .before .before .before .before .read-from .kept .0 ∙ c .before .before .before .before .before .before .before .loop .inv .size

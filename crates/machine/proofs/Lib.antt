@@ -53,6 +53,7 @@ pub mod TicksLeft
 pub mod EachCall
 pub mod Acts
 pub mod Alike
+pub mod WaitsOn
 pub mod Turns
 pub mod EachProcess
 pub mod ProcessStates

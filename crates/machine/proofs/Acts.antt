@@ -36,7 +36,7 @@ use Rattle.machine.specs.Channels.{channelChecks, write, read, send, rec
 use Rattle.machine.specs.Buffers.{createBuffer, sendBuffer, receiveBuffer}
 use Rattle.machine.specs.Blackboards.{createBlackboard, show, readBlackboard, clear}
 use Rattle.machine.specs.Services.{Service, services, callDecision}
-use Rattle.machine.specs.Valid.{contains, SoundModule}
+use Rattle.machine.specs.Valid.{Between, contains, SoundModule}
 use Rattle.machine.specs.EachProcess.{waitOf}
 use Rattle.machine.proofs.Tests.{by-test, Passed, passed-parts, by-checks, or-left, or-right, not-both}
 use Rattle.machine.proofs.Fields.{in-limits}
@@ -58,7 +58,7 @@ pub data StoredBy (c : Context) (r : Request) (p : Partition) (j id : ℕ) (y : 
   marks : j ≡ 7 → id ≡ numberOf (r .a) → process id p .started ≡ true → process id p .suspended ≡ false → y ≡ withSuspended true (process id p) → StoredBy c r p j id y
   resumes : j ≡ 11 → id ≡ numberOf (r .a) → process id p .started ≡ true → process id p .suspended ≡ true → y ≡ resumed (process id p) → StoredBy c r p j id y
   prioritises : j ≡ 12 → id ≡ numberOf (r .a) → process id p .started ≡ true → 1 ≤ numberOf (r .b) → y ≡ withCurrent (numberOf (r .b)) (process id p) → StoredBy c r p j id y
-  serves : j ≡ 16 → (numberOf (r .a) ≡ 0 → ⊥) → contains id (waiters (object (Semaphore (numberOf (r .a)))) p) ≡ true → y ≡ served (process id p) → StoredBy c r p j id y
+  serves : j ≡ 16 → Between 1 (p .semaphoreCount) (numberOf (r .a)) → contains id (waiters (object (Semaphore (numberOf (r .a)))) p) ≡ true → y ≡ served (process id p) → StoredBy c r p j id y
 
 -- the caller, of record x, stored with the record y, code 7: by which call, and what y is
 pub data BlockedBy (r : Request) (j : ℕ) (x y : Process) : Type 0 where
@@ -68,8 +68,8 @@ pub data BlockedBy (r : Request) (j : ℕ) (x y : Process) : Type 0 where
 
 -- the transfer of a buffer, by the call that makes it
 pub data TransferBy (r : Request) (p : Partition) (j k : ℕ) (a : Transfer) : Type 0 where
-  sends : j ≡ 24 → k ≡ numberOf (r .a) → (k ≡ 0 → ⊥) → (m : ℕ) → a ≡ sent (firstWaiter (object (Receiving k)) p) m → TransferBy r p j k a
-  receives : j ≡ 25 → k ≡ numberOf (r .a) → (k ≡ 0 → ⊥) → (m : ℕ) → a ≡ received (firstWaiter (object (Sending k 0)) p) m → TransferBy r p j k a
+  sends : j ≡ 24 → k ≡ numberOf (r .a) → Between 1 (p .bufferCount) k → (m : ℕ) → a ≡ sent (firstWaiter (object (Receiving k)) p) m → TransferBy r p j k a
+  receives : j ≡ 25 → k ≡ numberOf (r .a) → Between 1 (p .bufferCount) k → (m : ℕ) → a ≡ received (firstWaiter (object (Sending k 0)) p) m → TransferBy r p j k a
 
 -- a change of p by call j
 abbrev pub Makes : Context → Request → Partition → ℕ → Change → Type 0
@@ -82,8 +82,8 @@ Makes c r p j (StoredEvent k e) = Unit {0}
 Makes c r p j (CreatedBuffer k name limit) = Unit {0}
 Makes c r p j (Moved k a) = TransferBy r p j k a
 Makes c r p j (StoredBlackboard k b) = Unit {0}
-Makes c r p j (Ended o) = (j ≡ 18) × (o ≡ object (Event (numberOf (r .a)))) × (numberOf (r .a) ≡ 0 → ⊥)
-Makes c r p j (Handed o m) = (j ≡ 27) × (o ≡ object (Blackboard (numberOf (r .a)))) × (numberOf (r .a) ≡ 0 → ⊥)
+Makes c r p j (Ended o) = (j ≡ 18) × (o ≡ object (Event (numberOf (r .a)))) × Between 1 (p .eventCount) (numberOf (r .a))
+Makes c r p j (Handed o m) = (j ≡ 27) × (o ≡ object (Blackboard (numberOf (r .a)))) × Between 1 (p .blackboardCount) (numberOf (r .a))
 Makes c r p j (LevelSet level holder) = Unit {0}
 Makes c r p j (Entered d) = (j ≡ 1) × (isNumber 3 (r .a) ≡ true)
 
@@ -189,14 +189,17 @@ module _ (c : Context) (x : Port) (r : Request) (p : Partition) (placed : x .exi
   live : (y : Process) → (not (y .started) || periodic y) ≡ false → y .started ≡ true
   live y h = not-false (y .started) (or-left (not (y .started)) (periodic y) h)
 
-  signals : (numberOf (r .a) ≡ 0 → ⊥) → (l : List ℕ) → waiters (object (Semaphore (numberOf (r .a)))) p ≡ l → let a = signalled l (numberOf (r .a)) p in Makes c r p 16 a × (lastOf a ≡ 0)
+  signals : Between 1 (p .semaphoreCount) (numberOf (r .a)) → (l : List ℕ) → waiters (object (Semaphore (numberOf (r .a)))) p ≡ l → let a = signalled l (numberOf (r .a)) p in Makes c r p 16 a × (lastOf a ≡ 0)
   unfolding signalled contains
-  signals known [] e = (tt, refl)
-  signals known (id ∷ l) e = (serves refl known (rw (e, eq-eqb id id refl)) refl, refl)
+  signals b [] e = (tt, refl)
+  signals b (id ∷ l) e = (serves refl b (rw (e, eq-eqb id id refl)) refl, refl)
 
-  -- an id that is known is not 0
+  -- an id that is known
+  known : (count : ℕ) → unknown (numberOf (r .a)) count ≡ false → Between 1 count (numberOf (r .a))
+  known count h = known-id (numberOf (r .a)) count h
+
   some : (count : ℕ) → unknown (numberOf (r .a)) count ≡ false → numberOf (r .a) ≡ 0 → ⊥
-  some count h z = let k = known-id (numberOf (r .a)) count h in omega arith
+  some count h z = let k = known count h in omega arith
 
   -- the place of a channel that there is
   placed-at : (otherKind : Bool) (wanted : ℕ) → Passed (channelChecks x otherKind wanted) → x .place + 1 ≡ numberOf (r .a)
@@ -221,18 +224,18 @@ module _ (c : Context) (x : Port) (r : Request) (p : Partition) (placed : x .exi
       and checks 13 _ _ (λ _. fine refl)
       and checks 14 _ _ (λ _. fine (tt, tt, refl, refl, (refl, refl)))
       and awaits 15 _ _ _ _ _ _ _ refl refl (λ h. (refl, some _ (h .0))) (λ _. fine (tt, tt, refl, refl, (refl, refl)))
-      and checks 16 _ _ (λ h. let s = signals (some _ (h .0)) _ refl in fine (s .0, tt, refl, refl, (s .1, refl)))
+      and checks 16 _ _ (λ h. let s = signals (known _ (h .0)) _ refl in fine (s .0, tt, refl, refl, (s .1, refl)))
       and checks 17 _ _ (λ _. fine (tt, tt, refl, refl, (refl, refl)))
-      and checks 18 _ _ (λ h. fine (tt, (refl, refl, some _ (h .0)), refl, refl, (refl, refl)))
+      and checks 18 _ _ (λ h. fine (tt, (refl, refl, known _ (h .0)), refl, refl, (refl, refl)))
       and checks 19 _ _ (λ _. fine (tt, tt, refl, refl, (refl, refl)))
       and awaits 20 _ _ _ _ _ _ _ refl refl (λ h. (refl, some _ (h .0))) (λ _. fine refl)
       and checks 21 _ _ (λ _. checks 21 _ _ (λ _. fine refl))
       and checks 22 _ _ (λ _. checks 22 _ _ (λ _. fine refl))
       and checks 23 _ _ (λ _. fine (tt, tt, refl, refl, (refl, refl)))
-      and awaits 24 _ _ _ _ _ _ _ refl refl (λ h. (refl, some _ (h .0))) (λ h. fine (sends refl refl (some _ (h .0)) _ refl, tt, refl, refl, (refl, refl)))
-      and awaits 25 _ _ _ _ _ _ _ refl refl (λ h. (refl, some _ (h .0))) (λ h. fine (receives refl refl (some _ (h .0)) _ refl, tt, refl, refl, (refl, refl)))
+      and awaits 24 _ _ _ _ _ _ _ refl refl (λ h. (refl, some _ (h .0))) (λ h. fine (sends refl refl (known _ (h .0)) _ refl, tt, refl, refl, (refl, refl)))
+      and awaits 25 _ _ _ _ _ _ _ refl refl (λ h. (refl, some _ (h .0))) (λ h. fine (receives refl refl (known _ (h .0)) _ refl, tt, refl, refl, (refl, refl)))
       and checks 26 _ _ (λ _. fine (tt, tt, refl, refl, (refl, refl)))
-      and checks 27 _ _ (λ h. fine (tt, (refl, refl, some _ (h .0)), refl, refl, (refl, refl)))
+      and checks 27 _ _ (λ h. fine (tt, (refl, refl, known _ (h .0)), refl, refl, (refl, refl)))
       and awaits 28 _ _ _ _ _ _ _ refl refl (λ h. (refl, some _ (h .0))) (λ _. fine refl)
       and checks 29 _ _ (λ _. fine (tt, tt, refl, refl, (refl, refl)))
       and awaits 30 _ _ _ _ _ _ _ refl refl (λ h. let at = placed-at _ _ h in (ap (λ k. Source k (numberOf (r .b))) at, λ z. omega arith)) (λ _. fine (inl refl))

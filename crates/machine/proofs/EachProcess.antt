@@ -1,5 +1,5 @@
 -- What an event makes of the record of each process. Assumes nothing.
-use Prim.Native.Nat.{ℕ, _+_, _-_, _≤_, _<_}
+use Prim.Native.Nat.{ℕ, _+_, _-_, _≤_, _<_, _*_}
 use mathlib.Core.Path.{_≡_, refl, sym, ap, subst, _∙_}
 use mathlib.Core.Bool.{true, false, cond}
 use mathlib.Core.Logic.{_⊎_, inl, inr, ⊎-elim}
@@ -24,7 +24,7 @@ use Rattle.machine.specs.declared.Module.{Module}
 use Rattle.machine.specs.Limits.{modeLimit, channelLimit, processLimit}
 use Rattle.machine.specs.Fields.{requestOf, numberOf}
 use Rattle.machine.specs.Messages.{sent, received, moved, endsWait}
-use Rattle.machine.specs.Process.{blankProcess, object, served, ready, ticked}
+use Rattle.machine.specs.Process.{blankProcess, object, served, ready, ticked, carried}
 use Rattle.machine.specs.Partition.{nothingCreated, normalMode, process, stored, endedBy, waiters, firstWaiter, changedAll, applied, tickPartition, noted}
 use Rattle.machine.specs.Module.{noPartition, part, channel, queue, withPart, withQueue, withTime}
 use Rattle.machine.specs.Places.{malformed, ticks}
@@ -50,6 +50,7 @@ use Rattle.machine.proofs.Reached.{made, made-sound, made-body, on-queu
 use Rattle.machine.proofs.Alike.{not-created, alike-same, untouched, alike-process}
 use Rattle.machine.proofs.Turns.{same-number, elsewhere-none, elsewhere-code, elsewhere-from, elsewhere-seven, elsewhere-number, sent-is, received-is, begin, turned}
 use Rattle.machine.proofs.Acts.{BlockedBy, touches, actsOnNamed, Acts, event-partition, event-call, made-acts}
+use Rattle.machine.proofs.WaitsOn.{waitAt, wait-is}
 
 -- ---------------------------------------------------------------- a tick
 module _ (m : Module) (s : SoundModule m) (k : ℕ) (b : Between 1 (m .table .size) k) where
@@ -113,6 +114,10 @@ module _ (m : Module) (s : SoundModule m) (e : EventT) (k : ℕ) (b : Between 1 
     nameless : actsOnNamed number ≡ false → ActsElsewhere m e 0 k id
     nameless t = elsewhere-number m e k id number from by (q .some) call t
 
+    -- its wait on a channel's end, by the number of the object
+    waits-at : (kind i : ℕ) → 1 ≤ kind → i < m .table .channelCount → object (process id (own m k) .wait) ≡ 256 * kind + (i + 1) → process id (own m k) .wait ≡ waitAt kind (i + 1) (carried (process id (own m k)))
+    waits-at kind i some l = wait-is (m .table .frame) (m .t) (own m k) (s .eachPartition (k - 1) (omega (arith, b .0, b .1))) id kind (i + 1) some (omega (arith, s .table .channelCount))
+
     -- a partition stored at place j
     puts : (code : ℕ) (u : Module) → u .partitions ≡ m .partitions → (j : ℕ) → j < m .table .size → ((k - 1 ≡ j → ⊥) → ActsElsewhere m e code k id) → (p : Partition) → (j ≡ k - 1 → Is code p) → Is code (part (withPart j p u) (k - 1))
     puts code u z j l none p h = rw z (at-set (λ i q. i ≡ k - 1 → Is code q) (m .partitions) j (noted p) noPartition (omega (arith, l, s .partitionsSize, s .table .size .1)) (k - 1) h (λ ne _. Becomes.same (none ne) refl) refl)
@@ -137,13 +142,13 @@ module _ (m : Module) (s : SoundModule m) (e : EventT) (k : ℕ) (b : Between 1 
           ⊎-elim
           (λ (z : id ≡ w).
           subst (Becomes m e 7 k id) (sym (ap (λ i. process i (stored w y p)) z ∙ process-stored p w y (valid .lists) (h .0)))
-          (begin m s e k id number its call (b .0) y valid (rw z (h .0)) (a .1) (z ∙ a .0) (ap (λ i. ready (process i p)) (z ∙ a .0) ∙ c .isReady) (subst (λ i. BlockedBy asks number (process i p) y) (sym z) (a .2))))
+          (begin m s e k id number its call b y valid (rw z (h .0)) (a .1) (z ∙ a .0) (ap (λ i. ready (process i p)) (z ∙ a .0) ∙ c .isReady) (subst (λ i. BlockedBy asks number (process i p) y) (sym z) (a .2))))
           (λ (ne : id ≡ w → ⊥). Becomes.same (elsewhere-seven m e k id (λ z. ne (z ∙ sym (a .0)))) (process-other p w y id ne))
           (same-or-not id w)
 
       changed-is : (x y : Change) (v : ℕ) → SoundDecision (contextOf m k) p (Changed x y v) → Acts (contextOf m k) asks p number (Changed x y v) → Is 0 (applied y (applied x p))
       changed-is x y v h a =
-          let f = turned m s e k id number its call (b .0) (valid .lists) in
+          let f = turned m s e k id number its call b (valid .lists) in
           either (touches x)
           (λ t.
           let off : touches y ≡ false = not-so (touches y) (λ g. not-both _ (rw (g, t)) (a .2)) in
@@ -180,7 +185,7 @@ module _ (m : Module) (s : SoundModule m) (e : EventT) (k : ℕ) (b : Between 1 
                 (λ c.
                 let w : object (process id p .wait) ≡ o = eqb-true _ o (sym (waiters-exact p (v .lists) o (λ z. omega arith) id) ∙ take-in size (waiters o p) id c) in
                 ⊎-elim
-                (λ (same : process id p ≡ was). inr (Service.restart i mode (rw T at (f .there)) (by ∙ ap pos (sym into)) (call ∙ ap pos one) a-is low refl (sym source) (ap (λ (y : Process). object (y .wait)) (sym same) ∙ w), ap served same))
+                (λ (same : process id p ≡ was). inr (Service.restart i (carried was) mode (rw T at (f .there)) (by ∙ ap pos (sym into)) (call ∙ ap pos one) a-is low refl (sym source) (waits-at 6 i (omega arith) (rw T at (f .there)) (ap (λ (y : Process). object (y .wait)) (sym same) ∙ w)), ap served same))
                 (λ (done : Service m e 0 k id × (process id p ≡ served was)). absurd (omega (arith, w, ap (λ (y : Process). object (y .wait)) (done .1))))
                 (h z .left other))
                 (λ _. h z .left other));
@@ -225,14 +230,14 @@ module _ (m : Module) (s : SoundModule m) (e : EventT) (k : ℕ) (b : Between 1 
         let source : c .source ≡ from = ap (λ (x : Channel). x .source) (sym (w .is)) ∙ f .source in
         let o = object (Destination (i + 1)) in
         let first : firstWaiter (otherQueue from i c) (part m j) ≡ firstWaiter o (own m k) = ap (λ y. firstWaiter y (part m j)) (rw (eq-eqb (c .source) from source)) ∙ ap (λ y. firstWaiter o (part m y)) z in
-        sent-is m e k id lists o (λ z. omega arith) (λ on. Service.sent i (w .there) (by ∙ ap pos (sym source)) (call ∙ ap pos (f .call)) a-is refl (sym (rw (eq-eqb (c .source) from source) at k-is)) on) none (own m k) (alike-same (own m k)) lists a (f .message)
+        sent-is m e k id lists o (λ z. omega arith) (λ on. Service.sent i (w .there) (by ∙ ap pos (sym source)) (call ∙ ap pos (f .call)) a-is refl (sym (rw (eq-eqb (c .source) from source) at k-is)) (waits-at 7 i (omega arith) (w .there) on)) none (own m k) (alike-same (own m k)) lists a (f .message)
         (f .transfer ∙ ap (λ (x : Traffic). sent (x .waiter) (f .message)) (w .sees) ∙ ap (λ y. sent y (f .message)) first) sound)
         (λ (f : Receives (portOf m from asks) number a v).
         let destination : c .destination ≡ from = ap (λ (x : Channel). x .destination) (sym (w .is)) ∙ f .destination in
         let off : eqb (c .source) from ≡ false = ne-eqb _ _ (λ y. h .apart (y ∙ sym destination)) in
         let o = object (Source (i + 1) 0) in
         let first : firstWaiter (otherQueue from i c) (part m j) ≡ firstWaiter o (own m k) = ap (λ y. firstWaiter y (part m j)) (rw off) ∙ ap (λ y. firstWaiter o (part m y)) z in
-        received-is m e k id lists o (λ z. omega arith) (λ on. Service.taken i (w .there) (by ∙ ap pos (sym destination)) (call ∙ ap pos (f .call)) a-is refl (sym (rw off at k-is)) on) none (own m k) (alike-same (own m k)) lists a (portOf m from asks .traffic .carried)
+        received-is m e k id lists o (λ z. omega arith) (λ on. Service.taken i (carried (process id (own m k))) (w .there) (by ∙ ap pos (sym destination)) (call ∙ ap pos (f .call)) a-is refl (sym (rw off at k-is)) (waits-at 6 i (omega arith) (w .there) on)) none (own m k) (alike-same (own m k)) lists a (portOf m from asks .traffic .carried)
         (f .transfer ∙ ap (λ y. received y (portOf m from asks .traffic .carried)) (ap (λ (x : Traffic). x .waiter) (w .sees) ∙ first)) sound)
         (g .end))))
         (λ _. Becomes.same none refl)

@@ -55,6 +55,7 @@ pub mod EachCall
 pub mod Entering
 pub mod Acts
 pub mod Alike
+pub mod WaitsOn
 pub mod Turns
 pub mod EachProcess
 pub mod ProcessStates

@@ -22,7 +22,7 @@ use Rattle.machine.specs.LeftRight.{after}
 use Rattle.machine.specs.Valid.{Between, AtMost, SoundRelease, plainLater, SoundProcess, settingOf, Valid, Reached}
 use Rattle.machine.specs.Plain.{plainNumber}
 use Rattle.machine.specs.Starred.{own}
-use Rattle.machine.specs.EachProcess.{CallBy, Stop, Erasure, Service, Becomes}
+use Rattle.machine.specs.EachProcess.{CallBy, StopOf, Erasure, Service, Becomes}
 use Rattle.machine.specs.Periods.{waitsPeriod, periodWaits, NeverStopped, Periods}
 use Rattle.machine.proofs.Tests.{and-left, and-right, not-both}
 use Rattle.machine.proofs.Either.{either}
@@ -65,12 +65,12 @@ module _ (m : Module) (e : EventT) (k id : ℕ) (normal : own m k .mode ≡ 3) w
   zero z c = omega (arith, z, c .0 .2)
 
   service-zero : Service m e code k id → code ≡ 0
-  service-zero (Service.here n c is some) = c .2
+  service-zero (Service.here n message c is some) = c .2
   service-zero (Service.sent i l by call a z end on) = z
-  service-zero (Service.taken i l by call a z end on) = z
-  service-zero (Service.restart i mode l by call a low z end on) = z
+  service-zero (Service.taken i message l by call a z end on) = z
+  service-zero (Service.restart i message mode l by call a low z end on) = z
 
-  module _ (on : x .started ≡ true) (early : x .wait ≡ Normal → ⊥) (stop : Stop m e code k id → ⊥) (erase : Erasure m e code k id → ⊥) where
+  module _ (on : x .started ≡ true) (early : x .wait ≡ Normal → ⊥) (stop : StopOf m e code k id → ⊥) (erase : Erasure m e code k id → ⊥) where
     stays : (y : Process) → y .started ≡ x .started → y .given ≡ x .given → y .times .release ≡ x .times .release → (Its → ⊥) → Lasts y
     stays y s g r none = record { started = s ∙ on; given = g; release = r ∙ sym (rw (waits-not none)) }
 
@@ -123,7 +123,7 @@ module _ (m : Module) (h : Reached m) (k id : ℕ) (b : Between 1 (m .table .siz
   valid = valid-sound m (reached-valid m h) (k - 1) (omega (arith, b .0, b .1)) .eachPartition (k - 1) (omega (arith, b .0, b .1))
 
   lasts : (e : EventT) → process id (own m k) .started ≡ true → let code = step m e .answer .code in
-      (Stop m e code k id → ⊥) → (Erasure m e code k id → ⊥) → (normal : own m k .mode ≡ 3) → Lasts m e k id normal (process id (own (step m e .state) k))
+      (StopOf m e code k id → ⊥) → (Erasure m e code k id → ⊥) → (normal : own m k .mode ≡ 3) → Lasts m e k id normal (process id (own (step m e .state) k))
   lasts e on stop erase normal = lasts-by m e k id normal on (not-early (m .table .frame) (m .t) (own m k) valid id on (eq-eqb _ 3 normal)) stop erase _ (each-process m h e k id b)
 
 times : (n c : ℕ) → n * (1 + c) ≡ n + n * c

@@ -23,7 +23,7 @@ use Rattle.machine.specs.Valid.{Between, SoundModule, Reached}
 use Rattle.machine.specs.Plain.{plainBetween, plainNumber}
 use Rattle.machine.specs.Starred.{own}
 use Rattle.machine.specs.EachCall.{idOf}
-use Rattle.machine.specs.EachProcess.{Call, CallOf, Start, Erasure, Service, Becomes}
+use Rattle.machine.specs.EachProcess.{Call, CallOf, StartOf, Erasure, Service, Becomes}
 use Rattle.machine.specs.Priorities.{priorityAfter, priorityAfterAll, NoneGives, Priorities}
 use Rattle.machine.proofs.Tests.{and-left, and-right, not-both}
 use Rattle.machine.proofs.Either.{either}
@@ -51,7 +51,7 @@ module _ (m : Module) (e : EventT) (k id : ℕ) where
 
   -- none of the events that give a priority
   record Quiet : Type 0 where
-    start : Start m e code k id → ⊥
+    start : StartOf m e code k id → ⊥
     priority : CallOf m e code k id 12 → ⊥
     erase : Erasure m e code k id → ⊥
 
@@ -73,7 +73,7 @@ module _ (m : Module) (e : EventT) (k id : ℕ) where
       (λ v. rw (t, u, w, v)))))
       (λ t. rw t)
 
-  started-gives : Start m e code k id → (n : ℕ) → priorityAfter m e k id n ≡ process id (own m k) .given .base
+  started-gives : StartOf m e code k id → (n : ℕ) → priorityAfter m e k id n ≡ process id (own m k) .given .base
   started-gives (inl c) n = rw (c .0 .2, c .0 .0, c .0 .1, c .1, eq-eqb k k refl, eq-eqb id id refl)
   started-gives (inr c) n = rw (c .0 .2, c .0 .0, c .0 .1, c .1, eq-eqb k k refl, eq-eqb id id refl)
 
@@ -108,10 +108,10 @@ module _ (m : Module) (e : EventT) (k id : ℕ) where
   quiet-seven z = quiet-none (λ n c. omega (arith, z, c .2))
 
   quiet-service : SoundModule m → Service m e code k id → Quiet
-  quiet-service s (Service.here n c is some) = quiet-call n (c .1) (λ z. some (is ∙ rw z)) (λ z. some (is ∙ rw z)) (λ z. some (is ∙ rw z)) (λ z. some (is ∙ rw z))
+  quiet-service s (Service.here n message c is some) = quiet-call n (c .1) (λ z. some (is ∙ rw z)) (λ z. some (is ∙ rw z)) (λ z. some (is ∙ rw z)) (λ z. some (is ∙ rw z))
   quiet-service s (Service.sent i l by call a zero end on) = quiet-call 30 call (λ z. omega arith) (λ z. omega arith) (λ z. omega arith) (λ z. omega arith)
-  quiet-service s (Service.taken i l by call a zero end on) = quiet-call 31 call (λ z. omega arith) (λ z. omega arith) (λ z. omega arith) (λ z. omega arith)
-  quiet-service s (Service.restart i mode l by call a low zero end on) = quiet-from (channel (m .table) i .destination) by (λ z. s .table .eachChannel i l .apart (sym end ∙ sym z))
+  quiet-service s (Service.taken i message l by call a zero end on) = quiet-call 31 call (λ z. omega arith) (λ z. omega arith) (λ z. omega arith) (λ z. omega arith)
+  quiet-service s (Service.restart i message mode l by call a low zero end on) = quiet-from (channel (m .table) i .destination) by (λ z. s .table .eachChannel i l .apart (sym end ∙ sym z))
 
   abbrev Given : Process → Type 0
   Given y = y .current ≡ priorityAfter m e k id (process id (own m k) .current)

@@ -27,7 +27,7 @@ use Rattle.machine.specs.Plain.{idsFrom, come, plainBetween, plainNumber
 use Rattle.machine.specs.Starred.{own, callBy, Calling, Puts}
 use Rattle.machine.specs.EachCall.{Checks, with, periodicAt}
 use Rattle.machine.specs.ProcessStates.{OwnWait, StateChanges, TickLeaves, WaitStays, Suspensions, ProcessStates}
-use Rattle.machine.specs.EachProcess.{CallOf, CallBy, Tick, Start, Stop, Erasure, Entry, Service, Becomes}
+use Rattle.machine.specs.EachProcess.{CallOf, CallBy, Tick, StartOf, StopOf, Erasure, Entry, Service, Becomes}
 use Rattle.machine.proofs.Tests.{Passed, codesIn, and-left, and-right, or-left, or-right, not-both}
 use Rattle.machine.proofs.Either.{either}
 use Rattle.machine.proofs.Bounds.{so}
@@ -149,21 +149,21 @@ module _ (m : Module) (e : EventT) (code k id : ℕ) (asleep : process id (own m
   -- what StateChanges asks of started, wait, suspended mark and missed mark
   abbrev Starting : Process → Type 0
   Starting y =
-      (before .started ≡ true → y .started ≡ false → Stop m e code k id ⊎ Erasure m e code k id)
-      × (before .started ≡ false → y .started ≡ true → Start m e code k id)
+      (before .started ≡ true → y .started ≡ false → StopOf m e code k id ⊎ Erasure m e code k id)
+      × (before .started ≡ false → y .started ≡ true → StartOf m e code k id)
 
   abbrev Waiting : Process → Type 0
   Waiting y =
-      (before .wait ≡ None → (y .wait ≡ None → ⊥) → Start m e code k id ⊎ OwnWait m e code k id (y .wait))
+      (before .wait ≡ None → (y .wait ≡ None → ⊥) → StartOf m e code k id ⊎ OwnWait m e code k id (y .wait))
       × ((before .wait ≡ None → ⊥) → y .wait ≡ None
-      → (Tick m e code k id × (come (m .t + 1) (before .times .wake) ≡ true)) ⊎ (Stop m e code k id ⊎ (Erasure m e code k id ⊎ (Service m e code k id ⊎ Entry m e code k id))))
+      → (Tick m e code k id × (come (m .t + 1) (before .times .wake) ≡ true)) ⊎ (StopOf m e code k id ⊎ (Erasure m e code k id ⊎ (Service m e code k id ⊎ Entry m e code k id))))
       × ((before .wait ≡ None → ⊥) → (y .wait ≡ None → ⊥) → (y .wait ≡ before .wait → ⊥) → Entry m e code k id × ((y .wait ≡ Delay) ⊎ (y .wait ≡ Period)))
 
   abbrev Marking : Process → Type 0
   Marking y =
       (before .suspended ≡ false → y .suspended ≡ true → CallOf m e code k id 7 ⊎ CallBy m e code k id 8 7)
       × (before .suspended ≡ true → y .suspended ≡ false
-      → CallOf m e code k id 11 ⊎ ((Tick m e code k id × (come (m .t + 1) (before .times .wake) ≡ true) × (before .wait ≡ None)) ⊎ (Stop m e code k id ⊎ Erasure m e code k id)))
+      → CallOf m e code k id 11 ⊎ ((Tick m e code k id × (come (m .t + 1) (before .times .wake) ≡ true) × (before .wait ≡ None)) ⊎ (StopOf m e code k id ⊎ Erasure m e code k id)))
 
   abbrev Missing : Process → Type 0
   Missing y = before .missed ≡ false → y .missed ≡ true → Tick m e code k id × (come (m .t + 1) (before .times .deadline) ≡ true)

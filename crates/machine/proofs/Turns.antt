@@ -1,5 +1,5 @@
 -- What a call makes of the record of a process of its own partition. Assumes nothing.
-use Prim.Native.Nat.{ℕ, _-_, _≤_}
+use Prim.Native.Nat.{ℕ, _*_, _-_, _≤_, _+_}
 use mathlib.Core.Path.{_≡_, refl, sym, ap, subst, _∙_}
 use mathlib.Core.Bool.{true, false}
 use mathlib.Core.List.{List}
@@ -23,7 +23,7 @@ use Rattle.machine.specs.declared.Module.{Module}
 use Rattle.machine.specs.Limits.{processLimit, bufferLimit}
 use Rattle.machine.specs.Fields.{field, requestOf, isNumber, numberOf}
 use Rattle.machine.specs.Messages.{sent, received}
-use Rattle.machine.specs.Process.{blankProcess, object, served, handed, stopped, forNothing, waitsForNothing, waitsForNormal, ready, entered}
+use Rattle.machine.specs.Process.{blankProcess, object, served, handed, stopped, forNothing, waitsForNothing, waitsForNormal, ready, entered, carried}
 use Rattle.machine.specs.Partition.{byId, normalMode, process, stored, created, storedBuffer, movedIn, endedBy, buffer, waiters, firstWaiter, changedAll, withMode, enteredNormal, applied, running}
 use Rattle.machine.specs.Step.{contextOf}
 use Rattle.machine.specs.Valid.{Between, contains, Distinct, Valid, ListedIn, SoundModule, SoundChange, SoundEnd, settingOf}
@@ -41,6 +41,7 @@ use Rattle.machine.proofs.Calling.{number-of, number-is}
 use Rattle.machine.proofs.Reasons.{for-none}
 use Rattle.machine.proofs.Acts.{StoredBy, BlockedBy, TransferBy, Makes, touches, actsOnNamed}
 use Rattle.machine.proofs.Alike.{Alike, buffer-alike, untouched, alike-along, alike-process, alike-waiters, not-created, Begun, starts-as, enters-as}
+use Rattle.machine.proofs.WaitsOn.{waitAt, wait-is}
 
 -- ---------------------------------------------------------------- an event's numbers
 -- the id that a field names
@@ -147,7 +148,7 @@ module _ (m : Module) (e : EventT) (k id : ℕ) (v : ListedIn (own m k)) (o : �
       (λ z g. ended-is q al u first (g .0) (first-waits z) (process first q .message)))
 
 -- ---------------------------------------------------------------- a call of the process's own partition
-module _ (m : Module) (s : SoundModule m) (e : EventT) (k : ℕ) (id : ℕ) (n : ℕ) (by : e .partition ≡ pos k) (call : e .call ≡ pos n) (low : 1 ≤ k) where
+module _ (m : Module) (s : SoundModule m) (e : EventT) (k : ℕ) (id : ℕ) (n : ℕ) (by : e .partition ≡ pos k) (call : e .call ≡ pos n) (inside : Between 1 (m .table .size) k) where
   abbrev r : Request
   r = requestOf e
 
@@ -172,17 +173,35 @@ module _ (m : Module) (s : SoundModule m) (e : EventT) (k : ℕ) (id : ℕ) (n :
   calls : (j : ℕ) → n ≡ j → Call m e 0 k id j 0
   calls j is = (by, call ∙ ap pos is, refl)
 
-  -- call j serves the queue o
-  serve : (j : ℕ) → n ≡ j → (numberOf (r .a) ≡ 0 → ⊥) → (o : ℕ) → o ≡ object (servedBy j (numberOf (r .a))) → (o ≡ 0 → ⊥) → object (x .wait) ≡ o → Service m e 0 k id
-  serve j is known o o-is some w = Service.here j (calls j is) (w ∙ o-is ∙ ap (λ b. object (servedBy j b)) (sym (id-of (e .a) known))) (λ z. some (sym w ∙ z))
+  valid : Valid (m .table .frame) (m .t) p
+  valid = s .eachPartition (k - 1) (omega (arith, inside .0, inside .1))
+
+  -- call j serves the queues of a kind, of which there are so many
+  serve : (j kind : ℕ) → n ≡ j → 1 ≤ kind → (count : ℕ) → count ≤ 255 → Between 1 count (numberOf (r .a)) → ((msg : ℕ) → waitAt kind (numberOf (r .a)) msg ≡ servedBy j (numberOf (r .a)) msg) → object (x .wait) ≡ 256 * kind + numberOf (r .a)
+      → Service m e 0 k id
+  serve j kind is some count few a alike w =
+      let at = wait-is (m .table .frame) (m .t) p valid id kind (numberOf (r .a)) some (omega (arith, a .1)) w in
+      Service.here j (carried x) (calls j is) (at ∙ alike _ ∙ ap (λ i. servedBy j i (carried x)) (sym (id-of (e .a) (λ z. omega (arith, a .0))))) (λ z. omega (arith, w, ap object z))
+
+  few-semaphores : p .semaphoreCount ≤ 255
+  few-semaphores = omega (arith, valid .objects .semaphores .numbered .few)
+
+  few-events : p .eventCount ≤ 255
+  few-events = omega (arith, valid .objects .events .numbered .few)
+
+  few-buffers : p .bufferCount ≤ 255
+  few-buffers = omega (arith, valid .objects .buffers .numbered .few)
+
+  few-blackboards : p .blackboardCount ≤ 255
+  few-blackboards = omega (arith, valid .objects .blackboards .numbered .few)
 
   -- call j names no process
   off : (j : ℕ) → n ≡ j → actsOnNamed j ≡ false → ActsElsewhere m e 0 k id
-  off j is t = elsewhere-number m e k id n k by (λ z. omega arith) call (rw is t)
+  off j is t = elsewhere-number m e k id n k by (λ z. omega (arith, inside .0)) call (rw is t)
 
   -- call j acts on process w alone
   others : (j w : ℕ) → n ≡ j → (j ≡ 1 → ⊥) → (j ≡ 6 → ⊥) → 1 ≤ w → w ≡ numberOf (r .a) → (id ≡ w → ⊥) → ActsElsewhere m e 0 k id
-  others j w is one six some a ne = elsewhere-call m e k id n k by (λ z. omega arith) call
+  others j w is one six some a ne = elsewhere-call m e k id n k by (λ z. omega (arith, inside .0)) call
       (λ _ _ _ z. ne (same-number (sym z ∙ number-of (e .a) (λ y. omega arith)) ∙ sym a))
       (λ z _. six (sym is ∙ z))
       (λ z. absurd (one (sym is ∙ z)))
@@ -190,7 +209,7 @@ module _ (m : Module) (s : SoundModule m) (e : EventT) (k : ℕ) (id : ℕ) (n :
   puts-other : (w : ℕ) (y : Process) → 1 ≤ w → StoredBy c r p n w y → (id ≡ w → ⊥) → ActsElsewhere m e 0 k id
   puts-other w y b (StoredBy.starts is a on delay y-is) ne = ⊎-elim (λ (i : n ≡ 3). others 3 w i (λ z. omega arith) (λ z. omega arith) b a ne) (λ (i : n ≡ 4). others 4 w i (λ z. omega arith) (λ z. omega arith) b a ne) is
   puts-other w y b (StoredBy.stops is a on y-is) ne = others 5 w is (λ z. omega arith) (λ z. omega arith) b a ne
-  puts-other w y b (StoredBy.stopsSelf is self normal y-is) ne = elsewhere-call m e k id n k by (λ z. omega arith) call (λ _ six _ _. six is) (λ _ z. ne (z ∙ sym self)) (λ z. absurd (omega (arith, is, z)))
+  puts-other w y b (StoredBy.stopsSelf is self normal y-is) ne = elsewhere-call m e k id n k by (λ z. omega (arith, inside .0)) call (λ _ six _ _. six is) (λ _ z. ne (z ∙ sym self)) (λ z. absurd (omega (arith, is, z)))
   puts-other w y b (StoredBy.marks is a on unmarked y-is) ne = others 7 w is (λ z. omega arith) (λ z. omega arith) b a ne
   puts-other w y b (StoredBy.resumes is a on marked y-is) ne = others 11 w is (λ z. omega arith) (λ z. omega arith) b a ne
   puts-other w y b (StoredBy.prioritises is a on some y-is) ne = others 12 w is (λ z. omega arith) (λ z. omega arith) b a ne
@@ -210,7 +229,7 @@ module _ (m : Module) (s : SoundModule m) (e : EventT) (k : ℕ) (id : ℕ) (n :
       (λ t. Becomes.resumed (of 11 is b a) on marked (ap (λ w. with false Never 0 w x) (sym (for-none (x .wait) t))))
       (λ _. Becomes.resumed (of 11 is b a) on marked refl))
   put y b v (StoredBy.prioritises is a on some y-is) = to y-is (Becomes.prioritised (of 12 is b a) on (ap (λ j. withPriority j x) (sym (id-of (e .b) (λ z. omega arith)))))
-  put y b v (StoredBy.serves is known in-queue y-is) = let o = object (Semaphore (numberOf (r .a))) in to y-is (waits-there m e k id v o (λ z. omega arith) (serve 16 is known o refl (λ z. omega arith)) (off 16 is refl) in-queue (x .message))
+  put y b v (StoredBy.serves is known in-queue y-is) = let o = object (Semaphore (numberOf (r .a))) in to y-is (waits-there m e k id v o (λ z. omega arith) (serve 16 1 is (omega arith) (p .semaphoreCount) few-semaphores known (λ _. refl)) (off 16 is refl) in-queue (x .message))
 
   -- the caller begins to wait, code 7
   pub begin : (y : Process) → Valid (m .table .frame) (m .t) p → Between 1 (p .processCount) id → normalMode p ≡ true → id ≡ running p → ready x ≡ true → BlockedBy r n x y → Becomes m e 7 k id y
@@ -236,12 +255,10 @@ module _ (m : Module) (s : SoundModule m) (e : EventT) (k : ℕ) (id : ℕ) (n :
 
   module _ (v : ListedIn p) where
     moved-turn : (j : ℕ) (a : Transfer) (q : Partition) → Alike p q → ListedIn q → SoundEnd q a → TransferBy r p n j a → After (process id (endedBy a q))
-    moved-turn j a q al u h (TransferBy.sends is j-is some msg a-is) =
-        let o = object (Receiving j) in
-        sent-is m e k id v o (λ z. omega arith) (serve 24 is (λ z. some (j-is ∙ z)) o (ap (λ i. object (Receiving i)) j-is) (λ z. omega arith)) (off 24 is refl) q al u a msg a-is h
-    moved-turn j a q al u h (TransferBy.receives is j-is some msg a-is) =
-        let o = object (Sending j 0) in
-        received-is m e k id v o (λ z. omega arith) (serve 25 is (λ z. some (j-is ∙ z)) o (ap (λ i. object (Sending i 0)) j-is) (λ z. omega arith)) (off 25 is refl) q al u a msg a-is h
+    moved-turn j a q al u h (TransferBy.sends is j-is known msg a-is) =
+        sent-is m e k id v (object (Receiving j)) (λ z. omega arith) (λ w. serve 24 4 is (omega arith) (p .bufferCount) few-buffers (rw (← j-is) known) (λ _. refl) (w ∙ ap (λ i. object (Receiving i)) j-is)) (off 24 is refl) q al u a msg a-is h
+    moved-turn j a q al u h (TransferBy.receives is j-is known msg a-is) =
+        received-is m e k id v (object (Sending j 0)) (λ z. omega arith) (λ w. serve 25 3 is (omega arith) (p .bufferCount) few-buffers (rw (← j-is) known) (λ _. refl) (w ∙ ap (λ i. object (Sending i 0)) j-is)) (off 25 is refl) q al u a msg a-is h
 
     -- several processes changed by f, where those of them become z
     all-turn : (f : Process → Process) (l : List ℕ) (q : Partition) → Alike p q → ListedIn q → AllCreated l (q .processCount) → Distinct l → (contains id l ≡ true → After (f x)) → (contains id l ≡ false → ActsElsewhere m e 0 k id) → After (process id (changedAll f l q))
@@ -250,7 +267,7 @@ module _ (m : Module) (s : SoundModule m) (e : EventT) (k : ℕ) (id : ℕ) (n :
         (by-test After (contains id l) (λ t. to (ap f (alike-process p q a id)) (g t)) (λ t. Becomes.same (none t) (alike-process p q a id)))
 
     entering : n ≡ 1 → isNumber 3 (r .a) ≡ true → (x .wait ≡ Normal → ⊥) → ActsElsewhere m e 0 k id
-    entering is three out = elsewhere-call m e k id n k by (λ z. omega arith) call (λ one _ _ _. one is) (λ z _. omega (arith, is)) (λ _. (number-is (e .a) 3 three, out))
+    entering is three out = elsewhere-call m e k id n k by (λ z. omega (arith, inside .0)) call (λ one _ _ _. one is) (λ z _. omega (arith, is)) (λ _. (number-is (e .a) 3 three, out))
 
     pub turned : (a : Change) (q : Partition) → Alike p q → Valid (m .table .frame) (m .t) q → SoundChange c q a → Makes c r p n a → (touches a ≡ false → ActsElsewhere m e 0 k id) → After (process id (applied a q))
     unfolding enteredNormal
@@ -283,11 +300,11 @@ module _ (m : Module) (s : SoundModule m) (e : EventT) (k : ℕ) (id : ℕ) (n :
     turned (StoredBlackboard j y) q al u h g none = Becomes.same (none refl) (alike-process q (applied (StoredBlackboard j y) q) (untouched (StoredBlackboard j y) q refl) id ∙ alike-process p q al id)
     turned (Ended o) q al u h g none =
         all-turn served (waiters o q) q al (u .lists) (waiters-created q (u .lists) o) (waiters-distinct q (u .lists) o)
-        (λ t. waits-there m e k id v o (λ z. omega (arith, g .1)) (serve 18 (g .0) (g .2) o (g .1) (λ z. omega (arith, g .1))) (off 18 (g .0) refl) (ap (contains id) (sym (alike-waiters p q al o)) ∙ t) (x .message))
+        (λ t. waits-there m e k id v o (λ z. omega (arith, g .1)) (λ w. serve 18 2 (g .0) (omega arith) (p .eventCount) few-events (g .2) (λ _. refl) (w ∙ g .1)) (off 18 (g .0) refl) (ap (contains id) (sym (alike-waiters p q al o)) ∙ t) (x .message))
         (λ _. off 18 (g .0) refl)
     turned (Handed o msg) q al u h g none =
         all-turn (handed msg) (waiters o q) q al (u .lists) (waiters-created q (u .lists) o) (waiters-distinct q (u .lists) o)
-        (λ t. waits-there m e k id v o (λ z. omega (arith, g .1)) (serve 27 (g .0) (g .2) o (g .1) (λ z. omega (arith, g .1))) (off 27 (g .0) refl) (ap (contains id) (sym (alike-waiters p q al o)) ∙ t) msg)
+        (λ t. waits-there m e k id v o (λ z. omega (arith, g .1)) (λ w. serve 27 5 (g .0) (omega arith) (p .blackboardCount) few-blackboards (g .2) (λ _. refl) (w ∙ g .1)) (off 27 (g .0) refl) (ap (contains id) (sym (alike-waiters p q al o)) ∙ t) msg)
         (λ _. off 27 (g .0) refl)
     turned (LevelSet level holder) q al u h g none = Becomes.same (none refl) (alike-process p q al id)
     turned (Entered d) q al u h g none =

@@ -14,7 +14,7 @@ use Rattle.machine.specs.LeftRight.{after}
 use Rattle.machine.specs.Valid.{Between, Reached}
 use Rattle.machine.specs.Plain.{plainNumber}
 use Rattle.machine.specs.Starred.{own}
-use Rattle.machine.specs.EachProcess.{Stop, Erasure}
+use Rattle.machine.specs.EachProcess.{StopOf, Erasure}
 
 -- an event is 10 PERIODIC_WAIT by process id of partition k, answered 7
 abbrev pub waitsPeriod : Module → EventT → ℕ → ℕ → Bool
@@ -30,7 +30,7 @@ unfoldable pub NeverStopped : ℕ → ℕ → Module → List EventT → Type 0
 NeverStopped k id m [] = Unit {0}
 NeverStopped k id m (e ∷ es) =
     let code = step m e .answer .code in
-    (Stop m e code k id → ⊥) × (Erasure m e code k id → ⊥) × NeverStopped k id (step m e .state) es
+    (StopOf m e code k id → ⊥) × (Erasure m e code k id → ⊥) × NeverStopped k id (step m e .state) es
 
 pub record Periods : Type 0 where
   -- a started periodic process of a NORMAL partition has a release

@@ -15,7 +15,7 @@ use Rattle.machine.specs.Valid.{Between, Reached}
 use Rattle.machine.specs.Plain.{plainBetween, plainNumber}
 use Rattle.machine.specs.Starred.{own}
 use Rattle.machine.specs.EachCall.{idOf}
-use Rattle.machine.specs.EachProcess.{CallOf, Start, Erasure}
+use Rattle.machine.specs.EachProcess.{CallOf, StartOf, Erasure}
 
 -- the current priority of process id of partition k after an event, where it is n before: an accepted 3 START or 4 DELAYED_START of it gives its base priority, an
 -- accepted 12 SET_PRIORITY of it the number that it names; an accepted mode 0, 1 or 2 leaves no process; else it stays
@@ -37,7 +37,7 @@ unfoldable pub NoneGives : ℕ → ℕ → Module → List EventT → Type 0
 NoneGives k id m [] = Unit {0}
 NoneGives k id m (e ∷ es) =
     let code = step m e .answer .code in
-    (Start m e code k id → ⊥) × (CallOf m e code k id 12 → ⊥) × (Erasure m e code k id → ⊥) × NoneGives k id (step m e .state) es
+    (StartOf m e code k id → ⊥) × (CallOf m e code k id 12 → ⊥) × (Erasure m e code k id → ⊥) × NoneGives k id (step m e .state) es
 
 pub record Priorities : Type 0 where
   -- one event, and every list of events, of every reached record

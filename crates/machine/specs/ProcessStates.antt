@@ -19,7 +19,7 @@ use Rattle.machine.specs.Valid.{Between, Reached, contains}
 use Rattle.machine.specs.Plain.{come}
 use Rattle.machine.specs.Starred.{own, callBy}
 use Rattle.machine.specs.EachCall.{idOf}
-use Rattle.machine.specs.EachProcess.{waitOf, CallOf, CallBy, Tick, Start, Stop, Erasure, Entry, Service}
+use Rattle.machine.specs.EachProcess.{waitOf, CallOf, CallBy, Tick, StartOf, StopOf, Erasure, Entry, Service}
 
 -- ---------------------------------------------------------------- which changes there are
 -- the wait that a call by process id begins, which answers 7
@@ -32,21 +32,21 @@ pub record OwnWait (m : Module) (e : EventT) (code k id : ℕ) (w : Wait) : Type
 -- an event that answers code, and process id of partition k, whose record is x before it and y after it: what alone changes its state
 pub record StateChanges (m : Module) (e : EventT) (code k id : ℕ) (x y : Process) : Type 0 where
   -- to DORMANT: a stop of it, or an erasure
-  pub stops : x .started ≡ true → y .started ≡ false → Stop m e code k id ⊎ Erasure m e code k id
+  pub stops : x .started ≡ true → y .started ≡ false → StopOf m e code k id ⊎ Erasure m e code k id
   -- from DORMANT: a start of it
-  pub starts : x .started ≡ false → y .started ≡ true → Start m e code k id
+  pub starts : x .started ≡ false → y .started ≡ true → StartOf m e code k id
   -- into a wait: its start, or its own call
-  pub waits : x .wait ≡ None → (y .wait ≡ None → ⊥) → Start m e code k id ⊎ OwnWait m e code k id (y .wait)
+  pub waits : x .wait ≡ None → (y .wait ≡ None → ⊥) → StartOf m e code k id ⊎ OwnWait m e code k id (y .wait)
   -- out of a wait: a tick at which w has come, a stop of it, an erasure, a service, or entry into NORMAL
   pub ends : (x .wait ≡ None → ⊥) → y .wait ≡ None
-      → (Tick m e code k id × (come (m .t + 1) (x .times .wake) ≡ true)) ⊎ (Stop m e code k id ⊎ (Erasure m e code k id ⊎ (Service m e code k id ⊎ Entry m e code k id)))
+      → (Tick m e code k id × (come (m .t + 1) (x .times .wake) ≡ true)) ⊎ (StopOf m e code k id ⊎ (Erasure m e code k id ⊎ (Service m e code k id ⊎ Entry m e code k id)))
   -- from one wait to another: entry into NORMAL alone, to a delay or to the release
   pub turns : (x .wait ≡ None → ⊥) → (y .wait ≡ None → ⊥) → (y .wait ≡ x .wait → ⊥) → Entry m e code k id × ((y .wait ≡ Delay) ⊎ (y .wait ≡ Period))
   -- the suspended mark is set: SUSPEND of it, or its SUSPEND_SELF
   pub marks : x .suspended ≡ false → y .suspended ≡ true → CallOf m e code k id 7 ⊎ CallBy m e code k id 8 7
   -- and cleared: RESUME of it, a tick at which w has come where it has no wait, a stop of it, or an erasure
   pub unmarks : x .suspended ≡ true → y .suspended ≡ false
-      → CallOf m e code k id 11 ⊎ ((Tick m e code k id × (come (m .t + 1) (x .times .wake) ≡ true) × (x .wait ≡ None)) ⊎ (Stop m e code k id ⊎ Erasure m e code k id))
+      → CallOf m e code k id 11 ⊎ ((Tick m e code k id × (come (m .t + 1) (x .times .wake) ≡ true) × (x .wait ≡ None)) ⊎ (StopOf m e code k id ⊎ Erasure m e code k id))
   -- the missed mark is set: a tick at which d has come
   pub misses : x .missed ≡ false → y .missed ≡ true → Tick m e code k id × (come (m .t + 1) (x .times .deadline) ≡ true)
 

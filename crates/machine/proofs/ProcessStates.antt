@@ -281,7 +281,7 @@ module _ (m : Module) (h : Reached m) (e : EventT) (k id o : ℕ) (b : Between 1
   on n r c = waiters-exact (own n k) (valid-sound n (reached-valid n r) (k - 1) (omega (arith, c .0, c .1)) .eachPartition (k - 1) (omega (arith, c .0, c .1)) .lists) o some id
 
   leaves-by : contains id (waiters o (own m k)) ≡ true → contains id (waiters o (own (step m e .state) k)) ≡ false
-      → (Tick m e code k id × (come (m .t + 1) (process id (own m k) .times .wake) ≡ true)) ⊎ (Stop m e code k id ⊎ (Erasure m e code k id ⊎ Service m e code k id))
+      → (Tick m e code k id × (come (m .t + 1) (process id (own m k) .times .wake) ≡ true)) ⊎ (StopOf m e code k id ⊎ (Erasure m e code k id ⊎ Service m e code k id))
   leaves-by was gone =
       let c = changes-at m h e k id b in
       let x = process id (own m k) in

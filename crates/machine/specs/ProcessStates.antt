@@ -87,6 +87,6 @@ pub record ProcessStates : Type 0 where
   -- `FirstServed` and `AllServed` of Queues)
   pub leaves : (m : Module) → Reached m → (e : EventT) (k id o : ℕ) → let code = step m e .answer .code in
       Between 1 (m .table .size) k → (o ≡ 0 → ⊥) → contains id (waiters o (own m k)) ≡ true → contains id (waiters o (own (step m e .state) k)) ≡ false
-      → (Tick m e code k id × (come (m .t + 1) (process id (own m k) .times .wake) ≡ true)) ⊎ (Stop m e code k id ⊎ (Erasure m e code k id ⊎ Service m e code k id))
+      → (Tick m e code k id × (come (m .t + 1) (process id (own m k) .times .wake) ≡ true)) ⊎ (StopOf m e code k id ⊎ (Erasure m e code k id ⊎ Service m e code k id))
   pub ticks : (m : Module) → Reached m → (e : EventT) → e .partition ≡ pos 0 → step m e .answer .code ≡ 0 → (k : ℕ) → Between 1 (m .table .size) k → TickLeaves m e k
   pub suspensions : (m : Module) → Reached m → (k id : ℕ) → Suspensions m k id

@@ -39,12 +39,13 @@ use Rattle.machine.proofs.Corners.{puts-is}
 use Rattle.machine.proofs.Plain.{stored-plain}
 use Rattle.machine.proofs.Queues.{followed-same, stored-queue, same-queue}
 use Rattle.machine.proofs.Starred.{for-none}
-use Rattle.machine.proofs.EachProcess.{ticked-part, tick-process, each-process}
+use Rattle.machine.proofs.EachProcess.{tick-process, each-process}
 use Rattle.machine.proofs.Alike.{same-started, same-wait, same-mark, same-missed, not-created}
 use Rattle.machine.proofs.Refusals.{places}
 use Rattle.machine.proofs.Dispatch.{ticks-decided}
 use Rattle.machine.proofs.Reached.{valid-sound, reached-valid}
 use Rattle.machine.proofs.EachCall.{each-event, each-call}
+use Rattle.machine.proofs.AtPartition.{ticked-part}
 
 -- ---------------------------------------------------------------- an accepted call
 -- an event that is not refused has passed its checks

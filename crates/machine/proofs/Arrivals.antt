@@ -1,9 +1,9 @@
 -- The order of the arrival list: every event. Assumes nothing.
 use Prim.Native.Nat.{ℕ, _+_, _-_}
 use mathlib.Core.Path.{_≡_, refl, sym, ap, subst, _∙_}
-use mathlib.Core.Bool.{Bool, true, false, cond, not, _&&_, _||_, and-false, or-true, true≢false}
+use mathlib.Core.Bool.{Bool, true, false, cond, not, _&&_, and-false, or-true}
 use mathlib.Core.List.{List, [], _∷_, _++_, append-nil}
-use mathlib.Core.Logic.{⊎-elim}
+use mathlib.Core.Logic.{_⊎_, ⊎-elim}
 use native.Mathlib.Omega.{arith}
 use lib.ListN.{take}
 use lib.Dec.{eqb, leb}
@@ -27,8 +27,8 @@ use Rattle.machine.specs.Messages.{moved}
 use Rattle.machine.specs.Channels.{portOf, passed}
 use Rattle.machine.specs.Starred.{own}
 use Rattle.machine.specs.EachCall.{idOf}
-use Rattle.machine.specs.Arrivals.{movedAt, movedBy, ArrivalAfter, Arrivals}
-use Rattle.machine.specs.Valid.{SoundModule, SoundDecision, Between, contains, Distinct, ListedIn, Valid, SoundContext, SoundChange, Reached}
+use Rattle.machine.specs.Arrivals.{movedAt, movedBy, ArrivalAfter, Arrivals, precedes, ReadyThroughout}
+use Rattle.machine.specs.Valid.{SoundModule, SoundDecision, Between, contains, ListedIn, Valid, SoundContext, SoundChange, Reached}
 use Rattle.machine.specs.Plain.{idsFrom, plainNumber}
 use Rattle.machine.proofs.Tests.{by-test, not-both, or-left, or-right}
 use Rattle.machine.proofs.Either.{either}
@@ -45,8 +45,9 @@ use Rattle.machine.proofs.Bodies.{Sends, Receives}
 use Rattle.machine.proofs.ProcessStates.{tick-state}
 use Rattle.machine.proofs.Answers.{step-table}
 use Rattle.machine.proofs.Reached.{valid-sound, reached-valid}
-use Rattle.machine.proofs.Arriving.{kept-ready, Keeps, Arrives, arrives-off, none-zero, keeps-same, keeps-all, keeps-one, keeps-each, keeps-from, keeps-to, idle-arrival, keeps-ended, last-arrives, arrives-from, arrives-noted, keeps-then, change-keeps}
+use Rattle.machine.proofs.Arriving.{kept-ready, Keeps, Arrives, arrives-off, none-zero, keeps-same, keeps-all, keeps-one, keeps-each, keeps-from, keeps-to, idle-arrival, keeps-ended, last-arrives, arrives-from, arrives-noted, keeps-then, change-keeps, joins-in, precedes-kept, precedes-first, precedes-across}
 use Rattle.machine.proofs.AtPartition.{ticked-part, Kinds, at-partition}
+use Rattle.machine.specs.LeftRight.{after}
 
 -- ---------------------------------------------------------------- an event
 module _ (m : Module) (s : SoundModule m) (e : EventT) (k : ℕ) (b : Between 1 (m .table .size) k) where
@@ -167,39 +168,6 @@ module _ (m : Module) (s : SoundModule m) (e : EventT) (k : ℕ) (b : Between 1 
     passed = λ i a v g w by some call a-is end sound. still 0 _ (⊎-elim (λ (f : Sends (portOf m from asks) number a v). by-call 0 number call (rw (f .call)) (rw (f .call))) (λ (f : Receives (portOf m from asks) number a v). by-call 0 number call (rw (f .call)) (rw (f .call))) (g .end)) (keeps-ended p (valid .lists) a sound);
   }
 
--- ---------------------------------------------------------------- who joins
-contains-append : (y : ℕ) (l k : List ℕ) → contains y (l ++ k) ≡ (contains y l || contains y k)
-unfolding contains
-contains-append y [] k = refl
-contains-append y (x ∷ l) k = either (eqb x y) (λ e. rw e) (λ e. rw e (contains-append y l k))
-
--- one of the first part is not in the second
-apart-append : (y : ℕ) (l k : List ℕ) → Distinct (l ++ k) → contains y k ≡ true → contains y l ≡ false
-unfolding contains Distinct
-apart-append y [] k d c = refl
-apart-append y (x ∷ l) k d c = rw (ne-eqb x y (λ e. not-both _ (contains-append x l k ∙ ap (λ z. contains z l || contains z k) e ∙ rw c (or-true (contains y l))) (d .0))) (apart-append y l k (d .1) c)
-
--- READY now, moved, READY before, joins
-joins-by : (now e was j : Bool) → now ≡ (((now && not e) && was) || j) → (j ≡ true → ((now && not e) && was) ≡ false) → j ≡ (now && (not was || e))
-joins-by true true was true h f = sym (or-true (not was))
-joins-by true true was false h f = absurd (true≢false h)
-joins-by true false true true h f = not-both _ refl (f refl)
-joins-by true false true false h f = refl
-joins-by true false false true h f = refl
-joins-by true false false false h f = sym h
-joins-by false e was true h f = sym h
-joins-by false e was false h f = refl
-
-joins-in : (id₀ : ℕ) (o q : Partition) → ListedIn o → ListedIn q → (l : List ℕ) → members (q .arrival) ≡ kept (λ y. readyIn q y && other id₀ y) (members (o .arrival)) ++ l
-    → (id : ℕ) → contains id l ≡ (readyIn q id && (not (readyIn o id) || eqb id id₀))
-joins-in id₀ o q v u l order id =
-    let f : ℕ → Bool = λ y. readyIn q y && other id₀ y in
-    let a = kept f (members (o .arrival)) in
-    let there : contains id a ≡ ((readyIn q id && not (eqb id id₀)) && readyIn o id) = contains-kept f id (members (o .arrival)) ∙ ap (λ (t : Bool). f id && t) (v .arrivals .exact id) in
-    joins-by (readyIn q id) (eqb id id₀) (readyIn o id) (contains id l)
-    (sym (u .arrivals .exact id) ∙ ap (contains id) order ∙ contains-append id a l ∙ ap (λ (t : Bool). t || contains id l) there)
-    (λ c. sym there ∙ apart-append id a l (rw order at (u .arrivals .distinct)) c)
-
 -- ---------------------------------------------------------------- every event
 module _ (m : Module) (h : Reached m) (e : EventT) (k : ℕ) (b : Between 1 (m .table .size) k) where
   sound-here : SoundModule m
@@ -238,6 +206,45 @@ module _ (m : Module) (h : Reached m) (e : EventT) (k : ℕ) (b : Between 1 (m .
       never true = refl
       never false = refl
 
+-- ---------------------------------------------------------------- who stands before whom
+-- who is READY then and is not moved
+stays-test : (q : Partition) (z y : ℕ) → readyIn q y ≡ true → (z ≡ y → ⊥) → (readyIn q y && not (eqb y z)) ≡ true
+stays-test q z y r ne = rw (r, ne-eqb y z (λ e. ne (sym e)))
+
+stands-behind : (m : Module) → Reached m → (e : EventT) (k a c : ℕ) → Between 1 (m .table .size) k → let p = own m k in
+    let q = own (step m e .state) k in
+    readyIn p a ≡ true → readyIn q a ≡ true → (movedBy m e k ≡ a → ⊥) → readyIn q c ≡ true → (readyIn p c ≡ false) ⊎ (movedBy m e k ≡ c) → precedes a c (members (q .arrival)) ≡ true
+stands-behind m h e k a c b was now ne ready-c joins =
+    let g = arrival-after m h e k b in
+    let z = movedBy m e k in
+    let q = own (step m e .state) k in
+    let v = sound-here m h e k b .eachPartition (k - 1) (omega (arith, b .0, b .1)) .lists in
+    rw (g .order) (precedes-across a c _ (g .joined)
+    (contains-kept (λ y. readyIn q y && not (eqb y z)) a (members (own m k .arrival)) ∙ rw (stays-test q z a now ne, v .arrivals .exact a, was))
+    (g .joins c ∙ rw ready-c (⊎-elim (λ (o : readyIn (own m k) c ≡ false). rw o) (λ (o : z ≡ c). rw (eq-eqb c z (sym o)) (or-true (not (readyIn (own m k) c)))) joins)))
+
+ready-first : (k id : ℕ) (m : Module) (es : List EventT) → ReadyThroughout k id m es → readyIn (own m k) id ≡ true
+unfolding ReadyThroughout
+ready-first k id m [] h = h
+ready-first k id m (e ∷ es) h = h .0
+
+list-stays : (k a c : ℕ) (es : List EventT) (m : Module) → Reached m → Between 1 (m .table .size) k → ReadyThroughout k a m es → ReadyThroughout k c m es
+    → precedes a c (members (own m k .arrival)) ≡ true → precedes a c (members (own (after m es) k .arrival)) ≡ true
+unfolding ReadyThroughout
+list-stays k a c [] m h b ra rc g = g
+list-stays k a c (e ∷ es) m h b ra rc g =
+    let q = step m e .state in
+    let z = movedBy m e k in
+    let o = arrival-after m h e k b in
+    list-stays k a c es q (Reached.stepped m e h) (rw (step-table m e) b) (ra .2) (rc .2)
+    (rw (o .order) (precedes-first a c _ (o .joined) (precedes-kept (λ y. readyIn (own q k) y && not (eqb y z)) a c
+    (stays-test (own q k) z a (ready-first k a q es (ra .2)) (ra .1)) (stays-test (own q k) z c (ready-first k c q es (rc .2)) (rc .1)) (members (own m k .arrival)) g)))
+
 -- Law. The order of the arrival list.
 pub arrivals : Arrivals
-arrivals = record { events = arrival-after; ticked = λ m h e k b by z. ticked-arrival m h e k b by z }
+arrivals = record {
+  events = arrival-after;
+  ticked = λ m h e k b by z. ticked-arrival m h e k b by z;
+  behind = stands-behind;
+  stay = λ m h es k a c b ra rc g. list-stays k a c es m h b ra rc g;
+}

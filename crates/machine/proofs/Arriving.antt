@@ -1,7 +1,7 @@
--- The arrival list after each change. Assumes nothing.
+-- The arrival list after each change, who joins it, and who stands in it before whom. Assumes nothing.
 use Prim.Native.Nat.{ℕ}
 use mathlib.Core.Path.{_≡_, refl, sym, ap, subst, _∙_}
-use mathlib.Core.Bool.{true, false, _&&_, and-true, or-false}
+use mathlib.Core.Bool.{true, false, _&&_, and-true, or-false, Bool, not, _||_, or-true, true≢false}
 use mathlib.Core.List.{List, [], _∷_, _++_, append-nil, append-assoc}
 use mathlib.Core.Logic.{⊎-elim}
 use native.Mathlib.Omega.{arith}
@@ -16,7 +16,7 @@ use Rattle.machine.specs.declared.Transfer.{Transfer}
 use Rattle.machine.specs.declared.Transfer.the-variants.{Put, HandedTo, Taken, LetIn}
 use Rattle.machine.specs.declared.Change.{Change}
 use Rattle.machine.specs.declared.Change.the-variants.{Nothing, Stored, Created, Last, StoredSemaphore, StoredEvent, CreatedBuffer, Moved, StoredBlackboard, Ended, Handed, LevelSet, Entered}
-use Rattle.machine.specs.Ids.{members, kept, other}
+use Rattle.machine.specs.Ids.{members, kept, other, keptIf}
 use Rattle.machine.specs.Limits.{processLimit, semaphoreLimit, eventLimit, bufferLimit, blackboardLimit}
 use Rattle.machine.specs.Process.{blankProcess, ready, served, handed, entered}
 use Rattle.machine.specs.Partition.{arrivedLast, noted, within, byId, stored, created, storedSemaphore, storedEvent, storedBuffer, storedBlackboard, emptyBuffer, movedIn, endedBy, buffer, waiters, changedAll, each, withMode, enteredNormal, applied}
@@ -27,12 +27,14 @@ use Rattle.machine.proofs.Tests.{by-test, not-both}
 use Rattle.machine.proofs.Bounds.{same-or-not, within-in, buffer-in}
 use Rattle.machine.proofs.Lists.{members-idsOf}
 use Rattle.machine.proofs.Flows.{kept-append}
-use Rattle.machine.proofs.Tracking.{kept-same, kept-kept, kept-all}
+use Rattle.machine.proofs.Tracking.{kept-same, kept-kept, kept-all, contains-kept}
 use Rattle.machine.proofs.Keeping.{AllCreated, process-created, each-changed, from-range, distinct-from}
 use Rattle.machine.proofs.Kept.{change-valid, end-same, waiters-created, waiters-distinct}
 use Rattle.machine.proofs.Queues.{readyIn, arrive-all}
 use Rattle.machine.proofs.Acts.{lastOf, touches}
 use Rattle.machine.proofs.Plain.{arrived-plain}
+use Rattle.machine.specs.Arrivals.{precedes}
+use Rattle.machine.proofs.Either.{either}
 
 -- ---------------------------------------------------------------- a partition then
 -- who of the list of p is READY in q keeps its place, and behind them stands who joins
@@ -161,3 +163,65 @@ keeps-then p q r v stays g h = record {
       ∙ ap (λ (l : List ℕ). l ++ kept (readyIn r) (g .joined)) (kept-kept (readyIn r) (readyIn q) (members (p .arrival)) ∙ kept-same (λ y. readyIn r y && readyIn q y) (readyIn r) (members (p .arrival)) (λ y c. rw (stays y (sym (v .arrivals .exact y) ∙ c)) (and-true (readyIn r y)))))
       ∙ append-assoc (kept (readyIn r) (members (p .arrival))) (kept (readyIn r) (g .joined)) (h .joined);
 }
+
+-- ---------------------------------------------------------------- who joins
+pub contains-append : (y : ℕ) (l k : List ℕ) → contains y (l ++ k) ≡ (contains y l || contains y k)
+unfolding contains
+contains-append y [] k = refl
+contains-append y (x ∷ l) k = either (eqb x y) (λ e. rw e) (λ e. rw e (contains-append y l k))
+
+-- one of the first part is not in the second
+apart-append : (y : ℕ) (l k : List ℕ) → Distinct (l ++ k) → contains y k ≡ true → contains y l ≡ false
+unfolding contains Distinct
+apart-append y [] k d c = refl
+apart-append y (x ∷ l) k d c = rw (ne-eqb x y (λ e. not-both _ (contains-append x l k ∙ ap (λ z. contains z l || contains z k) e ∙ rw c (or-true (contains y l))) (d .0))) (apart-append y l k (d .1) c)
+
+-- READY now, moved, READY before, joins
+joins-by : (now e was j : Bool) → now ≡ (((now && not e) && was) || j) → (j ≡ true → ((now && not e) && was) ≡ false) → j ≡ (now && (not was || e))
+joins-by true true was true h f = sym (or-true (not was))
+joins-by true true was false h f = absurd (true≢false h)
+joins-by true false true true h f = not-both _ refl (f refl)
+joins-by true false true false h f = refl
+joins-by true false false true h f = refl
+joins-by true false false false h f = sym h
+joins-by false e was true h f = sym h
+joins-by false e was false h f = refl
+
+pub joins-in : (id₀ : ℕ) (o q : Partition) → ListedIn o → ListedIn q → (l : List ℕ) → members (q .arrival) ≡ kept (λ y. readyIn q y && other id₀ y) (members (o .arrival)) ++ l
+    → (id : ℕ) → contains id l ≡ (readyIn q id && (not (readyIn o id) || eqb id id₀))
+joins-in id₀ o q v u l order id =
+    let f : ℕ → Bool = λ y. readyIn q y && other id₀ y in
+    let a = kept f (members (o .arrival)) in
+    let there : contains id a ≡ ((readyIn q id && not (eqb id id₀)) && readyIn o id) = contains-kept f id (members (o .arrival)) ∙ ap (λ (t : Bool). f id && t) (v .arrivals .exact id) in
+    joins-by (readyIn q id) (eqb id id₀) (readyIn o id) (contains id l)
+    (sym (u .arrivals .exact id) ∙ ap (contains id) order ∙ contains-append id a l ∙ ap (λ (t : Bool). t || contains id l) there)
+    (λ c. sym there ∙ apart-append id a l (rw order at (u .arrivals .distinct)) c)
+
+-- ---------------------------------------------------------------- who stands before whom
+pub precedes-kept : (f : ℕ → Bool) (a b : ℕ) → f a ≡ true → f b ≡ true → (l : List ℕ) → precedes a b l ≡ true → precedes a b (kept f l) ≡ true
+unfolding precedes kept
+precedes-kept f a b fa fb [] h = h
+precedes-kept f a b fa fb (x ∷ l) h = either (eqb x a)
+    (λ e.
+    let is = eqb-true x a e in
+    let c : contains b l ≡ true = rw e at h in
+    rw (ap f is ∙ fa, e) (contains-kept f b l ∙ rw (fb, c)))
+    (λ e. let g = precedes-kept f a b fa fb l (rw e at h) in by-kept (f x) e g)
+  where
+    by-kept : (t : Bool) → eqb x a ≡ false → precedes a b (kept f l) ≡ true → precedes a b (keptIf t x (kept f l)) ≡ true
+    by-kept true e g = rw e g
+    by-kept false e g = g
+
+pub precedes-first : (a b : ℕ) (l k : List ℕ) → precedes a b l ≡ true → precedes a b (l ++ k) ≡ true
+unfolding precedes
+precedes-first a b [] k h = not-both _ h refl
+precedes-first a b (x ∷ l) k h = either (eqb x a)
+    (λ e. rw (e, contains-append b l k) (let c : contains b l ≡ true = rw e at h in rw c))
+    (λ e. rw e (precedes-first a b l k (rw e at h)))
+
+pub precedes-across : (a b : ℕ) (l k : List ℕ) → contains a l ≡ true → contains b k ≡ true → precedes a b (l ++ k) ≡ true
+unfolding precedes contains
+precedes-across a b [] k c d = not-both _ c refl
+precedes-across a b (x ∷ l) k c d = either (eqb x a)
+    (λ e. rw (e, contains-append b l k, d) (or-true (contains b l)))
+    (λ e. rw e (precedes-across a b l k (rw e at c) d))

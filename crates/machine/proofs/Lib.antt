@@ -57,6 +57,7 @@ pub mod Acts
 pub mod Alike
 pub mod WaitsOn
 pub mod Turns
+pub mod AtPartition
 pub mod EachProcess
 pub mod ProcessStates
 pub mod Priorities

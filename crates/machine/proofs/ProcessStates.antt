@@ -38,7 +38,7 @@ use Rattle.machine.proofs.Calling.{calling-sound, calling-valid, own-af
 use Rattle.machine.proofs.Plain.{stored-plain}
 use Rattle.machine.proofs.Queues.{followed-same, stored-queue, same-queue}
 use Rattle.machine.proofs.Reasons.{for-none}
-use Rattle.machine.proofs.EachProcess.{ticked-part, tick-process, each-process}
+use Rattle.machine.proofs.EachProcess.{tick-process, each-process}
 use Rattle.machine.proofs.Alike.{same-started, same-wait, same-mark, same-missed, not-created}
 use Rattle.machine.proofs.Refusals.{places}
 use Rattle.machine.proofs.Dispatch.{ticks-decided}
@@ -46,6 +46,7 @@ use Rattle.machine.proofs.Reached.{valid-sound, reached-valid}
 use Rattle.machine.proofs.EachCall.{each-event, each-call}
 use Rattle.machine.proofs.Account.{step-size}
 use Rattle.machine.proofs.Kept.{waiters-exact}
+use Rattle.machine.proofs.AtPartition.{ticked-part}
 
 -- ---------------------------------------------------------------- an accepted call
 -- an event that is not refused has passed its checks

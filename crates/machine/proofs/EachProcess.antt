@@ -99,7 +99,7 @@ module _ (m : Module) (s : SoundModule m) (e : EventT) (k : ℕ) (b : Between 1 
   tick-is by =
       subst (Becomes m e 0 k id) (sym (ticked-process (m .t + 1) (m .table .frame) (m .t) p here id)) (by-test (Becomes m e 0 k id) (normalMode p)
       (λ t. Becomes.ticked (by, refl, eqb-true _ 3 t) refl)
-      (λ t. Becomes.same (elsewhere-none m e k id 0 (λ c. not-both _ (eq-eqb (p .mode) 3 (c .2)) t) (λ n c _ w. let z = same-number (sym by ∙ w .0) in omega (arith, b .0))) refl))
+      (λ t. Becomes.same (elsewhere-none m e k id 0 (λ c. not-both _ (eq-eqb (p .mode) 3 (c .2)) t) (λ n c. let z = same-number (sym by ∙ c .0) in omega (arith, b .0)) (λ n c. let z = same-number (sym by ∙ c .0 .0) in omega (arith, b .0))) refl))
 
   module _ (by : e .partition ≡ pos k) (call : e .call ≡ pos number) where
     blocked-is : (w : ℕ) (y : Process) → SoundDecision (contextOf m k) p (Blocked w y) → Acts (contextOf m k) asks p number (Blocked w y) → Is 7 (stored w y p)

@@ -3,7 +3,7 @@ use Prim.Native.Nat.{ℕ, _*_, _-_, _≤_, _+_}
 use mathlib.Core.Path.{_≡_, refl, sym, ap, subst, _∙_}
 use mathlib.Core.Bool.{true, false}
 use mathlib.Core.List.{List}
-use mathlib.Core.Logic.{_⊎_, inl, inr, ⊎-elim}
+use mathlib.Core.Logic.{inl, inr, ⊎-elim}
 use native.Mathlib.Omega.{arith}
 use lib.ListN.{set}
 use lib.Dec.{eqb}
@@ -53,41 +53,31 @@ pub same-number : {a b : ℕ} → pos a ≡ pos b → a ≡ b
 same-number e = ap idOf e
 
 module _ (m : Module) (e : EventT) (k id : ℕ) where
-  -- no tick, and no call of the partition answered 0 or 7
-  pub elsewhere-none : (code : ℕ) → (Tick m e code k id → ⊥) → ((n c : ℕ) → (c ≡ 0) ⊎ (c ≡ 7) → Call m e code k id n c → ⊥) → ActsElsewhere m e code k id
-  elsewhere-none code still none = record {
+  -- no tick, no call of the partition answered 0, and none by the process answered 7
+  pub elsewhere-none : (code : ℕ) → (Tick m e code k id → ⊥) → ((n : ℕ) → Call m e code k id n 0 → ⊥) → ((n : ℕ) → CallBy m e code k id n 7 → ⊥) → ActsElsewhere m e code k id
+  elsewhere-none code still none waits = record {
     tick = still;
-    start = ⊎-elim (λ (c : CallOf m e code k id 3). none 3 0 (inl refl) (c .0)) (λ (c : CallOf m e code k id 4). none 4 0 (inl refl) (c .0));
-    stop = ⊎-elim (λ (c : CallOf m e code k id 5). none 5 0 (inl refl) (c .0)) (λ (c : CallBy m e code k id 6 0). none 6 0 (inl refl) (c .0));
-    suspend = λ c. none 7 0 (inl refl) (c .0);
-    resume = λ c. none 11 0 (inl refl) (c .0);
-    priority = λ c. none 12 0 (inl refl) (c .0);
-    wait = λ n c. none n 7 (inr refl) (c .0);
-    enter = λ c. none 1 0 (inl refl) (c .call);
-    erase = λ c. none 1 0 (inl refl) (c .call);
+    start = ⊎-elim (λ (c : CallOf m e code k id 3). none 3 (c .0)) (λ (c : CallOf m e code k id 4). none 4 (c .0));
+    stop = ⊎-elim (λ (c : CallOf m e code k id 5). none 5 (c .0)) (λ (c : CallBy m e code k id 6 0). none 6 (c .0));
+    suspend = λ c. none 7 (c .0);
+    resume = λ c. none 11 (c .0);
+    priority = λ c. none 12 (c .0);
+    wait = waits;
+    enter = λ c. none 1 (c .call);
+    erase = λ c. none 1 (c .call);
   }
 
   -- a code other than 0 and 7
   pub elsewhere-code : (code : ℕ) → (code ≡ 0 → ⊥) → (code ≡ 7 → ⊥) → ActsElsewhere m e code k id
-  elsewhere-code code f g = elsewhere-none code (λ t. f (t .1)) (λ n c z w. ⊎-elim (λ (y : c ≡ 0). f (w .2 ∙ y)) (λ (y : c ≡ 7). g (w .2 ∙ y)) z)
+  elsewhere-code code f g = elsewhere-none code (λ t. f (t .1)) (λ n c. f (c .2)) (λ n c. g (c .0 .2))
 
   -- a call of another partition
   pub elsewhere-from : (code h : ℕ) → e .partition ≡ pos h → (h ≡ k → ⊥) → (h ≡ 0 → ⊥) → ActsElsewhere m e code k id
-  elsewhere-from code h by other some = elsewhere-none code (λ t. some (same-number (sym by ∙ t .0))) (λ n c z w. other (same-number (sym by ∙ w .0)))
+  elsewhere-from code h by other some = elsewhere-none code (λ t. some (same-number (sym by ∙ t .0))) (λ n c. other (same-number (sym by ∙ c .0))) (λ n c. other (same-number (sym by ∙ c .0 .0)))
 
   -- a call by another process that waits
   pub elsewhere-seven : (id ≡ running (own m k) → ⊥) → ActsElsewhere m e 7 k id
-  elsewhere-seven ne = record {
-    tick = λ t. omega (arith, t .1);
-    start = ⊎-elim (λ (c : CallOf m e 7 k id 3). omega (arith, c .0 .2)) (λ (c : CallOf m e 7 k id 4). omega (arith, c .0 .2));
-    stop = ⊎-elim (λ (c : CallOf m e 7 k id 5). omega (arith, c .0 .2)) (λ (c : CallBy m e 7 k id 6 0). omega (arith, c .0 .2));
-    suspend = λ c. omega (arith, c .0 .2);
-    resume = λ c. omega (arith, c .0 .2);
-    priority = λ c. omega (arith, c .0 .2);
-    wait = λ n c. ne (c .2);
-    enter = λ c. omega (arith, c .call .2);
-    erase = λ c. omega (arith, c .call .2);
-  }
+  elsewhere-seven ne = elsewhere-none 7 (λ t. omega (arith, t .1)) (λ n c. omega (arith, c .2)) (λ n c. ne (c .2))
 
   -- call n answered 0: it names another process, is not by this one, and lets it enter NORMAL no more than it erases it
   pub elsewhere-call : (n h : ℕ) → e .partition ≡ pos h → (h ≡ 0 → ⊥) → e .call ≡ pos n → ((n ≡ 1 → ⊥) → (n ≡ 6 → ⊥) → actsOnNamed n ≡ true → e .a ≡ pos id → ⊥) → (n ≡ 6 → id ≡ running (own m k) → ⊥)
@@ -260,7 +250,7 @@ module _ (m : Module) (s : SoundModule m) (e : EventT) (k : ℕ) (id : ℕ) (n :
     moved-turn j a q al u h (TransferBy.receives is j-is known msg a-is) =
         received-is m e k id v (object (Sending j 0)) (λ z. omega arith) (λ w. serve 25 3 is (omega arith) (p .bufferCount) few-buffers (rw (← j-is) known) (λ _. refl) (w ∙ ap (λ i. object (Sending i 0)) j-is)) (off 25 is refl) q al u a msg a-is h
 
-    -- several processes changed by f, where those of them become z
+    -- several processes changed by f
     all-turn : (f : Process → Process) (l : List ℕ) (q : Partition) → Alike p q → ListedIn q → AllCreated l (q .processCount) → Distinct l → (contains id l ≡ true → After (f x)) → (contains id l ≡ false → ActsElsewhere m e 0 k id) → After (process id (changedAll f l q))
     all-turn f l q a u all dis g none =
         to (changed-process f l q u all dis id)

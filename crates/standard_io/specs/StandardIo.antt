@@ -3,7 +3,7 @@ use Prim.Native.Nat.{ℕ, suc, _+_, _-_, _<_, min}
 use mathlib.Core.Path.{_≡_}
 use mathlib.Core.Bool.{Bool, true, false, cond, not, _&&_}
 use mathlib.Core.List.{List}
-use lib.ListN.{take}
+use lib.ListN.{length, take}
 use lib.Dec.{eqb}
 use lib.IntN.{ℤ, pos, negsuc}
 use Rattle.machine.specs.declared.Module.{Module}
@@ -52,10 +52,16 @@ pub record TookRead (prints : Bool) (s : Stream) (got : Got) (bytes : List ℕ) 
   pub quiet : Quiet prints written
   pub is : r ≡ afterRead s got bytes written
 
--- one read; its answer and the bytes are free too
+-- what a read into so many bytes gave; its answer is free
+pub record GotFrom (most : ℕ) (got : Got) : Type 0 where
+  pub answer : ℤ
+  pub is : got ≡ gotOf answer most
+
+-- one read; the bytes that it leaves in the buffer are free too
 pub record ReadOnce (prints : Bool) (s : Stream) (r : Turn) : Type 0 where
   pub got : Got
   pub bytes : List ℕ
+  pub from : GotFrom (length bytes) got
   pub took : TookRead prints s got bytes r
 
 abbrev pub isGoing : End → Bool
@@ -134,11 +140,6 @@ pub record AfterInput (prints : Bool) (r : Replayed) : Type 0 where
   pub is : r .executive .inner ≡ recordAfter (turn .end) read
 
 -- ---------------------------------------------------------------- whole inputs
--- what a read into so many bytes gave; its answer is free
-pub record GotFrom (most : ℕ) (got : Got) : Type 0 where
-  pub answer : ℤ
-  pub is : got ≡ gotOf answer most
-
 -- reads one after another, each into what is left of a buffer, gave so many bytes
 pub data Filled (most : ℕ) : ℕ → Type 0 where
   empty : Filled most 0

@@ -9,7 +9,12 @@ take-read-requires : tie.Need-take-read-requires
 take-read-requires c κs = (c .before .before .before .before .before .before .before .before .before .before .pre, got-within (toZ w64 (ofZ w64 (c .before .before .before .before .before .before .read .result))) _ _ (c .before .before .got-of .ensures))
 
 returns : tie.Need-returns
-returns c = record { got = _; bytes = _; took = c .before .before .take-read .ensures }
+returns c = record {
+  got = _;
+  bytes = _;
+  from = record { answer = toZ w64 (ofZ w64 (c .before .before .before .before .before .before .before .before .before .read .result)); is = c .before .before .before .before .before .got-of .ensures };
+  took = c .before .before .take-read .ensures;
+}
 
 pub read-once-spec : {M : Type 1} → statement M
 read-once-spec =

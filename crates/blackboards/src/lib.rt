@@ -48,8 +48,6 @@ pub fn is_blackboard_named(p: Partition, name: Field) -> bool
     false
 }
 
-pub const CREATE_BLACKBOARD_FIELDS: u8 = 1;
-
 // 26 CREATE_BLACKBOARD
 pub fn create_blackboard(p: Partition, name: Field) -> Decision
     ensures { λ r. ⌜ r ≡ createBlackboard name p ⌝ }
@@ -68,8 +66,6 @@ pub fn create_blackboard(p: Partition, name: Field) -> Decision
     let k = n + 1;
     Decision::Changed(Change::StoredBlackboard(k, b), Change::Nothing, k)
 }
-
-pub const SHOW_FIELDS: u8 = 2;
 
 // 27 SHOW
 pub fn show_blackboard(p: Partition, k: u32, m: Field) -> Decision
@@ -96,8 +92,6 @@ pub fn show_blackboard(p: Partition, k: u32, m: Field) -> Decision
     )
 }
 
-pub const READ_BLACKBOARD_FIELDS: u8 = 2;
-
 // 28 READ_BLACKBOARD
 pub fn read_blackboard(p: Partition, c: Context, k: u32, a: Field) -> Decision
     ensures { λ r. ⌜ r ≡ readBlackboard c k a p ⌝ }
@@ -116,8 +110,6 @@ pub fn read_blackboard(p: Partition, c: Context, k: u32, a: Field) -> Decision
         Wait::Blackboard(objects::short_id(k)),
     )
 }
-
-pub const CLEAR_FIELDS: u8 = 1;
 
 // 29 CLEAR
 pub fn clear_blackboard(p: Partition, k: u32) -> Decision

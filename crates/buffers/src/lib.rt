@@ -50,8 +50,6 @@ fn is_buffer_admitted(name: Field, limit: Field) -> bool
     }
 }
 
-pub const CREATE_BUFFER_FIELDS: u8 = 2;
-
 // 23 CREATE_BUFFER
 pub fn create_buffer(p: Partition, name: Field, limit: Field) -> Decision
     ensures { λ r. ⌜ r ≡ createBuffer name limit p ⌝ }
@@ -83,8 +81,6 @@ fn has_room(b: Buffer) -> bool
     q.len < b.limit
 }
 
-pub const SEND_BUFFER_FIELDS: u8 = 3;
-
 // 24 SEND_BUFFER
 pub fn send_buffer(p: Partition, c: Context, k: u32, m: Field, a: Field) -> Decision
     ensures { λ r. ⌜ r ≡ sendBuffer c k m a p ⌝ }
@@ -98,8 +94,6 @@ pub fn send_buffer(p: Partition, c: Context, k: u32, m: Field, a: Field) -> Deci
     let passes = has_room(buffer_at(p, k));
     objects::awaited(p, c, code, a, passes, success, Wait::Sending(id, n))
 }
-
-pub const RECEIVE_BUFFER_FIELDS: u8 = 2;
 
 // 25 RECEIVE_BUFFER
 pub fn receive_buffer(p: Partition, c: Context, k: u32, a: Field) -> Decision

@@ -32,8 +32,6 @@ fn is_warm_from_cold(mode: u8, a: Field) -> bool
     }
 }
 
-pub const SET_MODE_FIELDS: u8 = 1;
-
 // 1 SET_PARTITION_MODE; the messages are erased with the module.
 pub fn set_mode(p: Partition, c: Context, a: Field) -> Decision
     ensures { λ r. ⌜ r ≡ setMode c a p ⌝ }
@@ -145,8 +143,6 @@ pub fn is_admissible(r: Request, c: Context) -> bool
     !is_above(capacity, period)
 }
 
-pub const CREATE_PROCESS_FIELDS: u8 = 4;
-
 // 2 CREATE_PROCESS.
 pub fn create_process(p: Partition, c: Context, r: Request) -> Decision
     ensures { λ d. ⌜ d ≡ createProcess c r p ⌝ }
@@ -189,10 +185,6 @@ fn is_delay_refused(x: Process, delay: Field) -> bool
     }
 }
 
-pub const START_FIELDS: u8 = 1;
-
-pub const DELAYED_START_FIELDS: u8 = 2;
-
 // 3 START, with delay 0, and 4 DELAYED_START.
 pub fn start_process(p: Partition, c: Context, id: u32, delay: Field) -> Decision
     ensures { λ r. ⌜ r ≡ start c id delay p ⌝ }
@@ -214,8 +206,6 @@ pub fn start_process(p: Partition, c: Context, id: u32, delay: Field) -> Decisio
     decisions::changed(Change::Stored(id, process::start_early(x, n)))
 }
 
-pub const STOP_FIELDS: u8 = 1;
-
 // 5 STOP.
 pub fn stop_process(p: Partition, c: Context, id: u32) -> Decision
     ensures { λ r. ⌜ r ≡ stop c id p ⌝ }
@@ -232,8 +222,6 @@ pub fn stop_process(p: Partition, c: Context, id: u32) -> Decision
     }
     decisions::changed(Change::Stored(id, process::stop(x)))
 }
-
-pub const STOP_SELF_FIELDS: u8 = 0;
 
 // 6 STOP_SELF; it ends a preemption lock.
 pub fn stop_self(p: Partition, c: Context) -> Decision
@@ -261,8 +249,6 @@ fn is_unsuspendable(x: Process) -> bool
     process::is_periodic(x)
 }
 
-pub const SUSPEND_FIELDS: u8 = 1;
-
 // 7 SUSPEND.
 pub fn suspend_process(p: Partition, c: Context, id: u32) -> Decision
     ensures { λ r. ⌜ r ≡ suspend c id p ⌝ }
@@ -282,8 +268,6 @@ pub fn suspend_process(p: Partition, c: Context, id: u32) -> Decision
     }
     decisions::changed(Change::Stored(id, process::with_suspended(x, true)))
 }
-
-pub const SUSPEND_SELF_FIELDS: u8 = 1;
 
 // 8 SUSPEND_SELF.
 pub fn suspend_self(p: Partition, c: Context, a: Field) -> Decision
@@ -309,8 +293,6 @@ pub fn suspend_self(p: Partition, c: Context, a: Field) -> Decision
     let wake = process::later_time(Time::At(c.time), fields::time_of(a));
     decisions::block(p.level, c.caller, process::suspended_until(x, wake))
 }
-
-pub const TIMED_WAIT_FIELDS: u8 = 1;
 
 // 9 TIMED_WAIT.
 pub fn timed_wait(p: Partition, c: Context, a: Field) -> Decision
@@ -338,8 +320,6 @@ pub fn timed_wait(p: Partition, c: Context, a: Field) -> Decision
     )
 }
 
-pub const PERIODIC_WAIT_FIELDS: u8 = 0;
-
 // 10 PERIODIC_WAIT.
 pub fn periodic_wait(p: Partition, c: Context) -> Decision
     ensures { λ r. ⌜ r ≡ periodicWait c p ⌝ }
@@ -359,8 +339,6 @@ pub fn periodic_wait(p: Partition, c: Context) -> Decision
     let release = process::later_time(last, period);
     decisions::block(p.level, c.caller, process::wait_for_release(x, release))
 }
-
-pub const RESUME_FIELDS: u8 = 1;
 
 // 11 RESUME.
 pub fn resume_process(p: Partition, c: Context, id: u32) -> Decision
@@ -393,8 +371,6 @@ fn last_if(ready: bool, id: u8) -> Change
         Change::Nothing
     }
 }
-
-pub const SET_PRIORITY_FIELDS: u8 = 2;
 
 // 12 SET_PRIORITY.
 pub fn set_priority(p: Partition, id: u32, a: Field) -> Decision
@@ -435,8 +411,6 @@ pub fn status_of(x: Process, c: Context, id: u32) -> u32
     3
 }
 
-pub const GET_STATUS_FIELDS: u8 = 1;
-
 // 13 GET_PROCESS_STATUS.
 pub fn get_status(p: Partition, c: Context, id: u32) -> Decision
     ensures { λ r. ⌜ r ≡ getStatus c id p ⌝ }
@@ -449,8 +423,6 @@ pub fn get_status(p: Partition, c: Context, id: u32) -> Decision
     let deadline = times.deadline;
     Decision::Unchanged(status_of(x, c, id), deadline)
 }
-
-pub const LOCK_PREEMPTION_FIELDS: u8 = 0;
 
 // 32 LOCK_PREEMPTION. The process that raises the level from 0 is the holder.
 pub fn lock_preemption(p: Partition, c: Context) -> Decision
@@ -469,8 +441,6 @@ pub fn lock_preemption(p: Partition, c: Context) -> Decision
     decisions::changed(Change::LevelSet(level, c.caller))
 }
 
-pub const UNLOCK_PREEMPTION_FIELDS: u8 = 0;
-
 // 33 UNLOCK_PREEMPTION. At level 0 there is no holder.
 pub fn unlock_preemption(p: Partition) -> Decision
     ensures { λ r. ⌜ r ≡ unlockPreemption p ⌝ }
@@ -487,8 +457,6 @@ pub fn unlock_preemption(p: Partition) -> Decision
     }
     decisions::changed(Change::LevelSet(level, 0))
 }
-
-pub const GET_TICKS_LEFT_FIELDS: u8 = 0;
 
 // 34 GET_TICKS_LEFT.
 pub fn get_ticks_left(c: Context) -> Decision

@@ -131,9 +131,6 @@ pub fn end_code(x: Port, other: bool, wanted: u8) -> u8
     0
 }
 
-// The fields that it uses.
-pub const WRITE_FIELDS: u8 = 2;
-
 // 21 WRITE
 pub fn write_channel(c: Context, x: Port, a: Field) -> Decision
     ensures { λ d. ⌜ d ≡ write c x a ⌝ }
@@ -166,9 +163,6 @@ fn freshness_at(t: u32, written: u32, refresh: u32) -> u32
     }
     0
 }
-
-// The fields that it uses.
-pub const READ_FIELDS: u8 = 1;
 
 // 22 READ
 pub fn read_channel(c: Context, x: Port) -> Decision

@@ -44,7 +44,7 @@ use Rattle.machine.proofs.Reached.{refilled-table}
 use Rattle.machine.proofs.Restarts.{refilled-time, refilled-sizes}
 use Rattle.machine.proofs.Bounds.{within-out}
 use Rattle.machine.proofs.Either.{either}
-use Rattle.machine.proofs.Dispatch.{release-unseen}
+use Rattle.machine.proofs.EveryCall.{release-unseen}
 use Rattle.machine.proofs.Folds.{tick-to-none}
 use Rattle.machine.proofs.Tests.{by-test, codesIn, Passed, code-refuses, code-passes, and-left, and-right, or-left, or-right}
 use Rattle.places.specs.Placed.{placedAt}
@@ -76,7 +76,7 @@ release-shown T t k left caller n x r p = either (takesStartRule n)
     (λ e.
     let late = or-right (eqb n 1) _ e in
     ap (checked Refused ((noCallerAs caller p, 9) ∷ []))
-    (release-unseen t (T .frame) left caller n x r p (eqb-false n 1 (or-left (eqb n 1) _ e)) (eqb-false n 3 (or-left (eqb n 3) _ late)) (eqb-false n 4 (or-right (eqb n 3) _ late)) _ _))
+    (release-unseen n (eqb-false n 1 (or-left (eqb n 1) _ e), eqb-false n 3 (or-left (eqb n 3) _ late), eqb-false n 4 (or-right (eqb n 3) _ late)) _ _ x r p))
 
 -- ---------------------------------------------------------------- the places
 abbrev own : Request → ℕ

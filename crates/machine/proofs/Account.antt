@@ -63,9 +63,12 @@ use Rattle.machine.proofs.Messages.{queue-first}
 use Rattle.machine.proofs.Moves as Mo
 use Rattle.machine.proofs.Flows as Fl
 use Rattle.machine.proofs.Passing.{joined-same, joined-still, joined-queue, gone-queue, gone-first, gone-same, gone-still, handed-one}
-use Rattle.machine.proofs.Available.{part-none, unknown-unwaited, none-waits}
+use Rattle.machine.proofs.Fairness.{part-none, unknown-unwaited}
+use Rattle.machine.proofs.Available.{none-waits}
 use Rattle.machine.proofs.Tracking.{contains-kept, kept-same, kept-kept, kept-all, kept-no}
-use Rattle.machine.proofs.Queues.{Part, part-whole, part-waits, part-trans, queue-of, same-queue, tick-part, change-part, stored-part, buffer-queue, joins-last, first-created, others-apart, first-served, Orderly, call-order}
+use Rattle.machine.proofs.Orders.{Part, part-whole, part-waits, part-trans, queue-of, same-queue, tick-part, change-part, stored-part, buffer-queue, joins-last, Orderly}
+use Rattle.machine.proofs.Queues.{first-created, others-apart, first-served}
+use Rattle.machine.proofs.EveryCall.{call-order}
 use Rattle.machine.proofs.Dispatch.{placeCode, Calls, by-event}
 use Rattle.machine.proofs.Bodies.{OnQueue, Bodily, bodyRefusal}
 use Rattle.machine.proofs.Kept.{Caller, tick-valid, change-valid, normal-caller, in-normal, waiters-exact}
@@ -75,7 +78,9 @@ use Rattle.machine.proofs.Plain.{lossless, empty-refused}
 use Rattle.machine.proofs.Answers.{decided-table}
 use Rattle.machine.proofs.Calling.{field-number, number-is, number-of}
 use Rattle.machine.proofs.Reached.{on-queue, plain-part, tick-module-plain, place, context-sound, made, made-sound, made-body, port-sound, reached-valid, valid-sound}
-use Rattle.machine.proofs.Senders.{OfSenders, Leaves, leaves-same, passed-leaves, restart-leaves, Stays, stays-same, tick-stays, changed-stays, blocked-stays, Calm, call-calm, on-queue as waits-there}
+use Rattle.machine.proofs.Calmness.{Leaves, leaves-same, OfSenders, Stays, stays-same, tick-stays, changed-stays, blocked-stays, Calm, on-queue as waits-there}
+use Rattle.machine.proofs.Senders.{passed-leaves, restart-leaves}
+use Rattle.machine.proofs.EveryCall.{call-calm}
 
 -- ---------------------------------------------------------------- lists
 pub empty-of : (l : List ℕ) → length l ≡ 0 → l ≡ []
@@ -572,7 +577,7 @@ module _ (j : ℕ) (m : Module) (s : SoundModule m) (e : EventT) (es : List Even
         rw d (receive-even (no-call 24 not-send) from on stays .is))
         (λ (not-receive : n ≡ 25 → numberOf (r .a) ≡ j → ⊥).
         calm-even (made m s r c) (made-sound m s r c) (made-body m s r c) (call-order ctx p (portOf m k r) n r .is)
-        (call-calm 3 j of-buffers few n (r .a) ctx p own-valid sound-ctx (λ _ z. omega (arith, known .1)) (portOf m k r) r refl (λ _. not-send) (λ _. not-receive) (λ z. absurd (omega arith)) .is)
+        (call-calm 3 j of-buffers few n ctx (portOf m k r) r p (record { valid = own-valid; context = sound-ctx; there = λ _ z. omega (arith, known .1); noSend = λ _. not-send; noReceive = λ _. not-receive; noSendChannel = λ z. absurd (omega arith) }) .is)
         lasts code (no-call 24 not-send) (no-call 25 not-receive))
         (both n 25 (numberOf (r .a)) j))
         (both n 24 (numberOf (r .a)) j)

@@ -26,9 +26,9 @@ use Rattle.machine.proofs.Tests.{by-test, not-both}
 use Rattle.machine.proofs.Bounds.{named-out, within-out}
 use Rattle.machine.proofs.Either.{either}
 use Rattle.machine.proofs.Keeping.{from-has}
-use Rattle.machine.proofs.Queues.{same-queue}
 use Rattle.machine.proofs.Reasons.{for-normal}
 use Rattle.machine.proofs.Acts.{touches}
+use Rattle.machine.proofs.Orders.{same-queue}
 
 -- ---------------------------------------------------------------- equal records
 module _ {x y : Process} (e : x ≡ y) where

@@ -24,7 +24,8 @@ use Rattle.machine.specs.Services.{Service, services, noService, service
 use Rattle.machine.specs.Step.{restarted, moduleAfter}
 use Rattle.machine.proofs.Tests.{by-test, by-checks, and-left, and-right, not-both}
 use Rattle.machine.proofs.Either.{either}
-use Rattle.machine.proofs.Bodies.{Bodily, call-body}
+use Rattle.machine.proofs.Bodies.{Bodily}
+use Rattle.machine.proofs.EveryCall.{call-body}
 
 -- a call decides no tick, and a transfer on a channel that has a place
 abbrev pub NoTick : Decision → Type 0

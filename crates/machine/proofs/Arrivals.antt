@@ -24,7 +24,7 @@ use Rattle.machine.specs.Partition.{arrivedLast, normalMode, noted, runn
 use Rattle.machine.specs.Fields.{requestOf, numberOf}
 use Rattle.machine.specs.Step.{contextOf, step}
 use Rattle.machine.specs.Messages.{moved}
-use Rattle.machine.specs.Channels.{portOf, passed}
+use Rattle.machine.specs.Channels.{portOf}
 use Rattle.machine.specs.Starred.{own}
 use Rattle.machine.specs.EachCall.{idOf}
 use Rattle.machine.specs.Arrivals.{movedAt, movedBy, ArrivalAfter, Arrivals, precedes, ReadyThroughout}
@@ -36,7 +36,7 @@ use Rattle.machine.proofs.Bounds.{not-so, named-replicate}
 use Rattle.machine.proofs.Tracking.{contains-kept, kept-no}
 use Rattle.machine.proofs.Keeping.{process-stored, stored-listed, changed-process, each-changed, from-range, distinct-from}
 use Rattle.machine.proofs.Kept.{change-valid, firsts-created, firsts-distinct, take-in, waiters-on}
-use Rattle.machine.proofs.Queues.{readyIn, becomesReady, arrive-all, stored-arrival, followed-same}
+use Rattle.machine.proofs.Queues.{readyIn, becomesReady, arrive-all}
 use Rattle.machine.proofs.Acts.{lastOf, touches, Acts, actsOnNamed}
 use Rattle.machine.proofs.Alike.{untouched}
 use Rattle.machine.proofs.Turns.{id-of}
@@ -48,6 +48,7 @@ use Rattle.machine.proofs.Reached.{valid-sound, reached-valid}
 use Rattle.machine.proofs.Arriving.{kept-ready, Keeps, Arrives, arrives-off, none-zero, keeps-same, keeps-all, keeps-one, keeps-each, keeps-from, keeps-to, idle-arrival, keeps-ended, last-arrives, arrives-from, arrives-noted, keeps-then, change-keeps, joins-in, precedes-kept, precedes-first, precedes-across}
 use Rattle.machine.proofs.AtPartition.{ticked-part, Kinds, at-partition}
 use Rattle.machine.specs.LeftRight.{after}
+use Rattle.machine.proofs.Orders.{followed-same, stored-arrival}
 
 -- ---------------------------------------------------------------- an event
 module _ (m : Module) (s : SoundModule m) (e : EventT) (k : ℕ) (b : Between 1 (m .table .size) k) where

@@ -68,9 +68,13 @@ use Rattle.machine.proofs.Calling.{field-number, number-of}
 use Rattle.machine.proofs.Reached.{at-set, plain-part, tick-module-plain, place, context-sound, made, made-sound, made-body, port-sound, reached-valid, valid-sound, part-sound, erased-sound, Fills, fills, Channelled, on-queue, queuing-plain, refilled-table, refilled-sound}
 use Rattle.machine.proofs.Tables.{table-read}
 use Rattle.machine.proofs.Answers.{step-table}
-use Rattle.machine.proofs.Queues.{Part, part-whole, part-waits, part-trans, queue-of, same-queue, tick-part, change-part, joins-last, Orderly, call-order, first-created}
-use Rattle.machine.proofs.Available.{part-none, none-first}
-use Rattle.machine.proofs.Senders.{OfSenders, Stays, stays-same, tick-stays, changed-stays, blocked-stays, Leaves, leaves-same, passed-leaves, restart-leaves, Calm, call-calm, on-queue as waits-there}
+use Rattle.machine.proofs.Orders.{Part, part-whole, part-waits, part-trans, queue-of, same-queue, tick-part, change-part, joins-last, Orderly}
+use Rattle.machine.proofs.EveryCall.{call-order}
+use Rattle.machine.proofs.Queues.{first-created}
+use Rattle.machine.proofs.Fairness.{part-none, none-first}
+use Rattle.machine.proofs.Calmness.{Leaves, leaves-same, OfSenders, Stays, stays-same, tick-stays, changed-stays, blocked-stays, Calm, on-queue as waits-there}
+use Rattle.machine.proofs.Senders.{passed-leaves, restart-leaves}
+use Rattle.machine.proofs.EveryCall.{call-calm}
 use Rattle.machine.proofs.Restarts.{refilled-queue, refilled-queue-other, refilled-senders, refilled-waits, refilled-part-other, apart-in}
 use Rattle.machine.proofs.Starred.{tick-queues}
 use Rattle.machine.proofs.Ends.{channel-ends}
@@ -660,10 +664,9 @@ module _ (m : Module) (s : SoundModule m) (ends : ChannelEnds m) (i : ℕ) (ther
           let sound = made-sound m s r q in
           ⊎-elim
           (λ (at : k ≡ from). own-even at d refl sound body (call-order ctx p x n r .is)
-          (call-calm 6 (i + 1) of-channels low n (r .a) ctx p own-valid sound-ctx (λ z. absurd (omega arith)) x r refl (λ z. absurd (omega arith)) (λ z. absurd (omega arith))
-          (λ _ thirty exists is. let b = in-limits 1 (T .channelCount) (r .a) exists in not-send at thirty (omega (arith, b .0))) .is))
+          (call-calm 6 (i + 1) of-channels low n ctx x r p (record { valid = own-valid; context = sound-ctx; there = λ z. absurd (omega arith); noSend = λ z. absurd (omega arith); noReceive = λ z. absurd (omega arith); noSendChannel = λ _ thirty exists is. let b = in-limits 1 (T .channelCount) (r .a) exists in not-send at thirty (omega (arith, b .0)) }) .is))
           (λ (ne : k ≡ from → ⊥). other-even ne d refl sound body
-          (call-calm 6 0 of-channels zero-low n (r .a) ctx p own-valid sound-ctx (λ z. absurd (omega arith)) x r refl (λ z. absurd (omega arith)) (λ z. absurd (omega arith)) (λ _ _ _ z. omega arith) .is))
+          (call-calm 6 0 of-channels zero-low n ctx x r p (record { valid = own-valid; context = sound-ctx; there = λ z. absurd (omega arith); noSend = λ z. absurd (omega arith); noReceive = λ z. absurd (omega arith); noSendChannel = λ _ _ _ z. omega arith }) .is))
           (same-or-not k from)
 
     -- ------------------------------------------------------------ every call

@@ -55,20 +55,22 @@ use Rattle.machine.proofs.Calling.{field-number, empty-current, calling
 use Rattle.machine.proofs.Keeping.{process-stored, stored-listed, process-other}
 use Rattle.machine.proofs.Kept.{running-caller, waiters-created, nothing-valid}
 use Rattle.machine.proofs.Bounds.{within-in, named-in, created-in, buffer-in, semaphore-in, event-in, blackboard-in, same-or-not}
-use Rattle.machine.proofs.Queues.{event-queue, blackboard-queue, first-created}
+use Rattle.machine.proofs.Queues.{first-created}
 use Rattle.machine.proofs.Reached.{queuing-plain, reached-valid, erased-sound, part-sound}
 use Rattle.machine.proofs.Messages.{queue-first, moved-in-plain, moved-plain}
 use Rattle.machine.proofs.Moves as Mo
 use Rattle.machine.proofs.Sound.{capacity-bound, carried-sound, ready-off}
 use Rattle.machine.proofs.Refusals.{places, refused-same}
 use Rattle.machine.proofs.WindowLeft.{Covered, current-known, covered-or-none, window-left}
-use Rattle.machine.proofs.Plain.{lossless, stored-plain, all-plain, arrived-plain, later-uncapped, each-plain, next-deadline-plain, next-plain, refilled-all, release-deadline-plain, release-point-plain, tick-plain}
+use Rattle.machine.proofs.Plain.{lossless, all-plain, arrived-plain, later-uncapped, each-plain, next-deadline-plain, next-plain, refilled-all, release-deadline-plain, release-point-plain, tick-plain}
 use Rattle.machine.specs.declared.Message.{Message}
 use Rattle.machine.specs.declared.Queue.{Queue}
 use Rattle.machine.specs.Windows.{Uncovered, Release, windows}
 use Rattle.machine.specs.declared.Table.{Table}
 use Rattle.machine.proofs.Starts.{release-earliest, release-one}
 use Rattle.machine.proofs.Dispatch.{ticks-decided}
+use Rattle.machine.proofs.Orders.{blackboard-queue, event-queue}
+use Rattle.machine.proofs.Stored.{stored-plain}
 
 -- ---------------------------------------------------------------- numbers
 -- low..high

@@ -49,8 +49,11 @@ use Rattle.machine.proofs.Kept.{Caller, normal-caller, nothing-valid, w
 use Rattle.machine.proofs.Reached.{at-set, place, context-sound, made, made-sound, made-body, port-sound, valid-sound, reached-valid, part-sound, erased-sound, Fills, fills, Channelled, on-queue, transfer-sound, queuing-plain, empty-step}
 use Rattle.machine.proofs.Answers.{decided-table}
 use Rattle.machine.proofs.Tables.{table-read}
-use Rattle.machine.proofs.Queues.{Part, same-queue, joins-last, NotBlocked, Orderly, call-order, Parts, tick-parts, decided-parts}
-use Rattle.machine.proofs.Available.{AtEnd, Fair, call-fair, part-none, none-first, counts-low}
+use Rattle.machine.proofs.Orders.{Part, same-queue, joins-last, NotBlocked, Orderly}
+use Rattle.machine.proofs.EveryCall.{call-order}
+use Rattle.machine.proofs.Queues.{Parts, tick-parts, decided-parts}
+use Rattle.machine.proofs.Fairness.{AtEnd, Fair, part-none, none-first, counts-low}
+use Rattle.machine.proofs.EveryCall.{call-fair}
 use Rattle.machine.proofs.Keeping.{process-created}
 use Rattle.machine.proofs.Restarts.{refilled-queue, refilled-queue-other, refilled-senders, refilled-part-other}
 use Rattle.machine.proofs.Starred.{tick-queues}

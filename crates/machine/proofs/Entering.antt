@@ -24,7 +24,6 @@ use Rattle.machine.proofs.Either.{either}
 use Rattle.machine.specs.Ids.{kept, members}
 use Rattle.machine.proofs.Tracking.{kept-same}
 use borrow.Author.Tests.{ne-eqb}
-use Rattle.machine.proofs.Available.{none-in}
 use Rattle.machine.proofs.Tests.{not-both}
 use Rattle.machine.proofs.Bounds.{not-so}
 use Rattle.machine.specs.Plain.{idsFrom, plainEach}
@@ -35,6 +34,7 @@ use Rattle.machine.specs.Step.{step}
 use Rattle.machine.proofs.Queues.{all-arrive}
 use Rattle.machine.proofs.Reasons.{not-normal}
 use Rattle.machine.proofs.Terms.{terms}
+use Rattle.machine.proofs.Fairness.{none-in}
 
 module _ (m : Module) (k : ℕ) (u : SoundModule m) (h : Calling m k) (early : own m k .mode ≡ 3 → ⊥) (some : own m k .processCount ≡ 0 → ⊥) where
   abbrev p : Partition

@@ -44,7 +44,8 @@ use Rattle.machine.proofs.Keeping.{stored-rest, changed-rest}
 use Rattle.machine.proofs.Sound.{carried-sound}
 use Rattle.machine.proofs.Calling.{field-number, calling-sound, calling-valid, calling-place, decides, gives, own-after, known}
 use Rattle.machine.proofs.Reached.{valid-sound, reached-valid}
-use Rattle.machine.proofs.Queues.{rest-objects, noted-objects, changes-queue, queue-after, blackboard-queue, first-created, ended-is, time-out, a-message, ends-handed, first-served-by, none-served, all-served-by, signal-first, signal-none, set-event}
+use Rattle.machine.proofs.Queues.{queue-after, first-created, ended-is, time-out, a-message, ends-handed, first-served-by, none-served, all-served-by, signal-first, signal-none, set-event}
+use Rattle.machine.proofs.Orders.{rest-objects, noted-objects, changes-queue, blackboard-queue}
 use Rattle.machine.proofs.Available.{none-waits}
 use Rattle.machine.proofs.Ends.{channel-ends}
 use Rattle.machine.proofs.Transfers.{channel-calls}

@@ -41,7 +41,8 @@ use Rattle.machine.specs.TwoRuns.{Unwinding, two-runs, keep}
 use Rattle.machine.proofs.Tests.{by-tests, by-checks₂, and-left, and-right, or-left, or-right, not-both}
 use Rattle.machine.proofs.Fields.{in-limits, between-zero}
 use Rattle.machine.proofs.Dispatch.{by-event}
-use Rattle.machine.proofs.Bodies.{FromSource, Sends, Receives, OnQueue, Bodily, call-body}
+use Rattle.machine.proofs.Bodies.{FromSource, Sends, Receives, OnQueue, Bodily}
+use Rattle.machine.proofs.EveryCall.{call-body}
 use Rattle.machine.proofs.Either.{either}
 use Rattle.machine.proofs.Refusals.{call-in-range}
 use Rattle.machine.proofs.Agree.{Agree, agree-same, agree-back, agree-along, part-both, part-free, message-both, message-free, passed-both, passed-free, time-both, tick-both, erase-both, erase-free, source-some, destination-some, ends, source-in, refill-both, refill-free}

@@ -6,8 +6,8 @@ use mathlib.Core.Bool.{Bool, true, false, not, _||_, or-true}
 use mathlib.Core.List.{List, [], _∷_, map}
 use native.Mathlib.Omega.{arith}
 use lib.ListN.{length, getD, set, take, replicate, length-replicate}
-use lib.Dec.{eqb, ltb, leb}
-use borrow.Author.Tests.{eq-eqb, ne-eqb, eqb-true, eqb-false, lt-ltb, ltb-true, ltb-false, leb-false, not-true, not-false}
+use lib.Dec.{eqb, ltb}
+use borrow.Author.Tests.{eq-eqb, ne-eqb, eqb-true, eqb-false, ltb-false, leb-false, not-true, not-false}
 use Rattle.machine.specs.declared.Given.{Given}
 use Rattle.machine.specs.declared.Ids.{Ids}
 use Rattle.machine.specs.declared.Process.{Process}
@@ -28,45 +28,38 @@ use Rattle.machine.specs.declared.Blackboard.{Blackboard as BlackboardT}
 use Rattle.machine.specs.declared.Request.{Request}
 use Rattle.machine.specs.declared.Field.{Field}
 use Rattle.machine.specs.declared.Field.the-variants.{Number, MinusOne, Other}
-use Rattle.machine.specs.declared.Wait.{Wait}
-use Rattle.machine.specs.declared.Wait.the-variants.{Timed, Semaphore, Event, Sending, Receiving, Blackboard, Source, Destination}
 use Rattle.machine.specs.declared.Time.{Time}
 use Rattle.machine.specs.declared.Time.the-variants.{Never, At}
-use Rattle.machine.specs.Limits.{processLimit, semaphoreLimit, eventLimit, bufferLimit, messageLimit, blackboardLimit, nameLimit, priorityLimit, valueLimit, modeLimit, levelLimit, durationLimit, timeLimit, frameLimit, channelLimit, numberLimit, greatestValue}
+use Rattle.machine.specs.Limits.{processLimit, semaphoreLimit, eventLimit, bufferLimit, blackboardLimit, nameLimit, priorityLimit, modeLimit, durationLimit, timeLimit, frameLimit, greatestValue}
 use Rattle.machine.specs.Messages.{queueOf, sent, received}
 use Rattle.machine.specs.Ids.{members}
-use Rattle.machine.specs.Fields.{isNumber, between, isDuration, isMinusOne, isTimeout, isName, isMessage, numberOf, timeOf}
-use Rattle.machine.specs.Process.{Class, classOf, createdProcess, blankProcess, later, object, onObject, periodic, ready, carried, served, handed, withCurrent, entered, ticked}
+use Rattle.machine.specs.Fields.{isNumber, between, isDuration, isMinusOne, isTimeout, isName, numberOf, timeOf}
+use Rattle.machine.specs.Process.{createdProcess, blankProcess, later, object, onObject, periodic, ready, carried, served, handed, entered, ticked}
 use Rattle.machine.specs.Partition.{normalMode, idleMode, locked, byId, nothingCreated, noSemaphore, noEvent, noBuffer, noBlackboard, process, semaphore, buffer, blackboard, emptyBuffer, movedIn, endedBy, withMode, stored, waitsOn, waiters, firstWaiter, changedAll, each, running, tickPartition, enteredNormal, created, storedSemaphore, storedEvent, storedBuffer, storedBlackboard, applied, partitionAfter, freshPartition}
-use Rattle.machine.specs.Calls.{setMode, isMultiple, above, isPriority, admissible, createProcess, reaches, start, stop, stopSelf, suspend, suspendSelf, timedWait, periodicWait, resume, setPriority, status, getStatus, lockPreemption, unlockPreemption, getTicksLeft}
-use Rattle.machine.specs.Objects.{createSemaphore, createEvent, withValue, withUp, waitSemaphore, waitEvent, oneMore, signalled, signal, setEvent, resetEvent}
-use Rattle.machine.specs.Channels.{queuing, queuingPort, channelChecks, write, read, send, receive}
-use Rattle.machine.specs.Buffers.{createBuffer, sendBuffer, receiveBuffer}
-use Rattle.machine.specs.Blackboards.{createBlackboard, show, readBlackboard, clear}
-use Rattle.machine.specs.Services.{callDecision}
-use Rattle.machine.specs.Valid.{counted, Between, contains, Distinct, Tracks, Timeout, Ahead, SoundPeriod, SoundCapacity, NotAbove, Below, SoundGiven, SoundProcess, SoundSemaphore, SoundEvent, SoundBuffer, SoundBlackboard, AllMessages, SoundQueue, Numbered, Family, KnownOrNext, ObjectsIn, ListedIn, settingOf, SoundLock, LockIn, HolderReady, Valid, SoundContext, SoundMessage, SoundMove, SoundEnd, SoundChange, SoundDecision, NotAfter, latestDeadline}
-use Rattle.machine.proofs.Tests.{by-test, by-tests, Passed, passed-parts, by-checks, not-both}
-use Rattle.machine.proofs.Bounds.{not-so, or-false-parts, and-true-parts, known-id, within-in, named-same, named-other, named-replicate, created-in, semaphore-in, event-in, buffer-in, blackboard-in}
+use Rattle.machine.specs.Calls.{isMultiple, above, isPriority, admissible, reaches, status}
+use Rattle.machine.specs.Objects.{withValue, withUp, oneMore, signalled}
+use Rattle.machine.specs.Valid.{counted, Between, contains, Distinct, Tracks, Timeout, Ahead, SoundPeriod, SoundCapacity, NotAbove, Below, SoundGiven, SoundProcess, SoundSemaphore, SoundEvent, SoundBuffer, SoundBlackboard, AllMessages, SoundQueue, Numbered, Family, KnownOrNext, ObjectsIn, ListedIn, settingOf, SoundLock, LockIn, HolderReady, Valid, SoundContext, SoundMessage, SoundMove, SoundEnd, SoundChange, SoundDecision, NotAfter}
+use Rattle.machine.proofs.Tests.{by-test, by-tests, not-both}
+use Rattle.machine.proofs.Bounds.{not-so, or-false-parts, and-true-parts, within-in, named-same, named-other, named-replicate, created-in, semaphore-in, event-in, buffer-in, blackboard-in}
 use Rattle.machine.proofs.Either.{either}
-use Rattle.machine.proofs.Dispatch.{by-call}
 use Rattle.machine.proofs.Fields.{in-limits}
 use Rattle.machine.proofs.Tracking.{contains-kept, distinct-kept, tracks-same}
-use Rattle.machine.proofs.Messages.{queue-sound, moved-in-sound, first-sound}
-use Rattle.machine.proofs.Keeping.{numbered-set, all-set, family-set, process-created, process-stored, each-rest, each-listed, each-process, AllCreated, changed-rest, changed-listed, changed-process, valid-of, stored-valid, arrived-valid}
-use Rattle.machine.proofs.Sound.{times-bounded, outside-normal, more-objects, ahead-later, created-sound, start-sound, entered-sound, early-sound, stopped-sound, suspended-sound, priority-sound, resumed-sound, ended-sound, handed-sound, carried-sound, ready-released, waiting-sound, suspends-sound, next-sound, ticked-sound, ticked-ready, ready-no-object, object-not-ready, early-waits}
+use Rattle.machine.proofs.Messages.{queue-sound, moved-in-sound}
+use Rattle.machine.proofs.Keeping.{numbered-set, all-set, family-set, process-created, each-rest, each-listed, each-process, AllCreated, changed-rest, changed-listed, changed-process, valid-of, stored-valid, arrived-valid}
+use Rattle.machine.proofs.Sound.{outside-normal, more-objects, ahead-later, created-sound, entered-sound, ended-sound, handed-sound, carried-sound, ticked-sound, ticked-ready, ready-no-object, object-not-ready, early-waits}
 use Rattle.machine.proofs.Running.{holder-runs, running-ready}
-use Rattle.machine.specs.Decisions.{checked, blocked, startMode, dormant, queued, awaiting}
+use Rattle.machine.specs.Decisions.{startMode, dormant}
 
 -- ---------------------------------------------------------------- the preemption lock
 -- level 0 with no holder
-no-lock : (normal isReady : Bool) → SoundLock 0 0 normal isReady
+pub no-lock : (normal isReady : Bool) → SoundLock 0 0 normal isReady
 no-lock normal isReady = record { few = omega arith; free = λ _. refl; normal = λ some. absurd (omega arith); held = λ some. absurd (omega arith) }
 
 holder-created : (p : Partition) → ListedIn p → LockIn p → 0 < p .level → Between 1 (p .processCount) (p .holder)
 holder-created p v lock some = process-created ready refl p v (p .holder) (lock .held some)
 
 -- a process that is not READY does not hold it
-not-holder : (p : Partition) → LockIn p → (id : ℕ) (b : Bool) → ready (process id p) ≡ false → 0 < p .level → id ≡ p .holder → b ≡ true
+pub not-holder : (p : Partition) → LockIn p → (id : ℕ) (b : Bool) → ready (process id p) ≡ false → 0 < p .level → id ≡ p .holder → b ≡ true
 not-holder p lock id b off some e = not-both _ (lock .held some) (ap (λ y. ready (process y p)) (sym e) ∙ off)
 
 -- ---------------------------------------------------------------- the tick
@@ -121,12 +114,12 @@ none-ready frame t p v n id = not-so (ready (process id p)) (λ k. not-both _ k 
 not-zero : (n : ℕ) → isNumber 0 (Number n) ≡ false → n ≡ 0 → ⊥
 not-zero n h e = eqb-false n 0 h e
 
-duration-ahead : (t : ℕ) (a : Field) → t ≤ timeLimit → isDuration a ≡ true → isNumber 0 a ≡ false → Ahead t (later (At t) (timeOf a))
+pub duration-ahead : (t : ℕ) (a : Field) → t ≤ timeLimit → isDuration a ≡ true → isNumber 0 a ≡ false → Ahead t (later (At t) (timeOf a))
 duration-ahead t (Number n) ends h z = ahead-later t n ends (not-zero n z) (in-limits 0 durationLimit (Number n) h .1)
 duration-ahead t MinusOne ends h z = not-both _ h refl
 duration-ahead t Other ends h z = not-both _ h refl
 
-timeout-ahead : (t : ℕ) (a : Field) → t ≤ timeLimit → isTimeout a ≡ true → isNumber 0 a ≡ false → Timeout t (later (At t) (timeOf a))
+pub timeout-ahead : (t : ℕ) (a : Field) → t ≤ timeLimit → isTimeout a ≡ true → isNumber 0 a ≡ false → Timeout t (later (At t) (timeOf a))
 timeout-ahead t (Number n) ends h z = ahead-later t n ends (not-zero n z) (in-limits 0 durationLimit (Number n) h .1)
 timeout-ahead t MinusOne ends h z = tt
 timeout-ahead t Other ends h z = not-both _ h refl
@@ -398,15 +391,15 @@ pub running-caller : (p : Partition) → ListedIn p → LockIn p → (running p 
 running-caller p v lock some = let k = running-ready p v lock some in record { created = process-created ready refl p v (running p) k; isReady = k }
 
 -- periodic and delay ≥ period is refused
-reaches-below : (period : Time) (delay : ℕ) → reaches period delay ≡ false → Below period delay
+pub reaches-below : (period : Time) (delay : ℕ) → reaches period delay ≡ false → Below period delay
 reaches-below Never delay h = tt
 reaches-below (At n) delay h = leb-false n delay h
 
-more-room : (m n : ℕ) (t : Time) → m ≤ n → NotAfter m t → NotAfter n t
+pub more-room : (m n : ℕ) (t : Time) → m ≤ n → NotAfter m t → NotAfter n t
 more-room m n Never h k = tt
 more-room m n (At a) h k = omega arith
 
-status-small : (c : Context) (id : ℕ) (x : Process) → status c id x ≤ 3
+pub status-small : (c : Context) (id : ℕ) (x : Process) → status c id x ≤ 3
 status-small c id x = by-test (λ (n : ℕ). n ≤ 3) (dormant x) (λ _. omega arith) (λ _. by-test (λ (n : ℕ). n ≤ 3) (eqb id (c .caller)) (λ _. omega arith) (λ _. by-test (λ (n : ℕ). n ≤ 3) (ready x) (λ _. omega arith) (λ _. omega arith)))
 
 -- ---------------------------------------------------------------- what CREATE_PROCESS admits
@@ -427,10 +420,10 @@ field-capacity (Number n) f h k = (in-limits 1 durationLimit (Number n) h, field
 field-capacity MinusOne f h k = tt
 field-capacity Other f h k = tt
 
-abbrev givenBy : Request → Given
+abbrev pub givenBy : Request → Given
 givenBy r = record { name = numberOf (r .a); base = numberOf (r .b); period = timeOf (r .c); capacity = timeOf (r .e) }
 
-admitted : (c : Context) (r : Request) → admissible c r ≡ true → SoundGiven (c .frame) (givenBy r)
+pub admitted : (c : Context) (r : Request) → admissible c r ≡ true → SoundGiven (c .frame) (givenBy r)
 admitted c r h =
     let h1 = and-true-parts (isName (r .a)) _ h in
     let h2 = and-true-parts (isPriority (r .b)) _ (h1 .1) in
@@ -445,10 +438,6 @@ admitted c r h =
 
 -- what a call decides of a valid partition that may make it
 module _ (c : Context) (p : Partition) (v : Valid (c .frame) (c .time) p) (k : SoundContext c p) where
-  -- refused, or what the checks leave
-  in-checks : (l : List (Bool × ℕ)) (d : Decision) → (Passed l → SoundDecision c p d) → Sound c p (checked Refused l d)
-  in-checks l d f = by-checks (Sound c p) Refused l d (λ n. record { is = tt }) (λ h. record { is = f h })
-
   pub normal-caller : normalMode p ≡ true → Caller (c .caller) p
   normal-caller n = rw (k .caller) (running-caller p (v .lists) (v .lock) (λ z. not-both _ (rw (n, z)) (or-false-parts (idleMode p) _ (k .calls) .1)))
 
@@ -457,376 +446,38 @@ module _ (c : Context) (p : Partition) (v : Valid (c .frame) (c .time) p) (k : S
   in-normal h = not-false (normalMode p) h
 
   -- the holder of the preemption lock is the caller; who is not the caller does not hold it
-  holder-calls : 0 < p .level → p .holder ≡ c .caller
+  pub holder-calls : 0 < p .level → p .holder ≡ c .caller
   holder-calls some = sym (k .caller ∙ holder-runs p (v .lists) (v .lock .normal some) some)
 
-  not-caller : (id : ℕ) (b : Bool) → eqb id (c .caller) ≡ false → 0 < p .level → id ≡ p .holder → b ≡ true
+  pub not-caller : (id : ℕ) (b : Bool) → eqb id (c .caller) ≡ false → 0 < p .level → id ≡ p .holder → b ≡ true
   not-caller id b h some e = absurd (eqb-false id (c .caller) h (e ∙ holder-calls some))
 
   -- where preemption is not locked nobody does
-  unlocked : locked (p .level) ≡ false → (id : ℕ) (b : Bool) → 0 < p .level → id ≡ p .holder → b ≡ true
+  pub unlocked : locked (p .level) ≡ false → (id : ℕ) (b : Bool) → 0 < p .level → id ≡ p .holder → b ≡ true
   unlocked h id b some e = absurd (let l = ltb-false 0 (p .level) h in omega arith)
 
   -- DORMANT or periodic is refused
-  fit : (id : ℕ) → (dormant (process id p) || periodic (process id p)) ≡ false → (process id p .started ≡ true) × (periodic (process id p) ≡ false)
+  pub fit : (id : ℕ) → (dormant (process id p) || periodic (process id p)) ≡ false → (process id p .started ≡ true) × (periodic (process id p) ≡ false)
   fit id h = let r = or-false-parts _ (periodic (process id p)) h in (not-false (process id p .started) (r .0), r .1)
 
-  pub set-mode-sound : (a : Field) → Sound c p (setMode c a p)
-  unfolding setMode Passed
-  set-mode-sound a = by-checks (Sound c p) Refused _ _ (λ n. record { is = tt }) (λ h. by-test (Sound c p) (isNumber 3 a)
-      (λ e. record { is = ((refl, rw e at (h .1 .0)), tt, omega arith) })
-      (λ e. record { is = in-limits 0 modeLimit a (not-false _ (h .0)) .1 }))
-
-  pub create-process-sound : (r : Request) → Sound c p (createProcess c r p)
-  unfolding createProcess Passed
-  create-process-sound r = in-checks _ _ (λ h.
-      let room = leb-false processLimit (p .processCount) (h .0) in
-      (record { room = room; next = refl; given = admitted c r (not-false _ (h .1 .1 .0)); dormant = refl }, tt, omega arith))
-
-  pub start-sound-in : (id : ℕ) (delay : Field) → Sound c p (start c id delay p)
-  unfolding start Passed
-  start-sound-in id delay = in-checks _ _ (λ h.
-      let b = known-id id (p .processCount) (h .0) in
-      let x = process id p in
-      let l = v .eachProcess id b .lasting in
-      let off : x .started ≡ false = not-true _ (not-false _ (h .1 .1 .0)) in
-      let d = v .eachProcess id b .dormant off in
-      let f = or-false-parts _ (reaches (x .given .period) (numberOf delay)) (h .1 .0) in
-      let short = in-limits 0 durationLimit delay (not-false _ (f .0)) .1 in
-      let below = reaches-below (x .given .period) (numberOf delay) (f .1) in (
-        (
-          b,
-          by-test (SoundProcess (settingOf (c .frame) (c .time) p)) (normalMode p)
-              (λ e. start-sound c (k .time) (k .frame .1) (k .near) (normalMode p) e _ (numberOf delay) x l (d .times .release) short below)
-              (λ e. early-sound _ x l (d .times) e (numberOf delay) short below),
-          not-holder p (v .lock) id _ (rw off),
-        ),
-        tt,
-        omega arith,
-      ))
-
-  pub stop-sound : (id : ℕ) → Sound c p (stop c id p)
-  unfolding stop Passed
-  stop-sound id = in-checks _ _ (λ h.
-      let b = known-id id (p .processCount) (h .0) in
-      ((b, stopped-sound _ (process id p) (v .eachProcess id b), not-caller id _ (h .1 .0)), tt, omega arith))
-
-  pub stop-self-sound : Sound c p (stopSelf c p)
-  unfolding stopSelf Passed
-  stop-self-sound = in-checks _ _ (λ h.
-      let b = normal-caller (in-normal (h .0)) .created in
-      ((no-lock _ _, λ _ more. absurd (omega arith)), (b, stopped-sound _ (process (c .caller) p) (v .eachProcess (c .caller) b), λ some. absurd (omega arith)), omega arith))
-
-  pub suspend-sound : (id : ℕ) → Sound c p (suspend c id p)
-  unfolding suspend Passed
-  suspend-sound id = in-checks _ _ (λ h.
-      let b = known-id id (p .processCount) (h .0) in
-      let f = fit id (h .1 .1 .0) in
-      ((b, suspended-sound _ (process id p) (v .eachProcess id b) (f .0) (f .1), not-caller id _ (h .1 .0)), tt, omega arith))
-
-  pub suspend-self-sound : (a : Field) → Sound c p (suspendSelf c a p)
-  unfolding suspendSelf blocked Passed
-  suspend-self-sound a = by-checks (Sound c p) Refused _ _ (λ n. record { is = tt }) (λ h.
-      let f = or-false-parts (startMode p) _ (h .0) in
-      let n = in-normal (f .0) in
-      let q = normal-caller n in
-      let x = process (c .caller) p in
-      by-test (Sound c p) (isNumber 0 a)
-      (λ _. record { is = (omega arith, omega arith) })
-      (λ e. in-checks _ _ (λ free. (q .created, suspends-sound _ x (v .eachProcess (c .caller) (q .created)) n (q .isReady) (f .1) _ (timeout-ahead (c .time) a (k .time) (not-false _ (h .1 .0)) e), unlocked (free .0) (c .caller) _))))
-
-  pub timed-sound : (a : Field) → Sound c p (timedWait c a p)
-  unfolding timedWait blocked Passed
-  timed-sound a = by-checks (Sound c p) Refused _ _ (λ n. record { is = tt }) (λ h.
-      let n = in-normal (h .0) in
-      let q = normal-caller n in
-      let x = process (c .caller) p in
-      let g = v .eachProcess (c .caller) (q .created) in
-      by-test (Sound c p) (isNumber 0 a)
-      (λ _. record { is = ((q .isReady), tt, omega arith) })
-      (λ e. in-checks _ _ (λ free. (q .created, waiting-sound _ x g n (q .isReady) Timed tt _ (duration-ahead (c .time) a (k .time) (not-false _ (h .1 .0)) e) (ready-released _ x g n (q .isReady)), unlocked (free .0) (c .caller) _))))
-
-  pub periodic-sound : Sound c p (periodicWait c p)
-  unfolding periodicWait blocked Passed
-  periodic-sound = by-checks (Sound c p) Refused _ _ (λ n. record { is = tt }) (λ h. in-checks _ _ (λ free.
-      let f = or-false-parts (startMode p) _ (h .0) in
-      let n = in-normal (f .0) in
-      let q = normal-caller n in
-      (q .created, next-sound _ (process (c .caller) p) (v .eachProcess (c .caller) (q .created)) n (q .isReady) (k .time) (not-false _ (f .1)), unlocked (free .0) (c .caller) _)))
-
-  pub resume-sound : (id : ℕ) → Sound c p (resume c id p)
-  unfolding resume Passed
-  resume-sound id = in-checks _ _ (λ h.
-      let b = known-id id (p .processCount) (h .0) in
-      ((b, resumed-sound _ (process id p) (v .eachProcess id b) (fit id (h .1 .1 .0) .0), not-caller id _ (h .1 .0)), tt, omega arith))
-
-  pub priority-sound-in : (id : ℕ) (a : Field) → Sound c p (setPriority id a p)
-  unfolding setPriority Passed
-  priority-sound-in id a = in-checks _ _ (λ h.
-      let b = known-id id (p .processCount) (h .0) in
-      let x = process id p in
-      let y = withCurrent (numberOf a) x in (
-        (b, priority-sound _ x (v .eachProcess id b) (not-false (x .started) (h .1 .1 .0)) (numberOf a) (in-limits 1 priorityLimit a (not-false _ (h .1 .0))), λ some e. ap (λ y. ready (process y p)) e ∙ v .lock .held some),
-        by-test (SoundChange c (stored id y p)) (ready x) (λ e. rw (process-stored p id y (v .lists) b) e) (λ _. tt),
-        omega arith,
-      ))
-
-  pub status-sound : (id : ℕ) → Sound c p (getStatus c id p)
-  unfolding getStatus Passed
-  status-sound id = in-checks _ _ (λ h. (
-    omega (arith, status-small c id (process id p)),
-    more-room latestDeadline numberLimit (process id p .times .deadline) (omega arith) (times-bounded _ (process id p) (v .eachProcess id (known-id id (p .processCount) (h .0))) (k .time) .deadline),
-  ))
-
-  -- ------------------------------------------------------------ the preemption lock
-  pub lock-sound : Sound c p (lockPreemption c p)
-  unfolding lockPreemption Passed
-  lock-sound = in-checks _ _ (λ h.
-      let n = in-normal (h .0) in
-      let room = leb-false levelLimit (p .level) (h .1 .0) in (
-        (
-          record {
-            few = omega arith;
-            free = λ z. absurd (omega arith);
-            normal = λ _. n;
-            held = λ _. by-test (λ (id : ℕ). ready (process id p) ≡ true) (locked (p .level)) (λ e. v .lock .held (ltb-true 0 (p .level) e)) (λ _. normal-caller n .isReady);
-          },
-          λ some _. rw (lt-ltb 0 (p .level) some),
-        ),
-        tt,
-        omega arith,
-      ))
-
-  pub unlock-sound : Sound c p (unlockPreemption p)
-  unfolding unlockPreemption Passed
-  unlock-sound = in-checks _ _ (λ h.
-      let some = ltb-true 0 (p .level) (not-false _ (h .1 .0)) in (
-        (
-          record {
-            few = omega (arith, v .lock .few);
-            free = λ z. rw z;
-            normal = λ _. in-normal (h .0);
-            held = λ more. rw (lt-ltb 0 (p .level - 1) more) (v .lock .held some);
-          },
-          λ _ more. rw (lt-ltb 0 (p .level - 1) more),
-        ),
-        tt,
-        omega arith,
-      ))
-
-  -- ------------------------------------------------------------ the ticks left
-  pub left-sound : Sound c p (getTicksLeft c)
-  unfolding getTicksLeft
-  left-sound = record { is = (omega (arith, k .left .1, k .frame .1), omega arith) }
-
-  -- ------------------------------------------------------------ objects
-  pub create-semaphore-sound : (r : Request) → Sound c p (createSemaphore r p)
-  unfolding createSemaphore Passed
-  create-semaphore-sound r = in-checks _ _ (λ h.
-      let room = leb-false semaphoreLimit (p .semaphoreCount) (h .0) in
-      let f = and-true-parts (isName (r .a)) _ (not-false _ (h .1 .1 .0)) in
-      let g = and-true-parts (between 1 valueLimit (r .c)) _ (f .1) in (
-        (((omega arith, omega arith), omega arith), record { name = in-limits 1 nameLimit (r .a) (f .0); value = in-limits 0 (numberOf (r .c)) (r .b) (g .1) .1; max = in-limits 1 valueLimit (r .c) (g .0) }),
-        tt,
-        omega arith,
-      ))
-
-  pub create-event-sound : (name : Field) → Sound c p (createEvent name p)
-  unfolding createEvent Passed
-  create-event-sound name = in-checks _ _ (λ h.
-      let room = leb-false eventLimit (p .eventCount) (h .0) in
-      ((((omega arith, omega arith), omega arith), record { name = in-limits 1 nameLimit name (not-false _ (h .1 .1 .0)) }), tt, omega arith))
-
   -- one that is known
-  value-sound : (j : ℕ) → Between 1 (p .semaphoreCount) j → (n : ℕ) → n ≤ semaphore j p .max → SoundChange c p (withValue j n p)
+  pub value-sound : (j : ℕ) → Between 1 (p .semaphoreCount) j → (n : ℕ) → n ≤ semaphore j p .max → SoundChange c p (withValue j n p)
   value-sound j b n h = let s = v .objects .semaphores .each j b in (known-next semaphoreLimit (p .semaphoreCount) j b (v .objects .semaphores .numbered .few), record { name = s .name; value = h; max = s .max })
 
-  up-sound : (j : ℕ) → Between 1 (p .eventCount) j → (up : Bool) → SoundChange c p (withUp j up p)
+  pub up-sound : (j : ℕ) → Between 1 (p .eventCount) j → (up : Bool) → SoundChange c p (withUp j up p)
   up-sound j b up = (known-next eventLimit (p .eventCount) j b (v .objects .events .numbered .few), record { name = v .objects .events .each j b .name })
 
-  -- a call that waits: where its first checks tell that the object is known, success or the wait is sound
-  await-sound : (before : List (Bool × ℕ)) (beside : Bool) (after : List (Bool × ℕ)) (a : Field) (b : Bool) (success : Decision) (w : Wait) (kind j m : ℕ)
-      → classOf w ≡ Class.onto kind j m
-      → (Passed before → beside ≡ true → b ≡ true → Sound c p success)
-      → (Passed before → beside ≡ true → Between 1 (settingOf (c .frame) (c .time) p .counts kind) j × (m ≤ durationLimit))
-      → Sound c p (awaiting c before beside after a b success w p)
-  unfolding awaiting queued blocked Passed
-  await-sound before beside after a b success w kind j m class done known = by-checks (Sound c p) Refused _ _ (λ n. record { is = tt }) (λ h.
-      let f = passed-parts before _ h in
-      let n = in-normal (f .1 .0) in
-      let q = normal-caller n in
-      let x = process (c .caller) p in
-      let g = v .eachProcess (c .caller) (q .created) in
-      let t = and-true-parts beside _ (not-false _ (f .1 .1 .0)) in
-      by-test (Sound c p) b
-      (λ e. done (f .0) (t .0) e)
-      (λ _. by-checks (Sound c p) Refused _ _ (λ n. record { is = tt }) (λ e. in-checks _ _ (λ free.
-      (q .created, waiting-sound _ x g n (q .isReady) w (rw class (known (f .0) (t .0))) _ (rw class (timeout-ahead (c .time) a (k .time) (t .1) (e .0))) (rw class (ready-released _ x g n (q .isReady))), unlocked (free .0) (c .caller) _)))))
-
-  pub wait-semaphore-sound : (j : ℕ) (a : Field) → Sound c p (waitSemaphore c j a p)
-  unfolding waitSemaphore Passed
-  wait-semaphore-sound j a = await-sound _ _ _ _ _ _ (Semaphore j) 1 j 0 refl
-      (λ h _ _. record { is = ((value-sound j (known-id j (p .semaphoreCount) (h .0)) (semaphore j p .value - 1) (omega (arith, v .objects .semaphores .each j (known-id j (p .semaphoreCount) (h .0)) .value))), tt, omega arith) })
-      (λ h _. (known-id j (p .semaphoreCount) (h .0), omega arith))
-
-  pub wait-event-sound : (j : ℕ) (a : Field) → Sound c p (waitEvent c j a p)
-  unfolding waitEvent Passed
-  wait-event-sound j a = await-sound _ _ _ _ _ _ (Event j) 2 j 0 refl
-      (λ h _ _. record { is = (omega arith, omega arith) })
-      (λ h _. (known-id j (p .eventCount) (h .0), omega arith))
-
-  signalled-sound : (l : List ℕ) (j : ℕ) → Between 1 (p .semaphoreCount) j → (semaphore j p .value ≡ semaphore j p .max → ⊥) → ((id : ℕ) → contains id l ≡ true → onObject (process id p) ≡ true) → AllCreated l (p .processCount) → SoundChange c p (signalled l j p)
+  pub signalled-sound : (l : List ℕ) (j : ℕ) → Between 1 (p .semaphoreCount) j → (semaphore j p .value ≡ semaphore j p .max → ⊥) → ((id : ℕ) → contains id l ≡ true → onObject (process id p) ≡ true) → AllCreated l (p .processCount) → SoundChange c p (signalled l j p)
   unfolding signalled contains
   signalled-sound [] j b below on all =
       let s = v .objects .semaphores .each j b in
       value-sound j b (oneMore (semaphore j p .value)) (by-test (λ (n : ℕ). n ≤ semaphore j p .max) (ltb (semaphore j p .value) greatestValue) (λ _. omega (arith, s .value)) (λ _. s .value))
   signalled-sound (id ∷ l) j b below on all = let i : (eqb id id || contains id l) ≡ true = rw (eq-eqb id id refl) in (all id i, ended-sound _ (process id p) (v .eachProcess id (all id i)) (on id i), not-holder p (v .lock) id _ (object-not-ready (process id p) (on id i)))
 
-  pub signal-sound : (j : ℕ) → Sound c p (signal j p)
-  unfolding signal Passed
-  signal-sound j = in-checks _ _ (λ h.
-      let o = object (Semaphore j) in
-      ((signalled-sound (waiters o p) j (known-id j (p .semaphoreCount) (h .0)) (eqb-false _ _ (h .1 .0)) (waiters-on p (v .lists) o) (waiters-created p (v .lists) o)), tt, omega arith))
-
-  pub set-event-sound : (j : ℕ) → Sound c p (setEvent j p)
-  unfolding setEvent Passed
-  set-event-sound j = in-checks _ _ (λ h. (up-sound j (known-id j (p .eventCount) (h .0)) true, tt, omega arith))
-
-  pub reset-sound : (j : ℕ) → Sound c p (resetEvent j p)
-  unfolding resetEvent Passed
-  reset-sound j = in-checks _ _ (λ h. ((up-sound j (known-id j (p .eventCount) (h .0)) false), tt, omega arith))
-
-  -- ------------------------------------------------------------ buffers
-  pub create-buffer-sound : (name limit : Field) → Sound c p (createBuffer name limit p)
-  unfolding createBuffer Passed AllMessages
-  create-buffer-sound name limit = in-checks _ _ (λ h.
-      let room = leb-false bufferLimit (p .bufferCount) (h .0) in
-      let f = and-true-parts (isName name) _ (not-false _ (h .1 .1 .0)) in (
-        (((omega arith, omega arith), omega arith), record { name = in-limits 1 nameLimit name (f .0); limit = in-limits 1 messageLimit limit (f .1); queue = queue-sound (numberOf limit) [] (omega arith) tt }),
-        tt,
-        omega arith,
-      ))
-
-  pub send-sound : (j : ℕ) (m a : Field) → Sound c p (sendBuffer c j m a p)
-  unfolding sendBuffer Passed
-  send-sound j m a =
-      let o = object (Receiving j) in
-      let few : isMessage m ≡ true → numberOf m ≤ durationLimit = λ g. in-limits 0 durationLimit m g .1 in
-      await-sound _ _ _ _ _ _ (Sending j (numberOf m)) 3 j (numberOf m) refl
-      (λ h g e.
-      let b = buffer j p in
-      let t = sent-sound p (v .lists) o (b .limit) (b .queue) (numberOf m) (ltb-true _ _ e) (few g) in
-      record { is = ((known-id j (p .bufferCount) (h .0), t .0, t .1), tt, omega arith) })
-      (λ h g. (known-id j (p .bufferCount) (h .0), few g))
-
-  pub receive-sound : (j : ℕ) (a : Field) → Sound c p (receiveBuffer c j a p)
-  unfolding receiveBuffer Passed
-  receive-sound j a =
-      let o = object (Sending j 0) in
-      await-sound _ _ _ _ _ _ (Receiving j) 4 j 0 refl
-      (λ h _ e.
-      let b = buffer j p in
-      let k = known-id j (p .bufferCount) (h .0) in
-      let t = received-sound (c .frame) (c .time) p v o (b .limit) (b .queue) (ltb-true 0 _ e) in
-      record { is = ((k, t .0, t .1), tt, omega (arith, first-sound (b .limit) (b .queue) (v .objects .buffers .each j k .queue))) })
-      (λ h _. (known-id j (p .bufferCount) (h .0), omega arith))
-
-  -- ------------------------------------------------------------ blackboards
-  pub create-blackboard-sound : (name : Field) → Sound c p (createBlackboard name p)
-  unfolding createBlackboard Passed
-  create-blackboard-sound name = in-checks _ _ (λ h.
-      let room = leb-false blackboardLimit (p .blackboardCount) (h .0) in
-      ((((omega arith, omega arith), omega arith), record { name = in-limits 1 nameLimit name (not-false _ (h .1 .1 .0)); message = omega arith; blank = λ _. refl }), tt, omega arith))
-
-  -- one that is known
-  blackboard-known : (j : ℕ) → Between 1 (p .blackboardCount) j → (shown : Bool) (m : ℕ) → m ≤ durationLimit → (shown ≡ false → m ≡ 0) → SoundChange c p (StoredBlackboard j (record { name = blackboard j p .name; shown = shown; message = m }))
+  pub blackboard-known : (j : ℕ) → Between 1 (p .blackboardCount) j → (shown : Bool) (m : ℕ) → m ≤ durationLimit → (shown ≡ false → m ≡ 0) → SoundChange c p (StoredBlackboard j (record { name = blackboard j p .name; shown = shown; message = m }))
   blackboard-known j b shown m few blank = (known-next blackboardLimit (p .blackboardCount) j b (v .objects .blackboards .numbered .few), record { name = v .objects .blackboards .each j b .name; message = few; blank = blank })
-
-  pub show-sound : (j : ℕ) (m : Field) → Sound c p (show j m p)
-  unfolding show Passed
-  show-sound j m = in-checks _ _ (λ h.
-      let few = in-limits 0 durationLimit m (not-false _ (h .1 .0)) .1 in
-      (blackboard-known j (known-id j (p .blackboardCount) (h .0)) true (numberOf m) few (λ e. not-both _ refl e), few, omega arith))
-
-  pub read-blackboard-sound : (j : ℕ) (a : Field) → Sound c p (readBlackboard c j a p)
-  unfolding readBlackboard Passed
-  read-blackboard-sound j a = await-sound _ _ _ _ _ _ (Blackboard j) 5 j 0 refl
-      (λ h _ _. record { is = (omega (arith, v .objects .blackboards .each j (known-id j (p .blackboardCount) (h .0)) .message), omega arith) })
-      (λ h _. (known-id j (p .blackboardCount) (h .0), omega arith))
-
-  pub clear-sound : (j : ℕ) → Sound c p (clear j p)
-  unfolding clear Passed
-  clear-sound j = in-checks _ _ (λ h. (blackboard-known j (known-id j (p .blackboardCount) (h .0)) false 0 (omega arith) (λ _. refl), tt, omega arith))
-
-  -- ------------------------------------------------------------ channels
-  pub write-sound : (x : Port) (a : Field) → Sound c p (write c x a)
-  unfolding write Passed
-  write-sound x a = by-checks (Sound c p) Refused _ _ (λ n. record { is = tt }) (λ _. in-checks _ _ (λ h. record { value = in-limits 0 durationLimit a (not-false _ (h .0)) .1; written = omega arith }))
-
-  pub read-sound : (x : Port) → SoundMessage (c .time) (x .message) → Sound c p (read c x)
-  unfolding read
-  read-sound x s = by-checks (Sound c p) Refused _ _ (λ n. record { is = tt }) (λ _. in-checks _ _ (λ _.
-      (omega (arith, s .value), by-test (λ (n : ℕ). n ≤ numberLimit) (leb (c .time - x .message .written) (x .channel .refresh)) (λ _. omega arith) (λ _. omega arith))))
-
-  -- the place of a channel whose end a process waits at
-  place-known : (x : Port) (wanted : ℕ) → Passed (channelChecks x (not (queuingPort x)) wanted) → Between 1 channelLimit (x .place + 1)
-  unfolding channelChecks Passed
-  place-known x wanted h = let l = ltb-true (x .place) channelLimit (and-true-parts (queuing (x .channel)) _ (not-false _ (h .1 .0)) .1) in (omega arith, omega arith)
-
-  pub send-channel-sound : (x : Port) (m a : Field) → Sound c p (send c x m a p)
-  unfolding send
-  send-channel-sound x m a =
-      await-sound _ _ _ _ _ _ (Source (x .place + 1) (numberOf m)) 6 (x .place + 1) (numberOf m) refl
-      (λ _ _ _. record { is = omega arith })
-      (λ h g. (place-known x (x .channel .source) h, in-limits 0 durationLimit m g .1))
-
-  pub receive-channel-sound : (x : Port) → x .traffic .first ≤ durationLimit → (a : Field) → Sound c p (receive c x a p)
-  unfolding receive
-  receive-channel-sound x few a =
-      await-sound _ _ _ _ _ _ (Destination (x .place + 1)) 7 (x .place + 1) 0 refl
-      (λ _ _ _. record { is = omega arith })
-      (λ h _. (place-known x (x .channel .destination) h, omega arith))
 
 -- what a call sees of a channel is sound: the message of a sampling one, the first of a queuing one
 pub record SoundPort (t : ℕ) (x : Port) : Type 0 where
   pub message : SoundMessage t (x .message)
   pub first : x .traffic .first ≤ durationLimit
-
--- ---------------------------------------------------------------- every call
-pub call-sound : (c : Context) (x : Port) (n : ℕ) (r : Request) (p : Partition) → Valid (c .frame) (c .time) p → SoundContext c p → SoundPort (c .time) x → Sound c p (callDecision c x n r p)
-call-sound c x n r p v k s =
-    by-call c x n r p (Sound c p)
-    (λ _. set-mode-sound c p v k _)
-    (create-process-sound c p v k)
-    (start-sound-in c p v k)
-    (λ _. stop-sound c p v k)
-    (λ _. stop-self-sound c p v k)
-    (suspend-sound c p v k)
-    (suspend-self-sound c p v k)
-    (timed-sound c p v k)
-    (periodic-sound c p v k)
-    (resume-sound c p v k)
-    (priority-sound-in c p v k)
-    (status-sound c p v k)
-    (create-semaphore-sound c p v k)
-    (wait-semaphore-sound c p v k)
-    (signal-sound c p v k)
-    (create-event-sound c p v k)
-    (set-event-sound c p v k)
-    (reset-sound c p v k)
-    (wait-event-sound c p v k)
-    (λ _. write-sound c p v k x)
-    (read-sound c p v k x (s .message))
-    (create-buffer-sound c p v k)
-    (λ _. send-sound c p v k _ _ _)
-    (λ _. receive-sound c p v k _ _)
-    (create-blackboard-sound c p v k)
-    (show-sound c p v k)
-    (read-blackboard-sound c p v k)
-    (clear-sound c p v k)
-    (λ _. send-channel-sound c p v k x _ _)
-    (λ _. receive-channel-sound c p v k x (s .first) _)
-    (λ _. lock-sound c p v k)
-    (λ _. unlock-sound c p v k)
-    (left-sound c p v k)
-    (λ _. record { is = tt })

@@ -30,9 +30,9 @@ use Rattle.machine.proofs.Bounds.{not-so}
 use Rattle.machine.proofs.Either.{either}
 use Rattle.machine.proofs.Keeping.{Rest, stored-rest, changed-rest, each-changed, process-created}
 use Rattle.machine.proofs.Reached.{made}
-use Rattle.machine.proofs.Available.{none-in}
 use Rattle.machine.proofs.PerPartition.{by-partition, own-call, made-stores}
 use Rattle.machine.proofs.Stores.{Marked, Marks}
+use Rattle.machine.proofs.Fairness.{none-in}
 
 -- ---------------------------------------------------------------- what leaves the mode
 abbrev SameMode : Partition → Partition → Type 0

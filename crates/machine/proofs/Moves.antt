@@ -19,7 +19,7 @@ use Rattle.machine.specs.Plain.{plainMoved}
 use Rattle.machine.proofs.Bounds.{within-in, named-in, named-same, buffer-in}
 use Rattle.machine.proofs.Messages.{queue-length, moved-held}
 use Rattle.machine.proofs.Keeping.{stored-rest}
-use Rattle.machine.proofs.Queues.{buffer-queue}
+use Rattle.machine.proofs.Orders.{buffer-queue}
 
 module _ (frame t : ℕ) (p : Partition) (v : Valid frame t p) (j : ℕ) (b : Between 1 (p .bufferCount) j) where
   abbrev pub messages : List ℕ

@@ -17,8 +17,9 @@ use Rattle.machine.proofs.Tracking.{kept-no}
 use Rattle.machine.proofs.Sound.{ready-off}
 use Rattle.machine.proofs.Keeping.{process-stored, process-other}
 use Rattle.machine.proofs.Kept.{Caller, waiters-exact}
-use Rattle.machine.proofs.Queues.{joins-last, first-created, others-apart, served-queue}
-use Rattle.machine.proofs.Senders.{on-queue}
+use Rattle.machine.proofs.Orders.{joins-last}
+use Rattle.machine.proofs.Queues.{first-created, others-apart, served-queue}
+use Rattle.machine.proofs.Calmness.{on-queue}
 
 -- the first of a list alone passes a test
 first-alone : (f : ℕ → Bool) (x : ℕ) (l : List ℕ) → f x ≡ true → ((y : ℕ) → contains y l ≡ true → f y ≡ false) → kept f (x ∷ l) ≡ x ∷ []

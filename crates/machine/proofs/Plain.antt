@@ -1,16 +1,15 @@
 -- On a reached record no bound and no cap acts at any event: the definitions are document 01's plain ones there. Assumes nothing.
 use Prim.Native.Nat.{ℕ, zero, suc, _+_, _-_, _≤_, _<_, max}
 use mathlib.Core.Path.{_≡_, refl, ap, ap₂, sym, _∙_}
-use mathlib.Core.Bool.{Bool, true, false, cond, not, _&&_, and-false, or-true}
+use mathlib.Core.Bool.{true, false, cond, not, _&&_, and-false, or-true}
 use mathlib.Core.List.{List, [], _∷_, _++_, map}
 use mathlib.Core.Logic.{_⊎_, inl, inr, ⊎-elim}
 use native.Mathlib.Omega.{arith}
-use lib.ListN.{length, getD, List·getD-eq-default}
+use lib.ListN.{length, getD}
 use lib.Seq.{ext-getD}
 use lib.Dec.{eqb, leb, ltb}
 use lib.IntN.{ℤ, pos, negsuc}
 use borrow.Author.Tests.{lt-ltb, le-ltb, le-leb, lt-leb, ltb-true, ltb-false, leb-true, leb-false, eq-eqb, ne-eqb, eqb-true, eqb-false, not-true, not-false}
-use Rattle.machine.specs.declared.Ids.{Ids}
 use Rattle.machine.specs.declared.Process.{Process}
 use Rattle.machine.specs.declared.Partition.{Partition}
 use Rattle.machine.specs.declared.Context.{Context}
@@ -29,12 +28,12 @@ use Rattle.machine.specs.declared.Stepped.{Stepped}
 use Rattle.machine.specs.declared.Field.{Field}
 use Rattle.machine.specs.declared.Time.{Time}
 use Rattle.machine.specs.declared.Time.the-variants.{Never, At}
-use Rattle.machine.specs.Limits.{processLimit, semaphoreLimit, eventLimit, bufferLimit, blackboardLimit, levelLimit, durationLimit, timeLimit, partitionLimit, channelLimit, messageLimit, greatestTime, greatestValue}
+use Rattle.machine.specs.Limits.{processLimit, semaphoreLimit, eventLimit, bufferLimit, blackboardLimit, levelLimit, durationLimit, timeLimit, partitionLimit, channelLimit, greatestTime, greatestValue}
 use Rattle.machine.specs.Messages.{queueOf, endsWait}
 use Rattle.machine.specs.Fields.{field, requestOf, isNumber, between, isMinusOne, numberOf}
-use Rattle.machine.specs.Ids.{members, idsOf, kept, other, removed, follow}
-use Rattle.machine.specs.Process.{blankProcess, later, isNever, periodic, ready, object, onObject, carried, served, handed, due, onlyMarked, woken, expired, ticked, entered}
-use Rattle.machine.specs.Partition.{normalMode, byId, noSemaphore, noEvent, noBuffer, noBlackboard, process, buffer, emptyBuffer, movedIn, endedBy, withMode, withProcesses, stored, storedBuffer, arrivedLast, waiters, changedAll, each, tickPartition, enteredNormal, applied, noted}
+use Rattle.machine.specs.Ids.{members, idsOf, kept, other, removed}
+use Rattle.machine.specs.Process.{blankProcess, later, isNever, periodic, ready, object, carried, served, handed, due, onlyMarked, woken, expired, ticked, entered}
+use Rattle.machine.specs.Partition.{normalMode, noSemaphore, noEvent, noBuffer, noBlackboard, process, buffer, emptyBuffer, movedIn, endedBy, withMode, withProcesses, stored, storedBuffer, arrivedLast, waiters, changedAll, each, tickPartition, enteredNormal, applied, noted}
 use Rattle.machine.specs.Decisions.{checked, unknown}
 use Rattle.machine.specs.Objects.{oneMore}
 use Rattle.machine.specs.Windows.{lookup, releaseAfter, nextStart}
@@ -43,16 +42,15 @@ use Rattle.machine.specs.Channels.{queuingAt, otherEnd, portOf, leadsInt
 use Rattle.machine.specs.Ticks.{tickModule}
 use Rattle.machine.specs.Places.{malformed}
 use Rattle.machine.specs.Step.{contextOf, decision, moduleAfter, sees, step}
-use Rattle.machine.specs.Valid.{Between, contains, Tracks, NotAfter, latestWake, latestDeadline, Setting, LastingIn, SoundProcess, ListedIn, Valid, SoundContext, SoundTable, SoundModule, Reached, SoundEnd, SoundChange, SoundDecision, plainLater, plainTick, plainTickTo}
-use Rattle.machine.specs.Plain.{plainById, followed, idsFrom, changedFirst, plainStored, plainCreated, plainLast, countWith, plainSemaphore, plainEvent, plainBuffer, plainBlackboard, plainEnded, come, atTick, plainEach, plainAll, plainApplied, EndInPlace, InPlace, plainRefilledAt, plainRefilledTo, plainTickPartition, plainTicked, plainAfter, AllInPlace, Uncapped, plainBetween, plainNumber, plainMinusOne, plainUnknown, Lossless, PlainReads, PlainNumbers, PlainTable, CapsSeen, NoBoundActs, EmptyStays}
+use Rattle.machine.specs.Valid.{Between, contains, NotAfter, latestWake, latestDeadline, Setting, LastingIn, SoundProcess, ListedIn, Valid, SoundContext, SoundTable, SoundModule, Reached, SoundEnd, SoundChange, SoundDecision, plainLater, plainTick, plainTickTo}
+use Rattle.machine.specs.Plain.{idsFrom, changedFirst, plainCreated, plainLast, countWith, plainSemaphore, plainEvent, plainBuffer, plainBlackboard, plainEnded, come, atTick, plainEach, plainAll, plainApplied, EndInPlace, InPlace, plainRefilledAt, plainRefilledTo, plainTickPartition, plainTicked, plainAfter, AllInPlace, Uncapped, plainBetween, plainNumber, plainMinusOne, plainUnknown, Lossless, PlainReads, PlainNumbers, PlainTable, CapsSeen, NoBoundActs, EmptyStays}
 use Rattle.machine.proofs.Tests.{by-test, by-tests, and-left, or-left, or-right, not-both}
 use Rattle.machine.proofs.Fields.{in-limits}
-use Rattle.machine.proofs.Bounds.{within-in, outside-high, named-in, named-out, stored-in, created-in, semaphore-in, event-in, buffer-in, blackboard-in}
+use Rattle.machine.proofs.Bounds.{within-in, created-in, semaphore-in, event-in, buffer-in, blackboard-in}
 use Rattle.machine.proofs.Either.{either}
-use Rattle.machine.proofs.Tracking.{tracks-room, appended-plain}
 use Rattle.machine.proofs.Lists.{members-idsOf, appended-idsOf}
 use Rattle.machine.proofs.Messages.{moved-plain, moved-in-plain}
-use Rattle.machine.proofs.Keeping.{process-ranged, process-created, removed-room, each-changed, AllCreated, from-range, stored-rest, rest-count, stored-listed}
+use Rattle.machine.proofs.Keeping.{process-created, removed-room, each-changed, AllCreated, from-range, stored-rest, rest-count, stored-listed}
 use Rattle.machine.proofs.Sound.{later-plain, later-not-after, at-most-more, at-most-not-after, capacity-bound, period-not-after, at-most-released, ready-released, times-bounded}
 use Rattle.machine.proofs.Dispatch.{Calls, by-event}
 use Rattle.machine.proofs.Bodies.{Bodily}
@@ -60,19 +58,9 @@ use Rattle.machine.proofs.Kept.{change-valid, nothing-valid, waiters-cr
 use Rattle.machine.proofs.Reached.{plain-around, plain-size, plain-other, plain-part, tick-module-plain, place, context-sound, made, made-sound, made-body, decided-sound, reached-valid, part-sound, erased-sound, queuing-plain, refilled-table, refilled-sound, on-queue, transfer-sound}
 use Rattle.machine.proofs.Starts.{frame-some, release-plain}
 use Rattle.machine.proofs.Answers.{decided-table}
+use Rattle.machine.proofs.Stored.{by-id-plain, stored-plain}
 
 -- ---------------------------------------------------------------- what an id names
--- in a list as long as its limit, an id names what stands at its place
-module _ {A : Type 0} (limit : ℕ) (d : A) (l : List A) (long : length l ≡ limit) where
-  pub by-id-plain : (id : ℕ) → byId limit d id l ≡ plainById d id l
-  unfolding byId
-  by-id-plain zero = refl
-  by-id-plain (suc i) =
-      let e : suc i - 1 ≡ i = omega arith in
-      either (leb limit i)
-      (λ h. let k = leb-true limit i h in named-out limit (suc i) d l (outside-high limit (suc i) (λ z. omega arith) (omega arith)) ∙ sym (List·getD-eq-default l d (omega arith)))
-      (λ h. let k = leb-false limit i h in named-in limit (suc i) d l (within-in limit (suc i) (omega arith) k) ∙ ap (λ j. getD l j d) e)
-
 pub reads-plain : (frame t : ℕ) (p : Partition) → Valid frame t p → PlainReads p
 reads-plain frame t p v = record {
   processes = by-id-plain processLimit blankProcess (p .processes) (v .lists .numbered .size);
@@ -81,32 +69,6 @@ reads-plain frame t p v = record {
   buffers = by-id-plain bufferLimit noBuffer (p .buffers) (v .objects .buffers .numbered .size);
   blackboards = by-id-plain blackboardLimit noBlackboard (p .blackboards) (v .objects .blackboards .numbered .size);
 }
-
--- ---------------------------------------------------------------- one process stored
--- a list after an id joined last or left: one that lacks the id has room for it
-follow-plain : (f : ℕ → Bool) (q : Ids) → Tracks f q → (now next : Bool) (id : ℕ) → (now ≡ false → length (members q) < processLimit) → follow now next id q ≡ idsOf (followed now next id (members q))
-unfolding removed
-follow-plain f q tr true true id room = tr .canonical
-follow-plain f q tr true false id room = refl
-follow-plain f q tr false true id room = appended-plain f q tr id (room refl)
-follow-plain f q tr false false id room = tr .canonical
-
-module _ (p : Partition) (v : ListedIn p) (id : ℕ) (b : Between 1 (p .processCount) id) where
-  high : id ≤ processLimit
-  high = omega (arith, b .1, v .numbered .few)
-
-  -- a list that lacks the id has room for it
-  list-plain : (f : Process → Bool) → f blankProcess ≡ false → (q : Ids) → Tracks (λ y. f (process y p)) q → (next : Bool) → follow (f (process id p)) next id q ≡ idsOf (followed (f (process id p)) next id (members q))
-  list-plain f blank q tr next =
-      follow-plain (λ y. f (process y p)) q tr (f (process id p)) next id
-      (tracks-room (λ y. f (process y p)) q tr (process-ranged f blank (p .processes)) id (b .0) high)
-
-  pub stored-plain : (x : Process) → stored id x p ≡ plainStored id x p
-  unfolding plainStored
-  stored-plain x =
-      let inside = within-in processLimit id (b .0) high in
-      stored-in id x p inside
-      ∙ rw (← named-in processLimit id blankProcess (p .processes) inside, list-plain ready refl (p .arrival) (v .arrivals) (ready x), list-plain onObject refl (p .waiting) (v .waitings) (onObject x), by-id-plain processLimit blankProcess (p .processes) (v .numbered .size) id)
 
 -- ---------------------------------------------------------------- the other changes
 pub all-plain : (f : Process → Process) (l : List ℕ) (p : Partition) → ListedIn p → AllCreated l (p .processCount) → changedAll f l p ≡ plainAll f l p

@@ -35,8 +35,6 @@ use Rattle.machine.proofs.Fields.{in-limits}
 use Rattle.machine.proofs.Bodies.{bodyRefusal}
 use Rattle.machine.proofs.Keeping.{process-stored, from-range}
 use Rattle.machine.proofs.Calling.{calling-sound, calling-valid, own-after, puts-is}
-use Rattle.machine.proofs.Plain.{stored-plain}
-use Rattle.machine.proofs.Queues.{followed-same, stored-queue, same-queue}
 use Rattle.machine.proofs.Reasons.{for-none}
 use Rattle.machine.proofs.EachProcess.{tick-process, each-process}
 use Rattle.machine.proofs.Alike.{same-started, same-wait, same-mark, same-missed, not-created}
@@ -47,6 +45,8 @@ use Rattle.machine.proofs.EachCall.{each-event, each-call}
 use Rattle.machine.proofs.Account.{step-size}
 use Rattle.machine.proofs.Kept.{waiters-exact}
 use Rattle.machine.proofs.AtPartition.{ticked-part}
+use Rattle.machine.proofs.Orders.{followed-same, same-queue, stored-queue}
+use Rattle.machine.proofs.Stored.{stored-plain}
 
 -- ---------------------------------------------------------------- an accepted call
 -- an event that is not refused has passed its checks

@@ -43,9 +43,11 @@ use Rattle.machine.proofs.Fields.{in-limits}
 use Rattle.machine.proofs.Bounds.{same-or-not, within-in, getD-replicate-any}
 use Rattle.machine.proofs.Either.{either}
 use Rattle.machine.proofs.Dispatch.{Calls, by-event}
-use Rattle.machine.proofs.Bodies.{Sends, Receives, OnQueue, Bodily, call-body}
+use Rattle.machine.proofs.Bodies.{Sends, Receives, OnQueue, Bodily}
+use Rattle.machine.proofs.EveryCall.{call-body}
 use Rattle.machine.proofs.Refusals.{call-in-range}
-use Rattle.machine.proofs.Kept.{tick-valid, fresh-valid, SoundPort, call-sound, decision-valid, ended-valid, let-in-valid, let-in-queue, sent-sound, received-sound}
+use Rattle.machine.proofs.Kept.{tick-valid, fresh-valid, SoundPort, decision-valid, ended-valid, let-in-valid, let-in-queue, sent-sound, received-sound}
+use Rattle.machine.proofs.EveryCall.{call-sound}
 use Rattle.machine.proofs.Messages.{queue-sound, moved-sound, first-sound}
 use Rattle.machine.proofs.Quiet.{tick-to-plain}
 use Rattle.machine.proofs.Starts.{release-bounds}

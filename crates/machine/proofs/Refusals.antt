@@ -24,7 +24,8 @@ use Rattle.machine.specs.Places as Pl
 use Rattle.machine.specs.Channels as Ch
 use Rattle.machine.specs.Step as St
 use Rattle.machine.proofs.Tests.{and-right, or-left, or-right}
-use Rattle.machine.proofs.Bodies.{bodyCode, bodyRefusal, call-body, body-code}
+use Rattle.machine.proofs.Bodies.{bodyCode, bodyRefusal, body-code}
+use Rattle.machine.proofs.EveryCall.{call-body}
 use Rattle.machine.proofs.Either.{either}
 
 -- a decision that answers neither 0 nor 7 leaves the module: by its shape

@@ -33,8 +33,8 @@ use Rattle.machine.proofs.Tracking.{kept-all}
 use Rattle.machine.proofs.Keeping.{AllCreated, changed-process}
 use Rattle.machine.proofs.Kept.{waiters-distinct, take-in, firsts-created, firsts-distinct, let-in-valid}
 use Rattle.machine.proofs.Reached.{at-set, Fills, fills, refilled-table, refilled-sound, refilled-keeps}
-use Rattle.machine.proofs.Queues.{part-waits, queue-of, all-part, same-queue}
-use Rattle.machine.proofs.Senders.{on-queue}
+use Rattle.machine.proofs.Orders.{part-waits, queue-of, all-part, same-queue}
+use Rattle.machine.proofs.Calmness.{on-queue}
 
 -- ---------------------------------------------------------------- the first n of a list
 -- what fails on the first n and holds of the others keeps the others

@@ -14,7 +14,7 @@ use Rattle.machine.specs.declared.Window.{Window}
 use Rattle.machine.specs.declared.Table.{Table}
 use Rattle.machine.specs.declared.Module.{Module}
 use Rattle.machine.specs.Windows.{windows, covers, anyWindow, nextStart, covering, lookup}
-use Rattle.machine.specs.Module.{current, part, withTime}
+use Rattle.machine.specs.Module.{part, withTime}
 use Rattle.machine.specs.declared.Port.{Port}
 use Rattle.machine.specs.declared.Decision.{Decision}
 use Rattle.machine.specs.declared.Decision.the-variants.{Refused, Unchanged, Ticked, Blocked, Changed, Restarted, Written, Passed as PassedOn}
@@ -35,7 +35,7 @@ use Rattle.machine.proofs.Tests.{by-test, and-left}
 use Rattle.machine.proofs.Either.{either}
 use Rattle.machine.proofs.Starts.{frame-some}
 use Rattle.machine.proofs.Dispatch.{by-event}
-use Rattle.machine.proofs.Bodies.{Bodily, call-body}
+use Rattle.machine.proofs.Bodies.{Bodily}
 use Rattle.machine.proofs.Refusals.{call-in-range}
 use Rattle.machine.proofs.Calling.{number-of}
 use Rattle.machine.proofs.Reached.{valid-sound, reached-valid}
@@ -44,6 +44,7 @@ use Rattle.machine.proofs.Answers.{step-table}
 use Rattle.machine.proofs.Run.{tick-time}
 use Rattle.machine.proofs.EachCall.{each-event}
 use Rattle.machine.proofs.Account.{tick-is, no-zero}
+use Rattle.machine.proofs.EveryCall.{call-body}
 
 -- ---------------------------------------------------------------- counting
 many-add : (f : ℕ → Bool) (a n m : ℕ) → howMany f a (n + m) ≡ howMany f a n + howMany f (a + n) m

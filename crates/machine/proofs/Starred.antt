@@ -47,7 +47,8 @@ use Rattle.machine.specs.Plain.{letGo}
 use Rattle.machine.proofs.Tests.{by-test, and-left, and-right}
 use Rattle.machine.proofs.Bounds.{not-so}
 use Rattle.machine.proofs.Dispatch.{by-event, by-decision, ticks-decided}
-use Rattle.machine.proofs.Bodies.{FromSource, Sends, Receives, OnQueue, Bodily, call-body}
+use Rattle.machine.proofs.Bodies.{FromSource, Sends, Receives, OnQueue, Bodily}
+use Rattle.machine.proofs.EveryCall.{call-body}
 use Rattle.machine.proofs.Refusals.{refused-same, places, call-in-range}
 use Rattle.machine.proofs.Keeping.{each-process}
 use Rattle.machine.proofs.Kept.{waiters-exact, nothing-valid}

@@ -42,7 +42,7 @@ use Rattle.machine.specs.Valid.{Between, Numbered, Valid}
 use Rattle.machine.proofs.Tests.{by-test, by-checks, Passed, passed-parts, and-left, not-both, or-left, or-right}
 use Rattle.machine.proofs.Bounds.{known-id, within-in, named-in}
 use Rattle.machine.proofs.Dispatch.{Each, by-number}
-use Rattle.machine.proofs.Senders.{below-three}
+use Rattle.machine.proofs.Calmness.{below-three}
 
 -- ---------------------------------------------------------------- what a process was given
 pub start-given : (c : Context) (delay : ℕ) (x : Process) → startRule c delay x .given ≡ x .given

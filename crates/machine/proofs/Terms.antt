@@ -13,12 +13,12 @@ use Rattle.machine.specs.declared.Wait.{Wait}
 use Rattle.machine.specs.declared.Wait.the-variants.{None, Normal, Delay, Timed, Period, Semaphore, Event, Sending, Receiving, Blackboard, Source, Destination}
 use Rattle.machine.proofs.Reasons.{for-none, for-normal}
 use Rattle.machine.proofs.Tests.{and-left, and-right}
-use Rattle.machine.proofs.Available.{counts-low, wait-known}
 use borrow.Author.Tests.{eq-eqb, eqb-true, not-true}
 use Rattle.machine.specs.Partition.{process, waiters}
 use Rattle.machine.specs.Module.{part}
 use Rattle.machine.proofs.Reached.{reached-valid, valid-sound}
 use Rattle.machine.proofs.Kept.{waiters-created, waiters-exact}
+use Rattle.machine.proofs.Fairness.{counts-low, wait-known}
 
 -- ---------------------------------------------------------------- waits
 -- the wait on queue j of a kind, with this message

@@ -13,7 +13,7 @@ use Rattle.machine.specs.Partition.{normalMode, process}
 use Rattle.machine.specs.Valid.{Between, KnownWait, Valid}
 use Rattle.machine.proofs.Either.{either}
 use Rattle.machine.proofs.Keeping.{process-created}
-use Rattle.machine.proofs.Available.{counts-low}
+use Rattle.machine.proofs.Fairness.{counts-low}
 
 -- the wait on queue j of a kind, by the kinds of classOf, with this message where one is kept with it
 abbrev pub waitAt : ℕ → ℕ → ℕ → Wait

@@ -116,8 +116,6 @@ fn is_semaphore_admitted(r: Request) -> bool
     fields::is_between(start, 0, fields::number_of(max))
 }
 
-pub const CREATE_SEMAPHORE_FIELDS: u8 = 3;
-
 // 14 CREATE_SEMAPHORE
 pub fn create_semaphore(p: Partition, r: Request) -> Decision
     ensures { λ x. ⌜ x ≡ createSemaphore r p ⌝ }
@@ -143,8 +141,6 @@ pub fn create_semaphore(p: Partition, r: Request) -> Decision
     let k = n + 1;
     Decision::Changed(Change::StoredSemaphore(k, s), Change::Nothing, k)
 }
-
-pub const CREATE_EVENT_FIELDS: u8 = 1;
 
 // 17 CREATE_EVENT
 pub fn create_event(p: Partition, name: Field) -> Decision
@@ -225,8 +221,6 @@ fn one_less(n: u16) -> u16
     if n == 0 { 0 } else { n - 1 }
 }
 
-pub const WAIT_SEMAPHORE_FIELDS: u8 = 2;
-
 // 15 WAIT_SEMAPHORE
 pub fn wait_semaphore(p: Partition, c: Context, k: u32, a: Field) -> Decision
     ensures { λ r. ⌜ r ≡ waitSemaphore c k a p ⌝ }
@@ -245,8 +239,6 @@ pub fn wait_semaphore(p: Partition, c: Context, k: u32, a: Field) -> Decision
         Wait::Semaphore(short_id(k)),
     )
 }
-
-pub const WAIT_EVENT_FIELDS: u8 = 2;
 
 // 20 WAIT_EVENT
 pub fn wait_event(p: Partition, c: Context, k: u32, a: Field) -> Decision
@@ -279,8 +271,6 @@ fn signal_change(p: Partition, k: u32, o: u16) -> Change
     Change::Stored(id, process::wait_ended(x, 0))
 }
 
-pub const SIGNAL_FIELDS: u8 = 1;
-
 // 16 SIGNAL
 pub fn signal_semaphore(p: Partition, k: u32) -> Decision
     ensures { λ r. ⌜ r ≡ signal k p ⌝ }
@@ -296,8 +286,6 @@ pub fn signal_semaphore(p: Partition, k: u32) -> Decision
     decisions::changed(signal_change(p, k, o))
 }
 
-pub const SET_EVENT_FIELDS: u8 = 1;
-
 // 18 SET_EVENT
 pub fn set_event(p: Partition, k: u32) -> Decision
     ensures { λ r. ⌜ r ≡ setEvent k p ⌝ }
@@ -309,8 +297,6 @@ pub fn set_event(p: Partition, k: u32) -> Decision
     let o = process::object_of(Wait::Event(k as u8));
     Decision::Changed(with_up(k, e, true), Change::Ended(o), 0)
 }
-
-pub const RESET_EVENT_FIELDS: u8 = 1;
 
 // 19 RESET_EVENT
 pub fn reset_event(p: Partition, k: u32) -> Decision

@@ -3,6 +3,7 @@ ghost use mathlib.Core.Path.{_≡_};
 ghost use mathlib.Core.Bool.{not, _&&_};
 ghost use lib.Dec.{ltb};
 ghost use Rattle.machine.specs.Fields.{isNumber};
+ghost use Rattle.machine.specs.Services.{serviceOf};
 ghost use Rattle.machine.specs.Places.{strayField, oneZero, malformed};
 ghost use Rattle.places.specs.Placed.{placedAt};
 use machine::Field;
@@ -14,6 +15,55 @@ use machine::Table;
 pub struct Placed {
     pub code: u8,
     pub time: u32,
+}
+
+// How many of the fields a, b, c, e each number uses, from 0 on: the tick, then the calls.
+const FIELDS: [u8; 35] = [
+    0,
+    1,
+    4,
+    1,
+    2,
+    1,
+    0,
+    1,
+    1,
+    1,
+    0,
+    1,
+    2,
+    1,
+    3,
+    2,
+    1,
+    1,
+    1,
+    1,
+    2,
+    2,
+    1,
+    2,
+    3,
+    2,
+    1,
+    2,
+    2,
+    1,
+    3,
+    2,
+    0,
+    0,
+    0,
+];
+
+// How many of the fields a, b, c, e call n uses; the tick and another number use none.
+fn fields_of(n: u32) -> u8
+    ensures { λ k. ⌜ k ≡ serviceOf n .fields ⌝ }
+{
+    if Module::CALL < n {
+        return 0;
+    }
+    FIELDS[n as usize]
 }
 
 // Whether a field that is not among the used ones is not 0.
@@ -78,7 +128,7 @@ fn is_malformed(table: Table, r: Request) -> bool
     if has_one_zero(r) {
         return true;
     }
-    has_stray(services::fields_of(fields::number_of(call)), r)
+    has_stray(fields_of(fields::number_of(call)), r)
 }
 
 // 13, and for a tick 10; a tick that is taken lets t rise by one.

@@ -159,8 +159,6 @@ fn code_after(before: u8, start: bool, admitted: bool) -> u8
     decisions::wait_code(false, start, admitted)
 }
 
-pub const SEND_FIELDS: u8 = 3;
-
 // 30 SEND
 pub fn send_channel(p: Partition, c: Context, x: Port, m: Field, a: Field) -> Decision
     ensures { λ d. ⌜ d ≡ send c x m a p ⌝ }
@@ -174,8 +172,6 @@ pub fn send_channel(p: Partition, c: Context, x: Port, m: Field, a: Field) -> De
     let wait = Wait::Source(number_at(x.place as usize), n);
     objects::awaited(p, c, code, a, traffic.len < channel.size, success, wait)
 }
-
-pub const RECEIVE_FIELDS: u8 = 2;
 
 // 31 RECEIVE
 pub fn receive_channel(p: Partition, c: Context, x: Port, a: Field) -> Decision

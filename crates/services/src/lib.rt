@@ -1,55 +1,12 @@
-// Calls 1 to 34 by number: the fields that each uses, and what it decides.
+// Calls 1 to 34 by number: what each decides.
 ghost use mathlib.Core.Path.{_≡_};
-ghost use Rattle.machine.specs.Services.{serviceOf, called};
+ghost use Rattle.machine.specs.Services.{called};
 use machine::Context;
 use machine::Decision;
 use machine::Field;
 use machine::Partition;
 use machine::Port;
 use machine::Request;
-
-// How many of the fields a, b, c, e call n uses; the tick and another number use none.
-pub fn fields_of(n: u32) -> u8
-    ensures { λ k. ⌜ k ≡ serviceOf n .fields ⌝ }
-{
-    match n {
-        1 => calls::SET_MODE_FIELDS,
-        2 => calls::CREATE_PROCESS_FIELDS,
-        3 => calls::START_FIELDS,
-        4 => calls::DELAYED_START_FIELDS,
-        5 => calls::STOP_FIELDS,
-        6 => calls::STOP_SELF_FIELDS,
-        7 => calls::SUSPEND_FIELDS,
-        8 => calls::SUSPEND_SELF_FIELDS,
-        9 => calls::TIMED_WAIT_FIELDS,
-        10 => calls::PERIODIC_WAIT_FIELDS,
-        11 => calls::RESUME_FIELDS,
-        12 => calls::SET_PRIORITY_FIELDS,
-        13 => calls::GET_STATUS_FIELDS,
-        14 => objects::CREATE_SEMAPHORE_FIELDS,
-        15 => objects::WAIT_SEMAPHORE_FIELDS,
-        16 => objects::SIGNAL_FIELDS,
-        17 => objects::CREATE_EVENT_FIELDS,
-        18 => objects::SET_EVENT_FIELDS,
-        19 => objects::RESET_EVENT_FIELDS,
-        20 => objects::WAIT_EVENT_FIELDS,
-        21 => channels::WRITE_FIELDS,
-        22 => channels::READ_FIELDS,
-        23 => buffers::CREATE_BUFFER_FIELDS,
-        24 => buffers::SEND_BUFFER_FIELDS,
-        25 => buffers::RECEIVE_BUFFER_FIELDS,
-        26 => blackboards::CREATE_BLACKBOARD_FIELDS,
-        27 => blackboards::SHOW_FIELDS,
-        28 => blackboards::READ_BLACKBOARD_FIELDS,
-        29 => blackboards::CLEAR_FIELDS,
-        30 => queuing::SEND_FIELDS,
-        31 => queuing::RECEIVE_FIELDS,
-        32 => calls::LOCK_PREEMPTION_FIELDS,
-        33 => calls::UNLOCK_PREEMPTION_FIELDS,
-        34 => calls::GET_TICKS_LEFT_FIELDS,
-        _ => 0,
-    }
-}
 
 // 9, then what call n decides of its partition's record; another number decides nothing.
 pub fn call(p: Partition, c: Context, x: Port, n: u32, r: Request) -> Decision

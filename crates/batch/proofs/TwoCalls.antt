@@ -4,7 +4,7 @@ use mathlib.Core.Path.{_≡_}
 use mathlib.Core.List.{List}
 use Rattle.machine.specs.Module.{freshModule}
 use Rattle.machine.specs.Table.{readTable}
-use Rattle.machine.specs.Valid.{SoundTable}
+use Rattle.machine.specs.Theorems.Valid.{SoundTable}
 use Rattle.machine.proofs.Isolation.{left-right}
 use Rattle.machine.proofs.Run.{left-right-of-table}
 use Rattle.executive.specs.Executive.{opened}

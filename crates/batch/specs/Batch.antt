@@ -1,6 +1,6 @@
 -- "A lent list of event records, run in one call, each answer kept in its record."
 use mathlib.Core.List.{List, map}
-use Rattle.machine.specs.LeftRight.{answeredEvent, next, after, answers}
+use Rattle.machine.specs.Runs.{answeredEvent, next, after, answers}
 use Rattle.machine.specs.declared.Event.{Event}
 use Rattle.machine.specs.declared.EventRecord.{EventRecord}
 use Rattle.executive.specs.declared.Executive.{Executive}

@@ -3,8 +3,8 @@ use Prim.Native.Nat.{ℕ}
 use mathlib.Core.Path.{_≡_}
 use mathlib.Core.Bool.{Bool}
 use mathlib.Core.List.{List, map}
-use Rattle.machine.specs.TwoRuns.{keep}
-use Rattle.machine.specs.LeftRight.{common, shown, Within, Closed, EqualIn}
+use Rattle.machine.specs.Runs.{keep}
+use Rattle.machine.specs.Theorems.LeftRight.{common, shown, Within, Closed, EqualIn}
 use Rattle.machine.specs.declared.EventRecord.{EventRecord}
 use Rattle.executive.specs.declared.Executive.{Executive}
 use Rattle.batch.specs.Batch.{eventsOf, afterList, answeredList}

@@ -16,7 +16,7 @@ use Rattle.machine.specs.declared.Line.{Line}
 use Rattle.machine.specs.declared.Line.the-variants.{Six, Bad}
 use Rattle.machine.specs.declared.Module.{Module}
 use Rattle.machine.specs.declared.Numbers.{Numbers}
-use Rattle.machine.specs.LeftRight.{next, after, answers}
+use Rattle.machine.specs.Runs.{next, after, answers}
 use Rattle.machine.specs.Limits.{lineLength}
 use Rattle.machine.specs.Line.{lineText, numberList, numbersOf, allInRange, canWrite, writeCode, written, writtenAt, readLine, readAt}
 use Rattle.machine.specs.Replay.{eventOf, answerNumbers}

@@ -10,7 +10,7 @@ use Rattle.machine.specs.declared.EventRecord.{EventRecord}
 use Rattle.machine.specs.declared.Line.{Line}
 use Rattle.machine.specs.declared.Line.the-variants.{Six, Bad}
 use Rattle.machine.specs.declared.Module.{Module}
-use Rattle.machine.specs.LeftRight.{after, answers}
+use Rattle.machine.specs.Runs.{after, answers}
 use Rattle.machine.specs.Limits.{lineLength}
 use Rattle.machine.specs.Line.{lineText, numberList, numbersOf, readLine, allInRange}
 use Rattle.machine.specs.Replay.{eventOf, answerNumbers}

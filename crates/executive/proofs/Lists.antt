@@ -10,7 +10,7 @@ use lib.IntN.{ℤ}
 use lib.ListN.{length, getD, getD-replicate, replicate, set, length-set, take, drop, length-append, take-append-drop, drop-of-length-le}
 use lib.Seq.{getD-set-same, getD-set-other, length-take-le, sets, sets-eq, length-sets, take-at, drop-at, drop-drop, getD-drop}
 use borrow.Author.Tests.{eqb-true, eqb-false}
-use Rattle.machine.specs.LeftRight.{next, after, answers}
+use Rattle.machine.specs.Runs.{next, after, answers}
 use Rattle.machine.specs.Limits.{partitionLimit}
 use Rattle.machine.specs.Module.{noPartition, part}
 use Rattle.machine.specs.Partition.{running}

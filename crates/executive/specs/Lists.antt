@@ -8,7 +8,7 @@ use lib.IntN.{ℤ, pos}
 use lib.ListN.{getD, drop, length}
 use Rattle.machine.specs.Decisions.{codeOf}
 use Rattle.machine.specs.Fields.{requestOf, numberOf}
-use Rattle.machine.specs.LeftRight.{next, after, answers}
+use Rattle.machine.specs.Runs.{next, after, answers}
 use Rattle.machine.specs.Limits.{partitionLimit}
 use Rattle.machine.specs.Module.{part}
 use Rattle.machine.specs.Partition.{running}

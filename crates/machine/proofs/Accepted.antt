@@ -11,11 +11,11 @@ use Rattle.machine.specs.declared.Event.{Event as EventT}
 use Rattle.machine.specs.declared.Module.{Module}
 use Rattle.machine.specs.Partition.{running}
 use Rattle.machine.specs.Module.{current}
-use Rattle.machine.specs.Plain.{plainNumber, plainBetween}
-use Rattle.machine.specs.Valid.{Between, Reached}
-use Rattle.machine.specs.Starred.{own, callBy, Calling}
-use Rattle.machine.specs.Account.{isCall, codeAt, restartsBy}
-use Rattle.machine.specs.EachCall.{idOf, used, stray, malformedAt, Checks}
+use Rattle.machine.specs.Theorems.Plain.{plainNumber, plainBetween}
+use Rattle.machine.specs.Theorems.Valid.{Between, Reached}
+use Rattle.machine.specs.Theorems.Events.{own, callBy, Calling}
+use Rattle.machine.specs.Theorems.Account.{isCall, codeAt, restartsBy}
+use Rattle.machine.specs.Theorems.EachCall.{idOf, used, stray, malformedAt, Checks}
 use Rattle.machine.proofs.Tests.{Passed, codesIn, not-both, and-left, and-right, or-left, or-right}
 use Rattle.machine.proofs.Either.{either}
 use Rattle.machine.proofs.Account.{plain-is}

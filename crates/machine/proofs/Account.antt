@@ -40,7 +40,8 @@ use Rattle.machine.specs.Fields.{field, requestOf, isNumber, between, is
 use Rattle.machine.specs.Messages.{held, first, sent, received, moved, endsWait}
 use Rattle.machine.specs.Process.{classOf, carriedIn, carried, object, served, handed, waitingFor, later}
 use Rattle.machine.specs.Partition.{noBuffer, process, buffer, emptyBuffer, storedBuffer, movedIn, endedBy, normalMode, running, waitsOn, waiters, stored, applied, nothingCreated, tickPartition, noted}
-use Rattle.machine.specs.LeftRight.{next, after, isTick, isZero}
+use Rattle.machine.specs.Runs.{next, after}
+use Rattle.machine.specs.Theorems.LeftRight.{isTick, isZero}
 use Rattle.machine.specs.Decisions.{replyOf, changed, blocked, queued, awaiting}
 use Rattle.machine.specs.Buffers.{createBuffer, hasRoom, holds, sendBuffer, receiveBuffer}
 use Rattle.machine.specs.Buffers as Bu
@@ -48,11 +49,11 @@ use Rattle.machine.specs.Module.{noPartition, emptyModule, channel, part
 use Rattle.machine.specs.Ticks.{tickModule}
 use Rattle.machine.specs.Places.{malformed, oneZero, ticks}
 use Rattle.machine.specs.Step.{contextOf, decision, moduleAfter, step}
-use Rattle.machine.specs.Starred.{own, callBy}
-use Rattle.machine.specs.Valid.{Between, contains, SoundMove, ListedIn, Valid, SoundContext, SoundDecision, SoundModule, Reached, plainTick}
-use Rattle.machine.specs.Plain.{plainNumber, plainBetween, plainMoved}
-use Rattle.machine.specs.Queues.{queueNumber, NoneWaits}
-use Rattle.machine.specs.Account.{isCall, codeAt, restartsBy, erases, erased, messageIn, Flow, bufferFlow, isSend, isReceive, sending, givesUp, Balances}
+use Rattle.machine.specs.Theorems.Events.{own, callBy}
+use Rattle.machine.specs.Theorems.Valid.{Between, contains, SoundMove, ListedIn, Valid, SoundContext, SoundDecision, SoundModule, Reached, plainTick}
+use Rattle.machine.specs.Theorems.Plain.{plainNumber, plainBetween, plainMoved}
+use Rattle.machine.specs.Theorems.Queues.{queueNumber, NoneWaits}
+use Rattle.machine.specs.Theorems.Account.{isCall, codeAt, restartsBy, erases, erased, messageIn, Flow, bufferFlow, isSend, isReceive, sending, givesUp, Balances}
 use Rattle.machine.proofs.Tests.{by-test, by-codes, Passed, not-both, and-left, and-right, or-left, or-right}
 use Rattle.machine.proofs.Fields.{in-limits}
 use Rattle.machine.proofs.Lists.{kept-snoc, cons-not}

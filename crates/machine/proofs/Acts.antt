@@ -36,8 +36,8 @@ use Rattle.machine.specs.Channels.{channelChecks, write, read, send, rec
 use Rattle.machine.specs.Buffers.{createBuffer, sendBuffer, receiveBuffer}
 use Rattle.machine.specs.Blackboards.{createBlackboard, show, readBlackboard, clear}
 use Rattle.machine.specs.Services.{Service, services, callDecision}
-use Rattle.machine.specs.Valid.{Between, contains, SoundModule}
-use Rattle.machine.specs.EachProcess.{waitOf}
+use Rattle.machine.specs.Theorems.Valid.{Between, contains, SoundModule}
+use Rattle.machine.specs.Theorems.EachProcess.{waitOf}
 use Rattle.machine.proofs.Tests.{by-test, Passed, passed-parts, by-checks, or-left, or-right, not-both}
 use Rattle.machine.proofs.Fields.{in-limits}
 use Rattle.machine.proofs.Bounds.{known-id}

@@ -23,7 +23,7 @@ use Rattle.machine.specs.Module.{part, message, queue, channel, withPart
 use Rattle.machine.specs.Decisions.{noMessage}
 use Rattle.machine.specs.Ticks.{dueAt, tickAt, tickTo}
 use Rattle.machine.specs.Channels.{queuing, queuingAt, otherEnd, endedAt, passed, leadsInto, keptTo, erasedTo, admitted, refilledAt, refilledTo}
-use Rattle.machine.specs.LeftRight.{Closed}
+use Rattle.machine.specs.Theorems.LeftRight.{Closed}
 use Rattle.machine.proofs.Tests.{by-test, by-tests, set-both, not-both, and-left, and-right}
 use Rattle.machine.proofs.Bounds.{within-out}
 use Rattle.machine.proofs.Either.{either}

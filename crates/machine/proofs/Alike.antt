@@ -18,10 +18,10 @@ use Rattle.machine.specs.declared.Time.the-variants.{Never, At}
 use Rattle.machine.specs.Limits.{processLimit, semaphoreLimit, eventLimit, bufferLimit, blackboardLimit}
 use Rattle.machine.specs.Process.{blankProcess, isNever, object, periodic, startRule, waitsForNormal, entered, withSuspended, withCurrent}
 use Rattle.machine.specs.Partition.{within, byId, process, arrivedLast, storedSemaphore, storedEvent, storedBuffer, storedBlackboard, emptyBuffer, waiters, applied}
-use Rattle.machine.specs.Valid.{contains, ListedIn}
-use Rattle.machine.specs.Plain.{idsFrom}
-use Rattle.machine.specs.EachCall.{periodicAt}
-use Rattle.machine.specs.EachProcess.{begunWith, StartWait}
+use Rattle.machine.specs.Theorems.Valid.{contains, ListedIn}
+use Rattle.machine.specs.Theorems.Plain.{idsFrom}
+use Rattle.machine.specs.Theorems.EachCall.{periodicAt}
+use Rattle.machine.specs.Theorems.EachProcess.{begunWith, StartWait}
 use Rattle.machine.proofs.Tests.{by-test, not-both}
 use Rattle.machine.proofs.Bounds.{named-out, within-out}
 use Rattle.machine.proofs.Either.{either}

@@ -26,7 +26,7 @@ use Rattle.machine.specs.Windows.{lookup}
 use Rattle.machine.specs.Ticks.{dueAt, tickAt, tickTo, partitionCount}
 use Rattle.machine.specs.Channels.{portOf}
 use Rattle.machine.specs.Step.{contextOf, sees, decision, moduleAfter, answerTo, step}
-use Rattle.machine.specs.Valid.{Valid, SoundDecision, SoundModule, ValidModule, Reached, ReplyInRange, AnswerInRange}
+use Rattle.machine.specs.Theorems.Valid.{Valid, SoundDecision, SoundModule, ValidModule, Reached, ReplyInRange, AnswerInRange}
 use Rattle.machine.proofs.Tests.{by-test, and-right}
 use Rattle.machine.proofs.Dispatch.{by-event, by-decision}
 use Rattle.machine.proofs.Bodies.{Bodily}

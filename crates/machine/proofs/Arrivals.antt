@@ -25,11 +25,11 @@ use Rattle.machine.specs.Fields.{requestOf, numberOf}
 use Rattle.machine.specs.Step.{contextOf, step}
 use Rattle.machine.specs.Messages.{moved}
 use Rattle.machine.specs.Channels.{portOf}
-use Rattle.machine.specs.Starred.{own}
-use Rattle.machine.specs.EachCall.{idOf}
-use Rattle.machine.specs.Arrivals.{movedAt, movedBy, ArrivalAfter, Arrivals, precedes, ReadyThroughout}
-use Rattle.machine.specs.Valid.{SoundModule, SoundDecision, Between, contains, ListedIn, Valid, SoundContext, SoundChange, Reached}
-use Rattle.machine.specs.Plain.{idsFrom, plainNumber}
+use Rattle.machine.specs.Theorems.Events.{own}
+use Rattle.machine.specs.Theorems.EachCall.{idOf}
+use Rattle.machine.specs.Theorems.Arrivals.{movedAt, movedBy, ArrivalAfter, Arrivals, precedes, ReadyThroughout}
+use Rattle.machine.specs.Theorems.Valid.{SoundModule, SoundDecision, Between, contains, ListedIn, Valid, SoundContext, SoundChange, Reached}
+use Rattle.machine.specs.Theorems.Plain.{idsFrom, plainNumber}
 use Rattle.machine.proofs.Tests.{by-test, not-both, or-left, or-right}
 use Rattle.machine.proofs.Either.{either}
 use Rattle.machine.proofs.Bounds.{not-so, named-replicate}
@@ -47,7 +47,7 @@ use Rattle.machine.proofs.Answers.{step-table}
 use Rattle.machine.proofs.Reached.{valid-sound, reached-valid}
 use Rattle.machine.proofs.Arriving.{kept-ready, Keeps, Arrives, arrives-off, none-zero, keeps-same, keeps-all, keeps-one, keeps-each, keeps-from, keeps-to, idle-arrival, keeps-ended, last-arrives, arrives-from, arrives-noted, keeps-then, change-keeps, joins-in, precedes-kept, precedes-first, precedes-across}
 use Rattle.machine.proofs.AtPartition.{ticked-part, Kinds, at-partition}
-use Rattle.machine.specs.LeftRight.{after}
+use Rattle.machine.specs.Runs.{after}
 use Rattle.machine.proofs.Orders.{followed-same, stored-arrival}
 
 -- ---------------------------------------------------------------- an event

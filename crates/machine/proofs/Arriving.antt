@@ -21,8 +21,8 @@ use Rattle.machine.specs.Limits.{processLimit, semaphoreLimit, eventLimi
 use Rattle.machine.specs.Process.{blankProcess, ready, served, handed, entered}
 use Rattle.machine.specs.Partition.{arrivedLast, noted, within, byId, stored, created, storedSemaphore, storedEvent, storedBuffer, storedBlackboard, emptyBuffer, movedIn, endedBy, buffer, waiters, changedAll, each, withMode, enteredNormal, applied}
 use Rattle.machine.specs.Messages.{moved}
-use Rattle.machine.specs.Valid.{Between, contains, Distinct, ListedIn, Valid, SoundContext, SoundChange, SoundEnd}
-use Rattle.machine.specs.Plain.{idsFrom}
+use Rattle.machine.specs.Theorems.Valid.{Between, contains, Distinct, ListedIn, Valid, SoundContext, SoundChange, SoundEnd}
+use Rattle.machine.specs.Theorems.Plain.{idsFrom}
 use Rattle.machine.proofs.Tests.{by-test, not-both}
 use Rattle.machine.proofs.Bounds.{same-or-not, within-in, buffer-in}
 use Rattle.machine.proofs.Lists.{members-idsOf}
@@ -33,7 +33,7 @@ use Rattle.machine.proofs.Kept.{change-valid, end-same, waiters-created
 use Rattle.machine.proofs.Queues.{readyIn, arrive-all}
 use Rattle.machine.proofs.Acts.{lastOf, touches}
 use Rattle.machine.proofs.Plain.{arrived-plain}
-use Rattle.machine.specs.Arrivals.{precedes}
+use Rattle.machine.specs.Theorems.Arrivals.{precedes}
 use Rattle.machine.proofs.Either.{either}
 
 -- ---------------------------------------------------------------- a partition then

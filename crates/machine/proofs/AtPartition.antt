@@ -30,8 +30,8 @@ use Rattle.machine.specs.Places.{malformed, ticks}
 use Rattle.machine.specs.Ticks.{tickModule}
 use Rattle.machine.specs.Channels.{otherEnd, portOf, passed, erasedTo}
 use Rattle.machine.specs.Step.{contextOf, decision, restarted, moduleAfter, step}
-use Rattle.machine.specs.Valid.{Between, Valid, SoundModule, SoundContext, SoundDecision, SoundEnd, plainTick}
-use Rattle.machine.specs.Starred.{own}
+use Rattle.machine.specs.Theorems.Valid.{Between, Valid, SoundModule, SoundContext, SoundDecision, SoundEnd, plainTick}
+use Rattle.machine.specs.Theorems.Events.{own}
 use Rattle.machine.proofs.Tests.{by-test, or-left, or-right}
 use Rattle.machine.proofs.Bounds.{same-or-not}
 use Rattle.machine.proofs.Kept.{nothing-valid}

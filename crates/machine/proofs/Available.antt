@@ -29,8 +29,8 @@ use Rattle.machine.specs.declared.Table.{Table}
 use Rattle.machine.specs.Table.{readTable}
 use Rattle.machine.specs.Module.{noPartition, emptyTable, emptyModule, freshModule, channel, part, withPart, withTime}
 use Rattle.machine.specs.Step.{contextOf, decision, moduleAfter, step}
-use Rattle.machine.specs.Valid.{ListedIn, Valid, SoundContext, SoundDecision, SoundModule, Reached, plainTick}
-use Rattle.machine.specs.Queues.{available, queueNumber, NoneWaits, SameObjects}
+use Rattle.machine.specs.Theorems.Valid.{ListedIn, Valid, SoundContext, SoundDecision, SoundModule, Reached, plainTick}
+use Rattle.machine.specs.Theorems.Queues.{available, queueNumber, NoneWaits, SameObjects}
 use Rattle.machine.proofs.Tests.{by-test}
 use Rattle.machine.proofs.Either.{either}
 use Rattle.machine.proofs.Keeping.{stored-rest, changed-rest, each-rest}

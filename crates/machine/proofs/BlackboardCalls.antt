@@ -9,7 +9,7 @@ use Rattle.machine.specs.Fields.{numberOf}
 use Rattle.machine.specs.Process.{handed}
 use Rattle.machine.specs.Partition.{blackboard, applied}
 use Rattle.machine.specs.Blackboards.{createBlackboard, show, readBlackboard, clear, showing}
-use Rattle.machine.specs.Valid.{ListedIn}
+use Rattle.machine.specs.Theorems.Valid.{ListedIn}
 use mathlib.Core.Logic.{inl, inr, ⊎-elim}
 use Rattle.machine.specs.Services.{services}
 use Rattle.machine.proofs.Tests.{not-both, Passed}

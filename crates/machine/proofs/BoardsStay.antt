@@ -26,10 +26,10 @@ use Rattle.machine.specs.Partition.{within, normalMode, noEvent, noBlack
 use Rattle.machine.specs.Decisions.{replyOf}
 use Rattle.machine.specs.Module.{part}
 use Rattle.machine.specs.Step.{step}
-use Rattle.machine.specs.LeftRight.{answeredEvent}
-use Rattle.machine.specs.Valid.{Between, SoundModule}
-use Rattle.machine.specs.Account.{codeAt, restartsBy}
-use Rattle.machine.specs.Latest.{done}
+use Rattle.machine.specs.Runs.{answeredEvent}
+use Rattle.machine.specs.Theorems.Valid.{Between, SoundModule}
+use Rattle.machine.specs.Theorems.Account.{codeAt, restartsBy}
+use Rattle.machine.specs.Theorems.Latest.{done}
 use Rattle.machine.proofs.Tests.{by-test, not-both}
 use Rattle.machine.proofs.Bounds.{within-out, named-other, event-in, event-out, blackboard-in, blackboard-out}
 use Rattle.machine.proofs.Either.{either}

@@ -11,11 +11,11 @@ use Rattle.machine.specs.Fields.{isName, isMessage, numberOf}
 use Rattle.machine.specs.Process.{object}
 use Rattle.machine.specs.Partition.{buffer}
 use Rattle.machine.specs.Buffers.{createBuffer, sendBuffer, receiveBuffer}
-use Rattle.machine.specs.Valid.{AllMessages}
+use Rattle.machine.specs.Theorems.Valid.{AllMessages}
 use mathlib.Core.Logic.{inl, inr, ⊎-elim}
 use Rattle.machine.specs.Services.{services}
 use Rattle.machine.specs.Module.{queue}
-use Rattle.machine.specs.Queues.{queueNumber}
+use Rattle.machine.specs.Theorems.Queues.{queueNumber}
 use Rattle.machine.proofs.Tests.{not-both, Passed}
 use Rattle.machine.proofs.Bounds.{and-true-parts, known-id}
 use Rattle.machine.proofs.Messages.{queue-sound, first-sound}

@@ -17,7 +17,7 @@ use Rattle.machine.specs.Limits.{durationLimit}
 use Rattle.machine.specs.Fields.{isTimeout, numberOf}
 use Rattle.machine.specs.Process.{Class, classOf, object}
 use Rattle.machine.specs.Partition.{normalMode, process}
-use Rattle.machine.specs.Valid.{Between, settingOf, Valid, SoundContext, SoundValue, SoundDecision}
+use Rattle.machine.specs.Theorems.Valid.{Between, settingOf, Valid, SoundContext, SoundValue, SoundDecision}
 use Rattle.machine.specs.Decisions.{checked, blocked, startMode, queued, awaiting, waitChecks}
 use Rattle.machine.specs.Services.{serviceOf, Service}
 use Rattle.machine.proofs.Tests.{by-test, Passed, passed-parts, codesIn, by-codes}

@@ -27,8 +27,8 @@ use Rattle.machine.specs.Channels.{portOf}
 use Rattle.machine.specs.Services.{serviceOf, callDecision}
 use Rattle.machine.specs.Places.{malformed, strayField, noCaller}
 use Rattle.machine.specs.Step.{contextOf, decision, moduleAfter, stepped, step}
-use Rattle.machine.specs.Valid.{Valid, ValidModule, SoundModule, SoundContext, Between, ListedIn}
-use Rattle.machine.specs.Starred.{own, callBy, Gives, Calling, Puts, withProcess, without}
+use Rattle.machine.specs.Theorems.Valid.{Valid, ValidModule, SoundModule, SoundContext, Between, ListedIn}
+use Rattle.machine.specs.Theorems.Events.{own, callBy, Gives, Calling, Puts, withProcess, without}
 use Rattle.machine.proofs.Either.{either}
 use Rattle.machine.proofs.WindowLeft.{current-known}
 use Rattle.machine.proofs.Reached.{reached-valid, context-of}

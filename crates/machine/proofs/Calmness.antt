@@ -28,9 +28,9 @@ use Rattle.machine.specs.Fields.{isNumber, between}
 use Rattle.machine.specs.Process.{classOf, blankProcess, object, onObject, ready, served, handed, entered, ticked, due, waitsForNormal, woken}
 use Rattle.machine.specs.Partition.{normalMode, noBuffer, process, buffer, emptyBuffer, movedIn, endedBy, withMode, stored, waitsOn, waiters, firstWaiter, changedAll, each, tickPartition, enteredNormal, storedSemaphore, storedEvent, storedBuffer, storedBlackboard, applied, within, arrivedLast, noted}
 use Rattle.machine.specs.Objects.{signalled}
-use Rattle.machine.specs.Valid.{Between, contains, Distinct, ListedIn, Valid, SoundContext, SoundMove, SoundEnd, SoundChange}
+use Rattle.machine.specs.Theorems.Valid.{Between, contains, Distinct, ListedIn, Valid, SoundContext, SoundMove, SoundEnd, SoundChange}
 use mathlib.Core.Logic.{_⊎_, inl, inr, ⊎-elim}
-use Rattle.machine.specs.Queues.{queueNumber}
+use Rattle.machine.specs.Theorems.Queues.{queueNumber}
 use Rattle.machine.specs.declared.Wait.the-variants.{None}
 use Rattle.machine.proofs.Tests.{by-test, not-both, and-left, and-right}
 use Rattle.machine.proofs.Bounds.{same-or-not, within-in, within-out, named-same, named-other, created-in, created-out, buffer-in, buffer-out}

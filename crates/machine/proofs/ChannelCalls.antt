@@ -11,7 +11,7 @@ use Rattle.machine.specs.declared.Wait.the-variants.{Source, Destination
 use Rattle.machine.specs.Limits.{durationLimit, channelLimit, numberLimit}
 use Rattle.machine.specs.Fields.{isMessage, numberOf}
 use Rattle.machine.specs.Channels.{queuing, queuingPort, channelChecks, write, read, send, receive}
-use Rattle.machine.specs.Valid.{Between}
+use Rattle.machine.specs.Theorems.Valid.{Between}
 use mathlib.Core.Logic.{_⊎_, inl, inr}
 use Rattle.machine.specs.Services.{services}
 use Rattle.machine.proofs.Tests.{by-test, and-left, and-right, Passed}

@@ -37,7 +37,8 @@ use Rattle.machine.specs.Ids.{kept}
 use Rattle.machine.specs.Messages.{noQueue, held, queueOf, first, sent, received, moved, endsWait}
 use Rattle.machine.specs.Process.{blankProcess, classOf, carriedIn, carried, object, served, handed, waitingFor, later}
 use Rattle.machine.specs.Partition.{process, waitsOn, waiters, firstWaiter, stored, changedAll, endedBy, applied, running, normalMode, nothingCreated, tickPartition, noted, freshPartition}
-use Rattle.machine.specs.LeftRight.{next, after, isTick, isZero}
+use Rattle.machine.specs.Runs.{next, after}
+use Rattle.machine.specs.Theorems.LeftRight.{isTick, isZero}
 use Rattle.machine.specs.Decisions.{checked, replyOf, changed, blocked, queued, awaiting}
 use Rattle.machine.specs.Calls.{setMode}
 use Rattle.machine.specs.Channels.{queuing, queuingAt, leadsInto, apart, otherEnd, otherQueue, portOf, channelChecks, send, receive, passed, erasedTo}
@@ -46,11 +47,11 @@ use Rattle.machine.specs.Module.{noPartition, emptyTable, emptyModule, f
 use Rattle.machine.specs.Ticks.{partitionCount, tickModule}
 use Rattle.machine.specs.Table.{readTable}
 use Rattle.machine.specs.Step.{contextOf, decision, restarted, moduleAfter, step}
-use Rattle.machine.specs.Starred.{own}
-use Rattle.machine.specs.Valid.{Between, contains, ListedIn, Valid, SoundContext, SoundDecision, SoundMove, SoundEnd, SoundModule, Reached, plainTick}
-use Rattle.machine.specs.Plain.{plainNumber, plainBetween, plainMoved}
-use Rattle.machine.specs.Queues.{queueNumber, ChannelEnds}
-use Rattle.machine.specs.Account.{isCall, codeAt, restartsBy, erases, messageIn, Flow, channelFlow, isSend, isReceive, sends, sending, keeps, givesUp, Balances, Account}
+use Rattle.machine.specs.Theorems.Events.{own}
+use Rattle.machine.specs.Theorems.Valid.{Between, contains, ListedIn, Valid, SoundContext, SoundDecision, SoundMove, SoundEnd, SoundModule, Reached, plainTick}
+use Rattle.machine.specs.Theorems.Plain.{plainNumber, plainBetween, plainMoved}
+use Rattle.machine.specs.Theorems.Queues.{queueNumber, ChannelEnds}
+use Rattle.machine.specs.Theorems.Account.{isCall, codeAt, restartsBy, erases, messageIn, Flow, channelFlow, isSend, isReceive, sends, sending, keeps, givesUp, Balances, Account}
 use Rattle.machine.proofs.Tests.{by-test, by-codes, Passed, not-both, and-left, and-right, or-left, or-right}
 use Rattle.machine.proofs.Fields.{in-limits}
 use Rattle.machine.proofs.Bounds.{not-so, same-or-not, named-replicate, getD-replicate-any}

@@ -29,16 +29,17 @@ use Rattle.machine.specs.Module as M
 use Rattle.machine.specs.Channels as Ch
 use Rattle.machine.specs.Places as Pl
 use Rattle.machine.specs.Step as St
-use Rattle.machine.specs.Valid.{Numbered, Between, SoundGiven, SoundPeriod, SoundCapacity, Valid, SoundModule}
-use Rattle.machine.specs.Plain.{plainBetween, plainMinusOne}
+use Rattle.machine.specs.Theorems.Valid.{Numbered, Between, SoundGiven, SoundPeriod, SoundCapacity, Valid, SoundModule}
+use Rattle.machine.specs.Theorems.Plain.{plainBetween, plainMinusOne}
 use Rattle.machine.specs.Replay.{timeNumber}
-use Rattle.machine.specs.Starred.{own, callBy, Gives, Refuses, Puts, Calling, withProcess, without, atEnd, withNew, withNewSemaphore, withNewEvent, withNewBuffer, withNewBlackboard, withSemaphoreAt, Room, NewProcess, NewSemaphore, NewEvent, NewBuffer, NewBlackboard, createBy, given, awaitsRelease, awaitsNext, awaitsNormal, ReleasesAt, Corners}
+use Rattle.machine.specs.Theorems.Events.{own, callBy, Gives, Refuses, Puts, Calling, withProcess, without, atEnd, withNew, withNewSemaphore, withNewEvent, withNewBuffer, withNewBlackboard, withSemaphoreAt}
+use Rattle.machine.specs.Theorems.Starred.{Room, NewProcess, NewSemaphore, NewEvent, NewBuffer, NewBlackboard, createBy, given, awaitsRelease, awaitsNext, awaitsNormal, ReleasesAt, Corners}
 use Rattle.machine.proofs.Bounds.{within-in, named-in, named-same}
 use Rattle.machine.proofs.Keeping.{each-rest, each-process}
 use Rattle.machine.proofs.Starts.{release-here}
 use Rattle.machine.proofs.Plain.{each-plain}
 use Rattle.machine.proofs.Calling.{from-zero, calling-sound, calling-valid, own-after}
-use Rattle.machine.specs.EachCall.{processAdmitted, Checks, Creates, EachCall, aboveIn, entering, idOf, inD, named, timeIn, tooLong}
+use Rattle.machine.specs.Theorems.EachCall.{processAdmitted, Checks, Creates, EachCall, aboveIn, entering, idOf, inD, named, timeIn, tooLong}
 use Rattle.machine.specs.declared.Event.{Event as EventT}
 use Rattle.machine.specs.Module.{channel, message}
 use Rattle.machine.proofs.EachCall.{each-call}

@@ -44,10 +44,11 @@ use Rattle.machine.specs.Messages.{held, sent, received, first, noQueue,
 use Rattle.machine.specs.Places.{malformed, strayField}
 use Rattle.machine.specs.Module.{emptyModule, emptyTable, channel, message, queue, current, runningIn, ticksLeft, withMessages, withPart, withQueue}
 use Rattle.machine.specs.Step.{contextOf, moduleAfter, step, restarted, decision}
-use Rattle.machine.specs.Valid.{Between, Numbered, Valid, SoundModule, SoundMove, ValidModule, Reached, plainLater, settingOf}
-use Rattle.machine.specs.Plain.{plainBetween, plainNumber, plainMinusOne, plainUnknown, plainStored, plainMoved, letGo, plainEach, plainRefilledTo, waitOver, plainTicked}
-use Rattle.machine.specs.Starred.{own, callBy, Calling, Gives, Puts, atEnd, withSemaphoreAt, given, withProcess, awaitsNext, awaitsRelease}
-use Rattle.machine.specs.EachCall.{idOf, timeIn, inD, inT, periodicAt, tooLong, named, used, stray, malformedAt, EachEvent, Checks, nowDormant, with, startedAt, withPriority, withEventAt, withBufferAt, withBoardAt, aboveIn, processAdmitted, Starts, MayWait, Stop, StopSelf, Suspend, Resume, GetStatus, SuspendSelf, TimedWait, ResetEvent, SetEvent, Clear, Signal, Show, WaitSemaphore, WaitEvent, ReceiveBuffer, ReadBlackboard, SendBuffer, Write, Read, Send, Receive, Start, DelayedStart, SetPriority, PeriodicWait, CreateEvent, CreateBlackboard, CreateBuffer, CreateSemaphore, CreateProcess, SetMode, EachCall, GetTicksLeft, LockPreemption, UnlockPreemption, entering, restartedAs, withoutInto}
+use Rattle.machine.specs.Theorems.Valid.{Between, Numbered, Valid, SoundModule, SoundMove, ValidModule, Reached, plainLater, settingOf}
+use Rattle.machine.specs.Theorems.Plain.{plainBetween, plainNumber, plainMinusOne, plainUnknown, plainStored, plainMoved, letGo, plainEach, plainRefilledTo, waitOver, plainTicked}
+use Rattle.machine.specs.Theorems.Events.{own, callBy, Calling, Gives, Puts, atEnd, withSemaphoreAt, withProcess}
+use Rattle.machine.specs.Theorems.Starred.{given, awaitsNext, awaitsRelease}
+use Rattle.machine.specs.Theorems.EachCall.{idOf, timeIn, inD, inT, periodicAt, tooLong, named, used, stray, malformedAt, EachEvent, Checks, nowDormant, with, startedAt, withPriority, withEventAt, withBufferAt, withBoardAt, aboveIn, processAdmitted, Starts, MayWait, Stop, StopSelf, Suspend, Resume, GetStatus, SuspendSelf, TimedWait, ResetEvent, SetEvent, Clear, Signal, Show, WaitSemaphore, WaitEvent, ReceiveBuffer, ReadBlackboard, SendBuffer, Write, Read, Send, Receive, Start, DelayedStart, SetPriority, PeriodicWait, CreateEvent, CreateBlackboard, CreateBuffer, CreateSemaphore, CreateProcess, SetMode, EachCall, GetTicksLeft, LockPreemption, UnlockPreemption, entering, restartedAs, withoutInto}
 use Rattle.machine.proofs.Reasons.{waits}
 use Rattle.machine.proofs.Tests.{by-test, Passed, and-left, and-right, or-left, or-right, not-both, passed-parts}
 use Rattle.machine.proofs.Either.{either}

@@ -28,10 +28,10 @@ use Rattle.machine.specs.Module.{part, channel}
 use Rattle.machine.specs.Ticks.{tickModule}
 use Rattle.machine.specs.Step.{contextOf}
 use Rattle.machine.specs.Channels.{otherEnd, otherQueue, portOf, passed}
-use Rattle.machine.specs.Valid.{Between, contains, Valid, SoundModule, SoundContext, SoundDecision, SoundEnd}
-use Rattle.machine.specs.Plain.{idsFrom, atTick}
-use Rattle.machine.specs.Starred.{own}
-use Rattle.machine.specs.EachProcess.{Service, Becomes, EachProcess}
+use Rattle.machine.specs.Theorems.Valid.{Between, contains, Valid, SoundModule, SoundContext, SoundDecision, SoundEnd}
+use Rattle.machine.specs.Theorems.Plain.{idsFrom, atTick}
+use Rattle.machine.specs.Theorems.Events.{own}
+use Rattle.machine.specs.Theorems.EachProcess.{Service, Becomes, EachProcess}
 use Rattle.machine.proofs.Tests.{by-test, not-both, or-right}
 use Rattle.machine.proofs.Bounds.{named-replicate, not-so, same-or-not}
 use Rattle.machine.proofs.Either.{either}

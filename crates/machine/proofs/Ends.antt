@@ -36,8 +36,8 @@ use Rattle.machine.specs.Ticks.{partitionCount, tickModule}
 use Rattle.machine.specs.Channels.{queuing, queuingAt, leadsInto, apart, otherEnd, otherQueue, portOf, passed, erasedTo}
 use Rattle.machine.specs.Table.{readTable}
 use Rattle.machine.specs.Step.{contextOf, decision, restarted, moduleAfter, step}
-use Rattle.machine.specs.Valid.{Between, contains, KnownWait, settingOf, SoundDecision, SoundModule, SoundMove, SoundEnd, Reached}
-use Rattle.machine.specs.Queues.{queueNumber, EndOf, ChannelEnds}
+use Rattle.machine.specs.Theorems.Valid.{Between, contains, KnownWait, settingOf, SoundDecision, SoundModule, SoundMove, SoundEnd, Reached}
+use Rattle.machine.specs.Theorems.Queues.{queueNumber, EndOf, ChannelEnds}
 use Rattle.machine.proofs.Tests.{by-test, and-left, not-both}
 use Rattle.machine.proofs.Bounds.{same-or-not}
 use Rattle.machine.proofs.Either.{either}

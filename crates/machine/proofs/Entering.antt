@@ -6,10 +6,10 @@ use mathlib.Core.List.{List, [], _++_}
 use native.Mathlib.Omega.{arith}
 use lib.Dec.{eqb}
 use lib.IntN.{pos}
-use Rattle.machine.specs.Valid.{Between, SoundModule, Valid}
-use Rattle.machine.specs.Starred.{Calling, Puts, own}
-use Rattle.machine.specs.EachCall.{Checks, entering}
-use Rattle.machine.specs.Entering.{Enters, enter}
+use Rattle.machine.specs.Theorems.Valid.{Between, SoundModule, Valid}
+use Rattle.machine.specs.Theorems.Events.{Calling, Puts, own}
+use Rattle.machine.specs.Theorems.EachCall.{Checks, entering}
+use Rattle.machine.specs.Theorems.Entering.{Enters, enter}
 use Rattle.machine.specs.declared.Module.{Module}
 use Rattle.machine.specs.declared.Time.the-variants.{Never}
 use Rattle.machine.specs.declared.Wait.the-variants.{Normal}
@@ -26,7 +26,7 @@ use Rattle.machine.proofs.Tracking.{kept-same}
 use borrow.Author.Tests.{ne-eqb}
 use Rattle.machine.proofs.Tests.{not-both}
 use Rattle.machine.proofs.Bounds.{not-so}
-use Rattle.machine.specs.Plain.{idsFrom, plainEach}
+use Rattle.machine.specs.Theorems.Plain.{idsFrom, plainEach}
 use Rattle.machine.specs.Process.{ready, waitsForNormal}
 use Rattle.machine.proofs.Starts.{release-earliest}
 use Rattle.machine.specs.Windows.{releasePoint}

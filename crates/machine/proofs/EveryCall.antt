@@ -11,7 +11,7 @@ use Rattle.machine.specs.declared.Context.{Context}
 use Rattle.machine.specs.declared.Port.{Port}
 use Rattle.machine.specs.declared.Request.{Request}
 use Rattle.machine.specs.Services.{callDecision, services, serviceOf, Service, noService}
-use Rattle.machine.specs.Valid.{Valid, SoundContext}
+use Rattle.machine.specs.Theorems.Valid.{Valid, SoundContext}
 use Rattle.machine.specs.Limits.{callLimit}
 use Rattle.machine.specs.Ids.{other}
 use Rattle.machine.proofs.Tests.{by-test}

@@ -32,8 +32,8 @@ use Rattle.machine.specs.Objects.{signalled}
 use Rattle.machine.specs.Buffers.{hasRoom, holds}
 use Rattle.machine.specs.Channels.{queuing}
 use Rattle.machine.specs.Ids.{kept}
-use Rattle.machine.specs.Valid.{Between, contains, KnownWait, SoundBuffer, SoundMove, SoundEnd, ListedIn, settingOf, Valid, SoundContext, SoundProcess}
-use Rattle.machine.specs.Queues.{available, queueNumber, SameObjects}
+use Rattle.machine.specs.Theorems.Valid.{Between, contains, KnownWait, SoundBuffer, SoundMove, SoundEnd, ListedIn, settingOf, Valid, SoundContext, SoundProcess}
+use Rattle.machine.specs.Theorems.Queues.{available, queueNumber, SameObjects}
 use Rattle.machine.proofs.Tests.{by-test, not-both}
 use Rattle.machine.proofs.Bounds.{same-or-not, within-in, within-out, named-out, named-same, named-other, semaphore-in, semaphore-out, event-in, event-out, buffer-in, buffer-out, blackboard-in, blackboard-out}
 use Rattle.machine.proofs.Either.{either}

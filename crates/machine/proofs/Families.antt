@@ -32,9 +32,9 @@ use Rattle.machine.specs.Services.{services, callDecision}
 use Rattle.machine.specs.Places.{strayField}
 use Rattle.machine.specs.Module.{part, withPart}
 use Rattle.machine.specs.Step.{step}
-use Rattle.machine.specs.Valid.{Between, SoundBuffer, Valid, SoundModule}
-use Rattle.machine.specs.Starred.{own, callBy, TimeOut, Calling, Gives}
-use Rattle.machine.specs.Queues.{SameObjects, FirstServed, NoneServed, AllServed, has, Queues}
+use Rattle.machine.specs.Theorems.Valid.{Between, SoundBuffer, Valid, SoundModule}
+use Rattle.machine.specs.Theorems.Events.{own, callBy, TimeOut, Calling, Gives}
+use Rattle.machine.specs.Theorems.Queues.{SameObjects, FirstServed, NoneServed, AllServed, has, Queues}
 use Rattle.machine.proofs.Bounds.{within-in, named-same, blackboard-in}
 use Rattle.machine.proofs.Either.{either}
 use Rattle.machine.proofs.Messages.{queue-first}

@@ -13,11 +13,11 @@ use Rattle.machine.specs.declared.Module.{Module}
 use Rattle.machine.specs.Ids.{kept, keptIf}
 use Rattle.machine.specs.Process.{carried}
 use Rattle.machine.specs.Partition.{process, running, waiters}
-use Rattle.machine.specs.LeftRight.{next, after}
+use Rattle.machine.specs.Runs.{next, after}
 use Rattle.machine.specs.Step.{step}
-use Rattle.machine.specs.Starred.{own}
-use Rattle.machine.specs.Valid.{contains, Distinct}
-use Rattle.machine.specs.Account.{codeAt, restartsBy, messageIn, Flow, isSend, isReceive, sends, sending, keeps, receives, receiving, placeIn, dropped, givesUp, letInAt, lost, lostAt, sentAt, allSent, receivedAt, allReceived, Balances}
+use Rattle.machine.specs.Theorems.Events.{own}
+use Rattle.machine.specs.Theorems.Valid.{contains, Distinct}
+use Rattle.machine.specs.Theorems.Account.{codeAt, restartsBy, messageIn, Flow, isSend, isReceive, sends, sending, keeps, receives, receiving, placeIn, dropped, givesUp, letInAt, lost, lostAt, sentAt, allSent, receivedAt, allReceived, Balances}
 use Rattle.machine.proofs.Tests.{not-both, and-left, and-right}
 use Rattle.machine.proofs.Either.{either}
 use Rattle.machine.proofs.Lists.{kept-snoc}

@@ -36,8 +36,9 @@ use Rattle.machine.specs.Ticks as Ti
 use Rattle.machine.specs.Channels as Ch
 use Rattle.machine.specs.Places as Pl
 use Rattle.machine.specs.Step as St
-use Rattle.machine.specs.LeftRight.{next, answeredEvent, after, isZero, memberOf, isTick, common, shown, commonAnswers, Within, Closed, EqualIn, LeftRight}
-use Rattle.machine.specs.TwoRuns.{Unwinding, two-runs, keep}
+use Rattle.machine.specs.Runs.{next, answeredEvent, after, keep}
+use Rattle.machine.specs.Theorems.LeftRight.{isZero, memberOf, isTick, common, shown, commonAnswers, Within, Closed, EqualIn, LeftRight}
+use Rattle.machine.proofs.TwoRuns.{Unwinding, two-runs}
 use Rattle.machine.proofs.Tests.{by-tests, by-checks₂, and-left, and-right, or-left, or-right, not-both}
 use Rattle.machine.proofs.Fields.{in-limits, between-zero}
 use Rattle.machine.proofs.Dispatch.{by-event}

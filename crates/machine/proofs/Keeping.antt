@@ -15,8 +15,8 @@ use Rattle.machine.specs.Limits.{processLimit}
 use Rattle.machine.specs.Ids.{members, other, removed, follow}
 use Rattle.machine.specs.Process.{blankProcess, ready, onObject}
 use Rattle.machine.specs.Partition.{within, byId, process, withProcesses, stored, arrivedLast, changedAll, eachFrom, each}
-use Rattle.machine.specs.Valid.{Between, contains, Distinct, Tracks, Numbered, Family, KnownOrNext, ListedIn, ObjectsIn, SoundProcess, settingOf, LockIn, HolderReady, Valid}
-use Rattle.machine.specs.Plain.{idsFrom}
+use Rattle.machine.specs.Theorems.Valid.{Between, contains, Distinct, Tracks, Numbered, Family, KnownOrNext, ListedIn, ObjectsIn, SoundProcess, settingOf, LockIn, HolderReady, Valid}
+use Rattle.machine.specs.Theorems.Plain.{idsFrom}
 use Rattle.machine.proofs.Tests.{by-test, not-both}
 use Rattle.machine.proofs.Bounds.{not-so, same-or-not, and-true-parts, within-in, within-out, named-in, named-same, named-other, stored-in, stored-out}
 use Rattle.machine.proofs.Either.{either}

@@ -16,12 +16,12 @@ use Rattle.machine.specs.Limits.{eventLimit, blackboardLimit, durationLi
 use Rattle.machine.specs.Partition.{byId, noEvent, noBlackboard, event, blackboard}
 use Rattle.machine.specs.Table.{readTable}
 use Rattle.machine.specs.Step.{step}
-use Rattle.machine.specs.LeftRight.{next, answeredEvent, after, answers}
-use Rattle.machine.specs.Valid.{Between, Reached}
-use Rattle.machine.specs.Starred.{own, callBy, Calling}
-use Rattle.machine.specs.Account.{isCall, erases, erased, messageIn}
-use Rattle.machine.specs.EachCall.{idOf}
-use Rattle.machine.specs.Latest.{along, done, shows, sets, lastWritten, lastShown, lastSet, Since, Latest}
+use Rattle.machine.specs.Runs.{next, answeredEvent, after, answers}
+use Rattle.machine.specs.Theorems.Valid.{Between, Reached}
+use Rattle.machine.specs.Theorems.Events.{own, callBy, Calling}
+use Rattle.machine.specs.Theorems.Account.{isCall, erases, erased, messageIn}
+use Rattle.machine.specs.Theorems.EachCall.{idOf}
+use Rattle.machine.specs.Theorems.Latest.{along, done, shows, sets, lastWritten, lastShown, lastSet, Since, Latest}
 use Rattle.machine.proofs.Tests.{Passed, or-left, or-right}
 use Rattle.machine.proofs.Bounds.{named-same}
 use Rattle.machine.proofs.Either.{either}

@@ -2,6 +2,7 @@ pub mod Either
 pub mod Tests
 pub mod Fields
 pub mod Agree
+pub mod TwoRuns
 pub mod Isolation
 pub mod Tables
 pub mod Dispatch

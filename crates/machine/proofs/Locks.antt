@@ -29,11 +29,11 @@ use Rattle.machine.specs.Partition.{within, normalMode, buffer, emptyBuf
 use Rattle.machine.specs.Module.{part, current}
 use Rattle.machine.specs.Channels.{portOf}
 use Rattle.machine.specs.Step.{contextOf, decision, moduleAfter, sees, step}
-use Rattle.machine.specs.LeftRight.{after}
-use Rattle.machine.specs.Valid.{Between, SameHolder, SoundModule, SoundChange, SoundDecision, Reached}
-use Rattle.machine.specs.Plain.{idsFrom}
-use Rattle.machine.specs.Starred.{own}
-use Rattle.machine.specs.Locks.{LockHolds, SameLock, NoLockCall, NoLockCalls, LockedThroughout, Locks}
+use Rattle.machine.specs.Runs.{after}
+use Rattle.machine.specs.Theorems.Valid.{Between, SameHolder, SoundModule, SoundChange, SoundDecision, Reached}
+use Rattle.machine.specs.Theorems.Plain.{idsFrom}
+use Rattle.machine.specs.Theorems.Events.{own}
+use Rattle.machine.specs.Theorems.Locks.{LockHolds, SameLock, NoLockCall, NoLockCalls, LockedThroughout, Locks}
 use Rattle.machine.proofs.Tests.{by-test, not-both}
 use Rattle.machine.proofs.Bounds.{not-so, so}
 use Rattle.machine.proofs.Either.{either}

@@ -11,8 +11,8 @@ use Rattle.machine.specs.declared.Buffer.{Buffer}
 use Rattle.machine.specs.Limits.{messageLimit, durationLimit}
 use Rattle.machine.specs.Messages.{held, queueOf, put, taken, first, moved}
 use Rattle.machine.specs.Partition.{movedIn}
-use Rattle.machine.specs.Valid.{AllMessages, SoundQueue, SoundBuffer, SoundMove}
-use Rattle.machine.specs.Plain.{plainMoved, plainMovedIn}
+use Rattle.machine.specs.Theorems.Valid.{AllMessages, SoundQueue, SoundBuffer, SoundMove}
+use Rattle.machine.specs.Theorems.Plain.{plainMoved, plainMovedIn}
 use Rattle.machine.proofs.Lists.{put-queueOf, held-queueOf}
 
 -- ---------------------------------------------------------------- lists of messages

@@ -23,8 +23,8 @@ use Rattle.machine.specs.Partition.{within, normalMode, process, buffer,
 use Rattle.machine.specs.Decisions.{replyOf}
 use Rattle.machine.specs.Module.{part}
 use Rattle.machine.specs.Step.{step}
-use Rattle.machine.specs.Valid.{Valid, SoundEnd, SoundModule}
-use Rattle.machine.specs.Modes.{setsMode}
+use Rattle.machine.specs.Theorems.Valid.{Valid, SoundEnd, SoundModule}
+use Rattle.machine.specs.Theorems.Modes.{setsMode}
 use Rattle.machine.proofs.Tests.{by-test, not-both}
 use Rattle.machine.proofs.Bounds.{not-so}
 use Rattle.machine.proofs.Either.{either}

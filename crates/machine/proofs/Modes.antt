@@ -23,12 +23,12 @@ use Rattle.machine.specs.Calls.{setMode}
 use Rattle.machine.specs.Services.{callDecision, services}
 use Rattle.machine.specs.Places.{strayField}
 use Rattle.machine.specs.Step.{contextOf, moduleAfter, step}
-use Rattle.machine.specs.LeftRight.{next, after}
-use Rattle.machine.specs.Valid.{Between, SoundModule, Reached, contains}
-use Rattle.machine.specs.Starred.{own, callBy, Gives, Calling}
-use Rattle.machine.specs.Account.{isCall}
-use Rattle.machine.specs.EachCall.{Checks}
-use Rattle.machine.specs.Modes.{leadsTo, ModeAfter, Modes}
+use Rattle.machine.specs.Runs.{next, after}
+use Rattle.machine.specs.Theorems.Valid.{Between, SoundModule, Reached, contains}
+use Rattle.machine.specs.Theorems.Events.{own, callBy, Gives, Calling}
+use Rattle.machine.specs.Theorems.Account.{isCall}
+use Rattle.machine.specs.Theorems.EachCall.{Checks}
+use Rattle.machine.specs.Theorems.Modes.{leadsTo, ModeAfter, Modes}
 use Rattle.machine.proofs.Tests.{by-test, by-codes, Passed, not-both, and-left, and-right}
 use Rattle.machine.proofs.Bounds.{not-so}
 use Rattle.machine.proofs.Either.{either}

@@ -14,8 +14,8 @@ use Rattle.machine.specs.declared.Change.the-variants.{Moved}
 use Rattle.machine.specs.Limits.{bufferLimit}
 use Rattle.machine.specs.Messages.{held}
 use Rattle.machine.specs.Partition.{noBuffer, process, buffer, movedIn, withBuffers, stored, storedBuffer, waiters, applied}
-use Rattle.machine.specs.Valid.{Between, SoundBuffer, SoundMove, ListedIn, Valid}
-use Rattle.machine.specs.Plain.{plainMoved}
+use Rattle.machine.specs.Theorems.Valid.{Between, SoundBuffer, SoundMove, ListedIn, Valid}
+use Rattle.machine.specs.Theorems.Plain.{plainMoved}
 use Rattle.machine.proofs.Bounds.{within-in, named-in, named-same, buffer-in}
 use Rattle.machine.proofs.Messages.{queue-length, moved-held}
 use Rattle.machine.proofs.Keeping.{stored-rest}

@@ -33,8 +33,8 @@ use Rattle.machine.specs.Partition.{byId, within, normalMode, noSemaphor
 use Rattle.machine.specs.Table.{readTable}
 use Rattle.machine.specs.Module.{noPartition, emptyTable, emptyModule, freshModule, part}
 use Rattle.machine.specs.Step.{contextOf, step}
-use Rattle.machine.specs.Valid.{Between, contains, Distinct, Valid, ListedIn, Numbered, SoundContext, SoundDecision, SoundModule, Reached}
-use Rattle.machine.specs.Names.{Differ, NamesDiffer, Names}
+use Rattle.machine.specs.Theorems.Valid.{Between, contains, Distinct, Valid, ListedIn, Numbered, SoundContext, SoundDecision, SoundModule, Reached}
+use Rattle.machine.specs.Theorems.Names.{Differ, NamesDiffer, Names}
 use Rattle.machine.proofs.Tests.{by-test}
 use Rattle.machine.proofs.Bounds.{same-or-not, within-out, named-same, named-other, created-in, created-out, semaphore-in, semaphore-out, event-in, event-out, buffer-in, buffer-out, blackboard-in, blackboard-out}
 use Rattle.machine.proofs.Either.{either}

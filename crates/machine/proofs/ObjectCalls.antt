@@ -10,10 +10,10 @@ use Rattle.machine.specs.Fields.{between, isName, numberOf}
 use Rattle.machine.specs.Process.{object, served}
 use Rattle.machine.specs.Partition.{semaphore, waiters, applied, event}
 use Rattle.machine.specs.Objects.{createSemaphore, createEvent, withUp, waitSemaphore, waitEvent, signal, setEvent, resetEvent}
-use Rattle.machine.specs.Valid.{ListedIn}
+use Rattle.machine.specs.Theorems.Valid.{ListedIn}
 use mathlib.Core.Logic.{inl, inr, ⊎-elim}
 use Rattle.machine.specs.Services.{services}
-use Rattle.machine.specs.Queues.{queueNumber}
+use Rattle.machine.specs.Theorems.Queues.{queueNumber}
 use Rattle.machine.proofs.Tests.{not-both, Passed}
 use Rattle.machine.proofs.Bounds.{and-true-parts, known-id, within-in, event-in}
 use Rattle.machine.proofs.Fields.{in-limits}

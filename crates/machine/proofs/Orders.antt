@@ -26,9 +26,9 @@ use Rattle.machine.specs.Ids.{members, kept, other}
 use Rattle.machine.specs.Process.{Class, classOf, objectIn, forNormal, blankProcess, object, onObject, periodic, ready, due, waitsForNormal, onlyMarked, served, handed, woken, expired, ticked, entered, startRule}
 use Rattle.machine.specs.Partition.{within, normalMode, process, stored, created, storedSemaphore, storedEvent, storedBuffer, storedBlackboard, emptyBuffer, movedIn, endedBy, buffer, arrivedLast, withLock, changedAll, waitsOn, waiters, applied, tickPartition, enteredNormal, withMode, each, noted}
 use Rattle.machine.specs.Objects.{signalled}
-use Rattle.machine.specs.Valid.{Between, contains, ListedIn, Valid, SoundEnd, SoundChange}
-use Rattle.machine.specs.Plain.{plainById, followed, plainStored}
-use Rattle.machine.specs.Queues.{SameObjects, Queue, KeepsOrEnds, NotExchanged, QueueChanges}
+use Rattle.machine.specs.Theorems.Valid.{Between, contains, ListedIn, Valid, SoundEnd, SoundChange}
+use Rattle.machine.specs.Theorems.Plain.{plainById, followed, plainStored}
+use Rattle.machine.specs.Theorems.Queues.{SameObjects, Queue, KeepsOrEnds, NotExchanged, QueueChanges}
 use Rattle.machine.proofs.Tests.{by-test, not-both}
 use Rattle.machine.proofs.Bounds.{same-or-not, within-in, within-out, named-same, named-other, buffer-in, created-in, created-out}
 use Rattle.machine.proofs.Either.{either}

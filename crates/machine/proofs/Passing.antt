@@ -12,7 +12,7 @@ use Rattle.machine.specs.declared.Partition.{Partition}
 use Rattle.machine.specs.Ids.{kept}
 use Rattle.machine.specs.Process.{object, carried, served, handed}
 use Rattle.machine.specs.Partition.{process, waitsOn, waiters, stored}
-use Rattle.machine.specs.Valid.{Between, contains, ListedIn}
+use Rattle.machine.specs.Theorems.Valid.{Between, contains, ListedIn}
 use Rattle.machine.proofs.Tracking.{kept-no}
 use Rattle.machine.proofs.Sound.{ready-off}
 use Rattle.machine.proofs.Keeping.{process-stored, process-other}

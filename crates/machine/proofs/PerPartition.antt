@@ -24,8 +24,8 @@ use Rattle.machine.specs.Module.{noPartition, part, queue, channel, with
 use Rattle.machine.specs.Channels.{portOf, otherEnd, erasedTo}
 use Rattle.machine.specs.Decisions.{replyOf}
 use Rattle.machine.specs.Step.{contextOf, decision, moduleAfter, step}
-use Rattle.machine.specs.Valid.{Valid, SoundEnd, SoundDecision, SoundModule, plainTick}
-use Rattle.machine.specs.Account.{isCall, codeAt, restartsBy}
+use Rattle.machine.specs.Theorems.Valid.{Valid, SoundEnd, SoundDecision, SoundModule, plainTick}
+use Rattle.machine.specs.Theorems.Account.{isCall, codeAt, restartsBy}
 use Rattle.machine.proofs.Tests.{by-test}
 use Rattle.machine.proofs.Refusals.{call-in-range}
 use Rattle.machine.proofs.Calling.{number-of}

@@ -18,12 +18,12 @@ use Rattle.machine.specs.declared.Time.the-variants.{Never, At}
 use Rattle.machine.specs.Process.{Class, classOf, isNever}
 use Rattle.machine.specs.Partition.{normalMode, process}
 use Rattle.machine.specs.Step.{step}
-use Rattle.machine.specs.LeftRight.{after}
-use Rattle.machine.specs.Valid.{Between, AtMost, SoundRelease, plainLater, SoundProcess, settingOf, Valid, Reached}
-use Rattle.machine.specs.Plain.{plainNumber}
-use Rattle.machine.specs.Starred.{own}
-use Rattle.machine.specs.EachProcess.{CallBy, StopOf, Erasure, Service, Becomes}
-use Rattle.machine.specs.Periods.{waitsPeriod, periodWaits, NeverStopped, Periods}
+use Rattle.machine.specs.Runs.{after}
+use Rattle.machine.specs.Theorems.Valid.{Between, AtMost, SoundRelease, plainLater, SoundProcess, settingOf, Valid, Reached}
+use Rattle.machine.specs.Theorems.Plain.{plainNumber}
+use Rattle.machine.specs.Theorems.Events.{own}
+use Rattle.machine.specs.Theorems.EachProcess.{CallBy, StopOf, Erasure, Service, Becomes}
+use Rattle.machine.specs.Theorems.Periods.{waitsPeriod, periodWaits, NeverStopped, Periods}
 use Rattle.machine.proofs.Tests.{and-left, and-right, not-both}
 use Rattle.machine.proofs.Either.{either}
 use Rattle.machine.proofs.Bounds.{not-so}

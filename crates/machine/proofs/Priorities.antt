@@ -18,13 +18,13 @@ use Rattle.machine.specs.Partition.{process, freshPartition}
 use Rattle.machine.specs.Module.{channel, noPartition, emptyTable, emptyModule, freshModule}
 use Rattle.machine.specs.Step.{step}
 use Rattle.machine.specs.Table.{readTable}
-use Rattle.machine.specs.LeftRight.{after}
-use Rattle.machine.specs.Valid.{Between, SoundModule, Reached}
-use Rattle.machine.specs.Plain.{plainBetween, plainNumber}
-use Rattle.machine.specs.Starred.{own}
-use Rattle.machine.specs.EachCall.{idOf}
-use Rattle.machine.specs.EachProcess.{Call, CallOf, StartOf, Erasure, Service, Becomes}
-use Rattle.machine.specs.Priorities.{priorityAfter, priorityAfterAll, NoneGives, Priorities}
+use Rattle.machine.specs.Runs.{after}
+use Rattle.machine.specs.Theorems.Valid.{Between, SoundModule, Reached}
+use Rattle.machine.specs.Theorems.Plain.{plainBetween, plainNumber}
+use Rattle.machine.specs.Theorems.Events.{own}
+use Rattle.machine.specs.Theorems.EachCall.{idOf}
+use Rattle.machine.specs.Theorems.EachProcess.{Call, CallOf, StartOf, Erasure, Service, Becomes}
+use Rattle.machine.specs.Theorems.Priorities.{priorityAfter, priorityAfterAll, NoneGives, Priorities}
 use Rattle.machine.proofs.Tests.{and-left, and-right, not-both}
 use Rattle.machine.proofs.Either.{either}
 use Rattle.machine.proofs.Answers.{step-table}

@@ -19,11 +19,11 @@ use Rattle.machine.specs.Fields.{isNumber, numberOf}
 use Rattle.machine.specs.Process.{classOf, object, ready, withCurrent, objectIn, waitsForNothing, startRule}
 use Rattle.machine.specs.Partition.{normalMode, process, stored}
 use Rattle.machine.specs.Calls.{setMode, createProcess, reaches, start, stop, stopSelf, suspend, suspendSelf, timedWait, periodicWait, resume, setPriority, getStatus}
-use Rattle.machine.specs.Valid.{SoundProcess, settingOf, SoundChange, latestDeadline}
+use Rattle.machine.specs.Theorems.Valid.{SoundProcess, settingOf, SoundChange, latestDeadline}
 use Rattle.machine.specs.Decisions.{blocked, startMode, dormant}
 use mathlib.Core.Logic.{inl, inr}
 use Rattle.machine.specs.Services.{services}
-use Rattle.machine.specs.Queues.{KeepsOrEnds}
+use Rattle.machine.specs.Theorems.Queues.{KeepsOrEnds}
 use Rattle.machine.proofs.Tests.{by-test, Passed}
 use Rattle.machine.proofs.Bounds.{or-false-parts, known-id}
 use Rattle.machine.proofs.Fields.{in-limits}

@@ -22,12 +22,12 @@ use Rattle.machine.specs.Limits.{timeLimit}
 use Rattle.machine.specs.Fields.{requestOf, numberOf}
 use Rattle.machine.specs.Ticks.{tickModule}
 use Rattle.machine.specs.Step.{moduleAfter, step}
-use Rattle.machine.specs.Valid.{Between, contains, ListedIn, Valid, SoundModule, Reached}
-use Rattle.machine.specs.Plain.{idsFrom, come, plainBetween, plainNumber, plainStored, followed}
-use Rattle.machine.specs.Starred.{own, callBy, Calling, Puts}
-use Rattle.machine.specs.EachCall.{Checks, with, periodicAt}
-use Rattle.machine.specs.ProcessStates.{OwnWait, StateChanges, TickLeaves, WaitStays, Suspensions, ProcessStates}
-use Rattle.machine.specs.EachProcess.{CallOf, CallBy, Tick, StartOf, StopOf, Erasure, Entry, Service, Becomes}
+use Rattle.machine.specs.Theorems.Valid.{Between, contains, ListedIn, Valid, SoundModule, Reached}
+use Rattle.machine.specs.Theorems.Plain.{idsFrom, come, plainBetween, plainNumber, plainStored, followed}
+use Rattle.machine.specs.Theorems.Events.{own, callBy, Calling, Puts}
+use Rattle.machine.specs.Theorems.EachCall.{Checks, with, periodicAt}
+use Rattle.machine.specs.Theorems.ProcessStates.{OwnWait, StateChanges, TickLeaves, WaitStays, Suspensions, ProcessStates}
+use Rattle.machine.specs.Theorems.EachProcess.{CallOf, CallBy, Tick, StartOf, StopOf, Erasure, Entry, Service, Becomes}
 use Rattle.machine.proofs.Tests.{Passed, codesIn, and-left, and-right, or-left, or-right, not-both}
 use Rattle.machine.proofs.Either.{either}
 use Rattle.machine.proofs.Bounds.{so}

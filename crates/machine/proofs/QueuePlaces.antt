@@ -14,13 +14,12 @@ use Rattle.machine.specs.Fields.{requestOf, numberOf}
 use Rattle.machine.specs.Ids.{kept}
 use Rattle.machine.specs.Partition.{waitsOn, waiters}
 use Rattle.machine.specs.Step.{step}
-use Rattle.machine.specs.TwoRuns.{keep}
-use Rattle.machine.specs.LeftRight.{next, answeredEvent, after, answers}
-use Rattle.machine.specs.Valid.{Between, Reached, contains}
-use Rattle.machine.specs.Starred.{own}
-use Rattle.machine.specs.Account.{placeIn}
-use Rattle.machine.specs.Queues.{joining, QueueAfter}
-use Rattle.machine.specs.ServedBefore.{ServedQueue, WaitsThroughout, before}
+use Rattle.machine.specs.Runs.{keep, next, answeredEvent, after, answers}
+use Rattle.machine.specs.Theorems.Valid.{Between, Reached, contains}
+use Rattle.machine.specs.Theorems.Events.{own}
+use Rattle.machine.specs.Theorems.Account.{placeIn}
+use Rattle.machine.specs.Theorems.Queues.{joining, QueueAfter}
+use Rattle.machine.specs.Theorems.ServedBefore.{ServedQueue, WaitsThroughout, before}
 use Rattle.machine.proofs.Either.{either}
 use Rattle.machine.proofs.Tests.{not-both}
 use Rattle.machine.proofs.Account.{step-size}

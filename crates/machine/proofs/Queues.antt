@@ -37,10 +37,10 @@ use Rattle.machine.specs.Places.{strayField}
 use Rattle.machine.specs.Module.{noPartition, channel, part, queue, withPart, withQueue, withTime}
 use Rattle.machine.specs.Ticks.{tickModule}
 use Rattle.machine.specs.Step.{contextOf, decision, moduleAfter, step}
-use Rattle.machine.specs.Valid.{Between, contains, Distinct, ListedIn, Valid, SoundDecision, SoundModule, Reached, plainTick}
-use Rattle.machine.specs.Plain.{followed, waitOver}
-use Rattle.machine.specs.Starred.{own, callBy, TimeOut, Calling, Gives}
-use Rattle.machine.specs.Queues.{SameObjects, has, joining, QueueAfter, FirstServed, NoneServed, AllServed}
+use Rattle.machine.specs.Theorems.Valid.{Between, contains, Distinct, ListedIn, Valid, SoundDecision, SoundModule, Reached, plainTick}
+use Rattle.machine.specs.Theorems.Plain.{followed, waitOver}
+use Rattle.machine.specs.Theorems.Events.{own, callBy, TimeOut, Calling, Gives}
+use Rattle.machine.specs.Theorems.Queues.{SameObjects, has, joining, QueueAfter, FirstServed, NoneServed, AllServed}
 use Rattle.machine.proofs.Tests.{by-test, not-both, or-right, and-left, and-right}
 use Rattle.machine.proofs.Bounds.{same-or-not, not-so, within-in, named-same, semaphore-in, event-in}
 use Rattle.machine.proofs.Either.{either}

@@ -18,7 +18,7 @@ use Rattle.machine.specs.Process.{blankProcess, ready, onObject, due, wo
 use Rattle.machine.specs.Partition.{within, replaced, process, normalMode, withProcesses, stored, eachFrom, tickPartition, sooner, soonestFrom, soonestOf, withSoonest, noted}
 use Rattle.machine.specs.Module.{noPartition, part, withPart}
 use Rattle.machine.specs.Ticks.{dueAt, tickAt, tickTo}
-use Rattle.machine.specs.Valid.{plainTickTo, Noted}
+use Rattle.machine.specs.Theorems.Valid.{plainTickTo, Noted}
 use Rattle.machine.proofs.Tests.{by-test}
 use Rattle.machine.proofs.Bounds.{replaced-same}
 

@@ -36,8 +36,8 @@ use Rattle.machine.specs.Channels.{queuing, queuingAt, seenAt, apart, ot
 use Rattle.machine.specs.Places.{noCaller}
 use Rattle.machine.specs.Step.{contextOf, decision, moduleAfter, step}
 use Rattle.machine.specs.Table.{readTable}
-use Rattle.machine.specs.Valid.Reached.{stepped}
-use Rattle.machine.specs.Valid.{Between, Valid, SoundQueue, SoundMove, SoundEnd, AllMessages, SoundContext, SoundDecision, SoundTable, SoundMessage, Noted, SoundModule, ValidModule, Reached, plainTickTo, plainTick}
+use Rattle.machine.specs.Theorems.Valid.Reached.{stepped}
+use Rattle.machine.specs.Theorems.Valid.{Between, Valid, SoundQueue, SoundMove, SoundEnd, AllMessages, SoundContext, SoundDecision, SoundTable, SoundMessage, Noted, SoundModule, ValidModule, Reached, plainTickTo, plainTick}
 use Rattle.machine.proofs.Tests.{by-test, and-left, and-right}
 use Rattle.machine.proofs.Fields.{in-limits}
 use Rattle.machine.proofs.Bounds.{same-or-not, within-in, getD-replicate-any}

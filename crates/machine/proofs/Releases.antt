@@ -5,10 +5,10 @@ use native.Mathlib.Omega.{arith}
 use Rattle.machine.specs.declared.Module.{Module}
 use Rattle.machine.specs.declared.Process.{Process}
 use Rattle.machine.specs.declared.Time.the-variants.{At}
-use Rattle.machine.specs.Valid.{SoundModule}
+use Rattle.machine.specs.Theorems.Valid.{SoundModule}
 use Rattle.machine.specs.Windows.{releasePoint, Release}
-use Rattle.machine.specs.Starred.{Calling}
-use Rattle.machine.specs.Releases.{Releases}
+use Rattle.machine.specs.Theorems.Events.{Calling}
+use Rattle.machine.specs.Theorems.Releases.{Releases}
 use Rattle.machine.proofs.Calling.{calling-sound, calling-low}
 use Rattle.machine.proofs.Corners.{releases-at, started-process}
 use Rattle.machine.proofs.Starts.{release-bounds, release-earliest, release-one, release-here, release-next, release-window}

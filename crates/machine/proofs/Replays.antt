@@ -20,9 +20,9 @@ use Rattle.machine.specs.Line.{inRange, allInRange, lineText}
 use Rattle.machine.specs.Step.{step}
 use Rattle.machine.specs.Module.{current, emptyTable, emptyModule}
 use Rattle.machine.specs.Windows.{lookup}
-use Rattle.machine.specs.TwoRuns.{replies, final}
+use Rattle.machine.specs.Runs.{replies, final}
 use Rattle.machine.specs.Replay.{eventOf, timeNumber, answerNumbers, lineAnswer, lineNext, texts}
-use Rattle.machine.specs.Valid.{NotAfter, AnswerInRange, ValidModule}
+use Rattle.machine.specs.Theorems.Valid.{NotAfter, AnswerInRange, ValidModule}
 use Rattle.machine.proofs.TextLine.{line-length}
 use Rattle.machine.proofs.WindowLeft.{current-known}
 use Rattle.machine.proofs.Reached.{step-valid}

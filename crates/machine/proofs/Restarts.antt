@@ -25,7 +25,7 @@ use Rattle.machine.specs.Process.{object, carried, served}
 use Rattle.machine.specs.Partition.{process, waitsOn, waiters, changedAll, noted}
 use Rattle.machine.specs.Module.{noPartition, channel, part, queue, withPart}
 use Rattle.machine.specs.Channels.{queuing, queuingAt, leadsInto, admitted, refilledAt, refilledTo}
-use Rattle.machine.specs.Valid.{Between, contains, Distinct, ListedIn, Valid, SoundModule}
+use Rattle.machine.specs.Theorems.Valid.{Between, contains, Distinct, ListedIn, Valid, SoundModule}
 use Rattle.machine.proofs.Tests.{by-test, not-both}
 use Rattle.machine.proofs.Bounds.{same-or-not}
 use Rattle.machine.proofs.Either.{either}

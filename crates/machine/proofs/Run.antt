@@ -15,8 +15,9 @@ use Rattle.machine.specs.Ticks as Ti
 use Rattle.machine.specs.Places as Pl
 use Rattle.machine.specs.Step as St
 use Rattle.machine.specs.Table.{readTable}
-use Rattle.machine.specs.LeftRight.{after, answers, LeftRight}
-use Rattle.machine.specs.Valid.{SoundTable}
+use Rattle.machine.specs.Runs.{after, answers}
+use Rattle.machine.specs.Theorems.LeftRight.{LeftRight}
+use Rattle.machine.specs.Theorems.Valid.{SoundTable}
 use Rattle.machine.proofs.Tests.{by-test}
 use Rattle.machine.proofs.Dispatch.{ticks-decided}
 use Rattle.machine.proofs.Isolation.{left-right}

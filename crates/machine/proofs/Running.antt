@@ -13,7 +13,7 @@ use Rattle.machine.specs.declared.Choice.{Choice}
 use Rattle.machine.specs.Ids.{members}
 use Rattle.machine.specs.Process.{ready}
 use Rattle.machine.specs.Partition.{normalMode, locked, process, chosen, running}
-use Rattle.machine.specs.Valid.{contains, ListedIn, LockIn, Runs}
+use Rattle.machine.specs.Theorems.Valid.{contains, ListedIn, LockIn, Runs}
 use Rattle.machine.proofs.Tests.{by-test, not-both}
 use Rattle.machine.proofs.Bounds.{so}
 use Rattle.machine.proofs.Either.{either}

@@ -29,13 +29,13 @@ use Rattle.machine.specs.Table.{readTable}
 use Rattle.machine.specs.Ticks.{partitionCount}
 use Rattle.machine.specs.Channels.{portOf}
 use Rattle.machine.specs.Step.{moduleAfter, step}
-use Rattle.machine.specs.LeftRight.{next, answeredEvent, after, answers}
-use Rattle.machine.specs.Plain.{plainNumber}
-use Rattle.machine.specs.Valid.{SoundModule, ValidModule, Reached}
-use Rattle.machine.specs.Starred.{callBy, Gives, Refuses, Calling}
-use Rattle.machine.specs.Account.{isCall, codeAt, restartsBy, messageIn}
-use Rattle.machine.specs.EachCall.{idOf, Checks}
-use Rattle.machine.specs.Latest.{along, done, written, lastWritten}
+use Rattle.machine.specs.Runs.{next, answeredEvent, after, answers}
+use Rattle.machine.specs.Theorems.Plain.{plainNumber}
+use Rattle.machine.specs.Theorems.Valid.{SoundModule, ValidModule, Reached}
+use Rattle.machine.specs.Theorems.Events.{callBy, Gives, Refuses, Calling}
+use Rattle.machine.specs.Theorems.Account.{isCall, codeAt, restartsBy, messageIn}
+use Rattle.machine.specs.Theorems.EachCall.{idOf, Checks}
+use Rattle.machine.specs.Theorems.Latest.{along, done, written, lastWritten}
 use Rattle.machine.proofs.Tests.{by-test, not-both, and-left, and-right}
 use Rattle.machine.proofs.Bounds.{not-so, getD-replicate-any}
 use Rattle.machine.proofs.Tables.{table-read}

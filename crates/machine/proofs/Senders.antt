@@ -19,8 +19,8 @@ use Rattle.machine.specs.Messages.{sent, received, endsWait}
 use Rattle.machine.specs.Process.{object, carried, served}
 use Rattle.machine.specs.Partition.{process, endedBy, firstWaiter, waiters, changedAll, nothingCreated, noted}
 use Rattle.machine.specs.Channels.{otherEnd, otherQueue, portOf, passed, erasedTo}
-use Rattle.machine.specs.Valid.{SoundModule}
-use Rattle.machine.specs.Queues.{queueNumber}
+use Rattle.machine.specs.Theorems.Valid.{SoundModule}
+use Rattle.machine.specs.Theorems.Queues.{queueNumber}
 use Rattle.machine.proofs.Tests.{by-test}
 use Rattle.machine.proofs.Dispatch.{Calls}
 use Rattle.machine.proofs.Bodies.{Sends, Receives, OnQueue}

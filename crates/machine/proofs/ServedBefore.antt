@@ -17,17 +17,17 @@ use Rattle.machine.specs.declared.Partition.{Partition}
 use Rattle.machine.specs.Partition.{process, buffer, waitsOn}
 use Rattle.machine.specs.Messages.{held}
 use Rattle.machine.specs.Module.{channel, queue}
-use Rattle.machine.specs.Plain.{waitOver}
+use Rattle.machine.specs.Theorems.Plain.{waitOver}
 use Rattle.machine.specs.Limits.{durationLimit}
-use Rattle.machine.specs.EachCall.{idOf, inD, Checks}
-use Rattle.machine.specs.Latest.{done}
+use Rattle.machine.specs.Theorems.EachCall.{idOf, inD, Checks}
+use Rattle.machine.specs.Theorems.Latest.{done}
 use Rattle.machine.specs.Step.{step}
-use Rattle.machine.specs.LeftRight.{next, answeredEvent}
-use Rattle.machine.specs.Valid.{Between, SoundChannel, SoundModule, Reached, contains}
-use Rattle.machine.specs.Starred.{own, callBy, Puts}
-use Rattle.machine.specs.Account.{codeAt, restartsBy}
-use Rattle.machine.specs.Queues.{EndOf}
-use Rattle.machine.specs.ServedBefore.{ofSemaphore, ofEvent, ofBoard, ofReceivers, ofSenders, atDestination, atSource, ServedBefore}
+use Rattle.machine.specs.Runs.{next, answeredEvent}
+use Rattle.machine.specs.Theorems.Valid.{Between, SoundChannel, SoundModule, Reached, contains}
+use Rattle.machine.specs.Theorems.Events.{own, callBy, Puts}
+use Rattle.machine.specs.Theorems.Account.{codeAt, restartsBy}
+use Rattle.machine.specs.Theorems.Queues.{EndOf}
+use Rattle.machine.specs.Theorems.ServedBefore.{ofSemaphore, ofEvent, ofBoard, ofReceivers, ofSenders, atDestination, atSource, ServedBefore}
 use Rattle.machine.proofs.Either.{either}
 use Rattle.machine.proofs.Bounds.{so}
 use Rattle.machine.proofs.Tests.{Passed, codesIn, and-left, and-right}

@@ -26,11 +26,11 @@ use Rattle.machine.specs.Ticks.{partitionCount}
 use Rattle.machine.specs.Channels.{portOf}
 use Rattle.machine.specs.Services.{callDecision}
 use Rattle.machine.specs.Step.{contextOf, moduleAfter, step}
-use Rattle.machine.specs.TwoRuns.{keep}
-use Rattle.machine.specs.LeftRight.{next, answeredEvent, answers, isTick}
-use Rattle.machine.specs.Valid.{Between, SoundWindows, SoundTable, Reached}
-use Rattle.machine.specs.Share.{howMany, durations, ticked, tickedInto, Share}
-use Rattle.machine.specs.Account.{codeAt}
+use Rattle.machine.specs.Runs.{keep, next, answeredEvent, answers}
+use Rattle.machine.specs.Theorems.LeftRight.{isTick}
+use Rattle.machine.specs.Theorems.Valid.{Between, SoundWindows, SoundTable, Reached}
+use Rattle.machine.specs.Theorems.Share.{howMany, durations, ticked, tickedInto, Share}
+use Rattle.machine.specs.Theorems.Account.{codeAt}
 use Rattle.machine.proofs.Tests.{by-test, and-left}
 use Rattle.machine.proofs.Either.{either}
 use Rattle.machine.proofs.Starts.{frame-some}

@@ -15,7 +15,7 @@ use Rattle.machine.specs.declared.Time.{Time}
 use Rattle.machine.specs.declared.Time.the-variants.{Never, At}
 use Rattle.machine.specs.Limits.{priorityLimit, durationLimit, timeLimit, frameLimit, greatestTime}
 use Rattle.machine.specs.Process.{Class, classOf, objectIn, forNothing, createdProcess, capped, later, due, isNever, periodic, onObject, object, carriedIn, carried, waitsForNothing, waitsForNormal, ready, withDeadline, served, handed, withSuspended, withCurrent, waitingFor, suspendedUntil, onlyMarked, woken, expired, ticked, begun, startRule, startedEarly, entered, stopped, resumed, nextRelease}
-use Rattle.machine.specs.Valid.{Between, latestWake, latestDeadline, AtMost, NotAfter, Ahead, Timeout, SoundPeriod, Below, SoundCapacity, SoundGiven, Timeless, Bounded, Dormant, Early, KnownWait, SoundWake, Released, SoundRelease, Setting, setting, Going, Lasting, LastingIn, SoundCode, SoundMark, SoundProcess}
+use Rattle.machine.specs.Theorems.Valid.{Between, latestWake, latestDeadline, AtMost, NotAfter, Ahead, Timeout, SoundPeriod, Below, SoundCapacity, SoundGiven, Timeless, Bounded, Dormant, Early, KnownWait, SoundWake, Released, SoundRelease, Setting, setting, Going, Lasting, LastingIn, SoundCode, SoundMark, SoundProcess}
 use Rattle.machine.proofs.Tests.{by-test, not-both}
 use Rattle.machine.proofs.Bounds.{not-so, so, and-true-parts}
 use Rattle.machine.proofs.Either.{either}

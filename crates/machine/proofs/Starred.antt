@@ -41,9 +41,10 @@ use Rattle.machine.specs.Ticks as Ti
 use Rattle.machine.specs.Channels as Ch
 use Rattle.machine.specs.Places as Pl
 use Rattle.machine.specs.Step as St
-use Rattle.machine.specs.Starred.{own, callBy, tick, Gives, Calling, WaitEnded, ReadyUnmarked, Ticks, Mistakes, Starred}
-use Rattle.machine.specs.Valid.{Between, SoundModule, contains, plainTick}
-use Rattle.machine.specs.Plain.{letGo}
+use Rattle.machine.specs.Theorems.Events.{own, callBy, tick, Gives, Calling}
+use Rattle.machine.specs.Theorems.Starred.{WaitEnded, ReadyUnmarked, Ticks, Mistakes, Starred}
+use Rattle.machine.specs.Theorems.Valid.{Between, SoundModule, contains, plainTick}
+use Rattle.machine.specs.Theorems.Plain.{letGo}
 use Rattle.machine.proofs.Tests.{by-test, and-left, and-right}
 use Rattle.machine.proofs.Bounds.{not-so}
 use Rattle.machine.proofs.Dispatch.{by-event, by-decision, ticks-decided}

@@ -14,8 +14,8 @@ use Rattle.machine.specs.Limits.{processLimit}
 use Rattle.machine.specs.Ids.{members, idsOf, removed, follow}
 use Rattle.machine.specs.Process.{blankProcess, ready, onObject}
 use Rattle.machine.specs.Partition.{byId, process, stored}
-use Rattle.machine.specs.Valid.{Between, Tracks, ListedIn}
-use Rattle.machine.specs.Plain.{plainById, followed, plainStored}
+use Rattle.machine.specs.Theorems.Valid.{Between, Tracks, ListedIn}
+use Rattle.machine.specs.Theorems.Plain.{plainById, followed, plainStored}
 use Rattle.machine.proofs.Bounds.{within-in, outside-high, named-in, named-out, stored-in}
 use Rattle.machine.proofs.Either.{either}
 use Rattle.machine.proofs.Tracking.{tracks-room, appended-plain}

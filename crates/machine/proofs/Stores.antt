@@ -38,7 +38,7 @@ use Rattle.machine.specs.Buffers.{createBuffer, sendBuffer, receiveBuffe
 use Rattle.machine.specs.Blackboards.{createBlackboard, show, readBlackboard, clear}
 use Rattle.machine.specs.Channels.{write, read, send, receive}
 use Rattle.machine.specs.Services.{Service, services, callDecision}
-use Rattle.machine.specs.Valid.{Between, Numbered, Valid}
+use Rattle.machine.specs.Theorems.Valid.{Between, Numbered, Valid}
 use Rattle.machine.proofs.Tests.{by-test, by-checks, Passed, passed-parts, and-left, not-both, or-left, or-right}
 use Rattle.machine.proofs.Bounds.{known-id, within-in, named-in}
 use Rattle.machine.proofs.Dispatch.{Each, by-number}

@@ -16,9 +16,9 @@ use Rattle.machine.specs.Messages.{noQueue}
 use Rattle.machine.specs.Decisions.{noMessage}
 use Rattle.machine.specs.Partition.{freshPartition}
 use Rattle.machine.specs.Module.{freshModule, noPartition}
-use Rattle.machine.specs.Plain.{plainBetween, plainNumber}
-use Rattle.machine.specs.EachCall.{idOf}
-use Rattle.machine.specs.TableLines.{firstLine, firstDraft, windowLine, windowDraft, channelLine, channelDraft, TableLines, FlaggedIn}
+use Rattle.machine.specs.Theorems.Plain.{plainBetween, plainNumber}
+use Rattle.machine.specs.Theorems.EachCall.{idOf}
+use Rattle.machine.specs.Theorems.TableLines.{firstLine, firstDraft, windowLine, windowDraft, channelLine, channelDraft, TableLines, FlaggedIn}
 use Rattle.machine.proofs.Tests.{and-left, and-right, not-both}
 use Rattle.machine.proofs.Bounds.{getD-replicate-any}
 use Rattle.machine.proofs.Either.{either}

@@ -26,7 +26,7 @@ use Rattle.machine.specs.Fields.{rowOf, between, isNumber, numberOf}
 use Rattle.machine.specs.Windows.{windows, noWindow}
 use Rattle.machine.specs.Module.{channel, noChannel, emptyModule, freshModule}
 use Rattle.machine.specs.Table as T
-use Rattle.machine.specs.Valid.{Between, SoundWindow, SoundWindows, SoundChannel, SoundTable}
+use Rattle.machine.specs.Theorems.Valid.{Between, SoundWindow, SoundWindows, SoundChannel, SoundTable}
 use Rattle.machine.proofs.Tests.{by-test, and-left, and-right, not-both}
 use Rattle.machine.proofs.Fields.{in-limits}
 

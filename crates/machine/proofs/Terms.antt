@@ -5,10 +5,10 @@ use mathlib.Core.Bool.{true, cond, not}
 use native.Mathlib.Omega.{arith}
 use lib.Dec.{eqb}
 use Rattle.machine.specs.Process.{Class, carried, carriedIn, classOf, object, objectIn}
-use Rattle.machine.specs.Valid.{KnownWait, SoundModule, Valid, contains}
+use Rattle.machine.specs.Theorems.Valid.{KnownWait, SoundModule, Valid, contains}
 use Rattle.machine.specs.declared.Module.{Module}
 use Rattle.machine.specs.declared.Partition.{Partition}
-use Rattle.machine.specs.Terms.{Terms, WhoWaits}
+use Rattle.machine.specs.Theorems.Terms.{Terms, WhoWaits}
 use Rattle.machine.specs.declared.Wait.{Wait}
 use Rattle.machine.specs.declared.Wait.the-variants.{None, Normal, Delay, Timed, Period, Semaphore, Event, Sending, Receiving, Blackboard, Source, Destination}
 use Rattle.machine.proofs.Reasons.{for-none, for-normal}

@@ -11,9 +11,9 @@ use Rattle.machine.specs.Calls as C
 use Rattle.machine.specs.Windows.{windows, lookup, StartAt, Uncovered}
 use Rattle.machine.specs.Module.{emptyTable, emptyModule, window, current, ticksLeft}
 use Rattle.machine.specs.Step.{step}
-use Rattle.machine.specs.LeftRight.{after}
-use Rattle.machine.specs.Valid.{SoundTable, SoundModule, Reached}
-use Rattle.machine.specs.TicksLeft.{TicksLeft}
+use Rattle.machine.specs.Runs.{after}
+use Rattle.machine.specs.Theorems.Valid.{SoundTable, SoundModule, Reached}
+use Rattle.machine.specs.Theorems.TicksLeft.{TicksLeft}
 use Rattle.machine.proofs.EachCall.{each-call}
 use Rattle.machine.proofs.WindowLeft.{window-left}
 use Rattle.machine.proofs.Reached.{reached-valid}

@@ -11,7 +11,7 @@ use borrow.Author.Tests.{eq-eqb, ne-eqb, eqb-true, eqb-false}
 use Rattle.machine.specs.declared.Ids.{Ids}
 use Rattle.machine.specs.Limits.{processLimit}
 use Rattle.machine.specs.Ids.{members, idsOf, keptIf, kept, other, appended, removed, follow}
-use Rattle.machine.specs.Valid.{contains, Distinct, Tracks}
+use Rattle.machine.specs.Theorems.Valid.{contains, Distinct, Tracks}
 use Rattle.machine.proofs.Lists.{members-idsOf, appended-idsOf}
 use Rattle.machine.proofs.Tests.{not-both}
 use Rattle.machine.proofs.Bounds.{same-or-not, or-false-parts}

@@ -32,10 +32,10 @@ use Rattle.machine.specs.Services.{services, callDecision}
 use Rattle.machine.specs.Places.{strayField}
 use Rattle.machine.specs.Module.{noPartition, channel, queue, withPart, withQueue}
 use Rattle.machine.specs.Step.{step}
-use Rattle.machine.specs.Valid.{Between, SoundModule, SoundMove}
-use Rattle.machine.specs.Starred.{own, callBy, TimeOut, Calling, Gives}
-use Rattle.machine.specs.Queues.{FirstServed, has, EndOf, ChannelCalls}
-use Rattle.machine.specs.Plain.{plainMoved}
+use Rattle.machine.specs.Theorems.Valid.{Between, SoundModule, SoundMove}
+use Rattle.machine.specs.Theorems.Events.{own, callBy, TimeOut, Calling, Gives}
+use Rattle.machine.specs.Theorems.Queues.{FirstServed, has, EndOf, ChannelCalls}
+use Rattle.machine.specs.Theorems.Plain.{plainMoved}
 use Rattle.machine.proofs.Either.{either}
 use Rattle.machine.proofs.Lists.{cons-not}
 use Rattle.machine.proofs.Messages.{queue-first, queue-length, moved-held}

@@ -26,11 +26,11 @@ use Rattle.machine.specs.Messages.{sent, received}
 use Rattle.machine.specs.Process.{blankProcess, object, served, handed, stopped, forNothing, waitsForNothing, waitsForNormal, ready, entered, carried}
 use Rattle.machine.specs.Partition.{byId, normalMode, process, stored, created, storedBuffer, movedIn, endedBy, buffer, waiters, firstWaiter, changedAll, withMode, enteredNormal, applied, running}
 use Rattle.machine.specs.Step.{contextOf}
-use Rattle.machine.specs.Valid.{Between, contains, Distinct, Valid, ListedIn, SoundModule, SoundChange, SoundEnd, settingOf}
-use Rattle.machine.specs.Plain.{idsFrom}
-use Rattle.machine.specs.Starred.{own}
-use Rattle.machine.specs.EachCall.{idOf, with, withPriority}
-use Rattle.machine.specs.EachProcess.{waitOf, servedBy, Call, CallOf, CallBy, Tick, Service, ActsElsewhere, Becomes}
+use Rattle.machine.specs.Theorems.Valid.{Between, contains, Distinct, Valid, ListedIn, SoundModule, SoundChange, SoundEnd, settingOf}
+use Rattle.machine.specs.Theorems.Plain.{idsFrom}
+use Rattle.machine.specs.Theorems.Events.{own}
+use Rattle.machine.specs.Theorems.EachCall.{idOf, with, withPriority}
+use Rattle.machine.specs.Theorems.EachProcess.{waitOf, servedBy, Call, CallOf, CallBy, Tick, Service, ActsElsewhere, Becomes}
 use Rattle.machine.proofs.Tests.{by-test, not-both, or-right}
 use Rattle.machine.proofs.Bounds.{same-or-not, within-in, named-same, named-other, created-in, buffer-in}
 use Rattle.machine.proofs.Keeping.{process-other, process-stored, changed-process, each-changed, AllCreated, from-range, distinct-from}

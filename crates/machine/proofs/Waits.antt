@@ -17,12 +17,12 @@ use Rattle.machine.specs.declared.Waiting.{Waiting}
 use Rattle.machine.specs.declared.Window.{Window}
 use Rattle.machine.specs.Limits.{timeLimit, greatestTime}
 use Rattle.machine.specs.Module.{current}
-use Rattle.machine.specs.Plain.{plainBetween}
-use Rattle.machine.specs.LeftRight.{after}
-use Rattle.machine.specs.Valid.{Between, SoundTable, SoundModule, Reached}
+use Rattle.machine.specs.Theorems.Plain.{plainBetween}
+use Rattle.machine.specs.Runs.{after}
+use Rattle.machine.specs.Theorems.Valid.{Between, SoundTable, SoundModule, Reached}
 use Rattle.machine.specs.Windows.{noWindow, windows, covers, ownedBy, startsFrom, nextStart, lookup, Uncovered, startsAt, waitingOf, WaitingTime}
-use Rattle.machine.specs.Waits.{waitingNow, WaitsExample, Waits}
-use Rattle.machine.specs.Examples as E
+use Rattle.machine.specs.Theorems.Waits.{waitingNow, WaitsExample, Waits}
+use Rattle.machine.specs.Theorems.Examples as E
 use Rattle.machine.specs.Line as X
 use Rattle.machine.specs.Module as M
 use Rattle.machine.specs.Table as R

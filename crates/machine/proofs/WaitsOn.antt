@@ -10,7 +10,7 @@ use Rattle.machine.specs.declared.Wait.{Wait}
 use Rattle.machine.specs.declared.Wait.the-variants.{None, Normal, Delay, Timed, Period, Semaphore, Event, Sending, Receiving, Blackboard, Source, Destination}
 use Rattle.machine.specs.Process.{classOf, carriedIn, carried, object, onObject}
 use Rattle.machine.specs.Partition.{normalMode, process}
-use Rattle.machine.specs.Valid.{Between, KnownWait, Valid}
+use Rattle.machine.specs.Theorems.Valid.{Between, KnownWait, Valid}
 use Rattle.machine.proofs.Either.{either}
 use Rattle.machine.proofs.Keeping.{process-created}
 use Rattle.machine.proofs.Fairness.{counts-low}

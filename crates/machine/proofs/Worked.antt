@@ -3,8 +3,8 @@ use Prim.Native.Nat.{ℕ}
 use mathlib.Core.Path.{_≡_, refl}
 use mathlib.Core.Bool.{Bool, true, false}
 use mathlib.Core.List.{List, [], _∷_, _++_}
-use Rattle.machine.specs.Examples as E
-use Rattle.machine.specs.Starred.{Worked}
+use Rattle.machine.specs.Theorems.Examples as E
+use Rattle.machine.specs.Theorems.Starred.{Worked}
 use Rattle.machine.specs.Line as X
 use Rattle.machine.specs.Table as T
 use Rattle.machine.specs.Windows as Wi

@@ -1,6 +1,6 @@
 -- The replay of a whole input, as the program prints it.
 use Prim.Native.Nat.{ℕ}
-use mathlib.Core.Bool.{Bool, true, false, cond}
+use mathlib.Core.Bool.{cond}
 use mathlib.Core.List.{List, [], _∷_, _++_, map}
 use lib.ListN.{length, drop}
 use lib.Dec.{eqb, leb}
@@ -19,7 +19,7 @@ use Rattle.machine.specs.Line.{readLine, lines, lineText, lineRefusal}
 use Rattle.machine.specs.Step.{step}
 use Rattle.machine.specs.Module.{current}
 use Rattle.machine.specs.Table.{readTable}
-use Rattle.machine.specs.TwoRuns.{final, replies}
+use Rattle.machine.specs.Runs.{final, replies}
 
 -- An event is partition, call, a, b, c, e.
 abbrev pub eventOf : Numbers → Event

@@ -15,7 +15,7 @@ use Rattle.machine.specs.declared.Line.{Line}
 use Rattle.machine.specs.declared.Line.the-variants.{Six, Bad}
 use Rattle.machine.specs.declared.Module.{Module}
 use Rattle.machine.specs.declared.Numbers.{Numbers}
-use Rattle.machine.specs.LeftRight.{after}
+use Rattle.machine.specs.Runs.{after}
 use Rattle.machine.specs.Limits.{lineLength}
 use Rattle.machine.specs.Line.{lineFeed, lineText, numberList, readLine, lines}
 use Rattle.machine.specs.Replay.{eventOf, answerNumbers}

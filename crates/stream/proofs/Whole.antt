@@ -18,9 +18,9 @@ use Rattle.machine.specs.Limits.{lineLength, windowLimit, channelLimit}
 use Rattle.machine.specs.Line.{lineEnd, lineFeed, lineText, readLine, lines, lineRefusal, numbersOf}
 use Rattle.machine.specs.Module.{emptyModule}
 use Rattle.machine.specs.Table.{refusedTable, tableOf, readTable}
-use Rattle.machine.specs.TwoRuns.{final, replies}
+use Rattle.machine.specs.Runs.{final, replies}
 use Rattle.machine.specs.Replay.{lineAnswer, lineNext, texts, badTableLine, replayed, replayedRecord}
-use Rattle.machine.specs.Valid.{ValidModule, Reached}
+use Rattle.machine.specs.Theorems.Valid.{ValidModule, Reached}
 use Rattle.machine.proofs.Either.{either}
 use Rattle.machine.proofs.Reached.{reached-valid}
 use Rattle.machine.proofs.Replays.{line-valid, line-in-range}

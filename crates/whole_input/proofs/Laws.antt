@@ -15,14 +15,13 @@ use Rattle.machine.specs.declared.Event.{Event}
 use Rattle.machine.specs.declared.Line.{Line}
 use Rattle.machine.specs.declared.Line.the-variants.{Six, Bad}
 use Rattle.machine.specs.declared.Numbers.{Numbers}
-use Rattle.machine.specs.LeftRight.{after}
+use Rattle.machine.specs.Runs.{after, replies}
 use Rattle.machine.specs.Step.{step}
 use Rattle.machine.specs.Limits.{lineLength}
 use Rattle.machine.specs.Line.{lineText, readLine, lines, lineEnd, readAt, allInRange, canWrite, writeCode, written, writtenAt}
 use Rattle.machine.specs.Table.{readTable}
-use Rattle.machine.specs.TwoRuns.{replies}
 use Rattle.machine.specs.Replay.{eventOf, answerNumbers, lineAnswer, lineNext, texts, refusalNumbers, badTableLine, eventLines, replayed, textInto}
-use Rattle.machine.specs.Valid.{ValidModule, Reached}
+use Rattle.machine.specs.Theorems.Valid.{ValidModule, Reached}
 use Rattle.machine.proofs.Bounds.{and-true-parts}
 use Rattle.machine.proofs.Either.{either}
 use Rattle.machine.proofs.Reached.{reached-valid}

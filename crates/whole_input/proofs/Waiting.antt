@@ -18,7 +18,7 @@ use Rattle.machine.specs.Limits.{lineLength, numberLimit}
 use Rattle.machine.specs.Line.{lineRefusal, lineText, inRange, allInRange, readLine, lines, lineEnd, readAt, written, writtenAt}
 use Rattle.machine.specs.Replay.{texts, refusalNumbers}
 use Rattle.machine.specs.Table.{readTable}
-use Rattle.machine.specs.Valid.{SoundTable}
+use Rattle.machine.specs.Theorems.Valid.{SoundTable}
 use Rattle.machine.specs.Windows.{ownedBy, nextStart, waitingRefused, waitingOf}
 use Rattle.machine.proofs.Starts.{next-bounds}
 use Rattle.machine.proofs.Tables.{table-read}

@@ -17,11 +17,11 @@ use Rattle.machine.specs.Partition.{event, blackboard}
 use Rattle.machine.specs.Module.{channel, message}
 use Rattle.machine.specs.Step.{step}
 use Rattle.machine.specs.Table.{readTable}
-use Rattle.machine.specs.LeftRight.{next, after, answers}
-use Rattle.machine.specs.Plain.{plainNumber, plainBetween}
-use Rattle.machine.specs.Starred.{own, callBy, Gives, Refuses, Calling}
-use Rattle.machine.specs.Account.{isCall, restartsBy, erased, messageIn}
-use Rattle.machine.specs.EachCall.{MayWait, inT}
+use Rattle.machine.specs.Runs.{next, after, answers}
+use Rattle.machine.specs.Theorems.Plain.{plainNumber, plainBetween}
+use Rattle.machine.specs.Theorems.Events.{own, callBy, Gives, Refuses, Calling}
+use Rattle.machine.specs.Theorems.Account.{isCall, restartsBy, erased, messageIn}
+use Rattle.machine.specs.Theorems.EachCall.{MayWait, inT}
 
 -- ---------------------------------------------------------------- events with their answers
 -- from x on, one after the other

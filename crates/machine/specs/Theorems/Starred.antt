@@ -4,12 +4,11 @@
 -- event as computed runs from bytes. The premises speak of an event's numbers, the table, the record, the current partition and the running process.
 use Prim.Native.Nat.{ℕ, suc, _+_, _-_, _*_, _/_, _%_, _≤_, _<_}
 use mathlib.Core.Path.{_≡_}
-use mathlib.Core.Bool.{Bool, true, false, cond, _||_}
+use mathlib.Core.Bool.{Bool, true, false, cond}
 use mathlib.Core.List.{List, [], _∷_, _++_, map}
-use lib.ListN.{set, take}
+use lib.ListN.{take}
 use lib.IntN.{ℤ, pos}
 use Rattle.machine.specs.declared.Given.{Given}
-use Rattle.machine.specs.declared.Ids.{Ids}
 use Rattle.machine.specs.declared.Process.{Process}
 use Rattle.machine.specs.declared.Partition.{Partition}
 use Rattle.machine.specs.declared.Event.{Event as EventT}
@@ -18,17 +17,18 @@ use Rattle.machine.specs.declared.Wait.the-variants.{None, Normal, Delay
 use Rattle.machine.specs.declared.Time.{Time}
 use Rattle.machine.specs.declared.Time.the-variants.{Never, At}
 use Rattle.machine.specs.Limits.{processLimit, semaphoreLimit, eventLimit, bufferLimit, messageLimit, blackboardLimit, nameLimit, priorityLimit, valueLimit, modeLimit, callLimit, levelLimit, durationLimit, timeLimit, frameLimit, partitionLimit, windowLimit, channelLimit, sizeLimit, numberLimit, lineLength}
-use Rattle.machine.specs.Ids.{members, idsOf, kept, other}
+use Rattle.machine.specs.Ids.{members}
 use Rattle.machine.specs.Process.{object, carried, ready, withCurrent}
-use Rattle.machine.specs.Partition.{process, semaphore, event, buffer, blackboard, waiters, running, nothingCreated, noted, withProcesses, withSemaphores, withEvents, withBuffers, withBlackboards}
-use Rattle.machine.specs.Messages.{held, queueOf}
+use Rattle.machine.specs.Partition.{process, semaphore, event, buffer, blackboard, waiters, running, nothingCreated, noted, withProcesses}
+use Rattle.machine.specs.Messages.{held}
 use Rattle.machine.specs.Windows.{Release, NextFlagged}
-use Rattle.machine.specs.Module.{part, message, queue, channel, current, withPart}
+use Rattle.machine.specs.Module.{part, message, queue, channel, current}
 use Rattle.machine.specs.Step.{step}
-use Rattle.machine.specs.Valid.{Between, SoundPeriod, SoundCapacity, Reached, contains, plainLater}
-use Rattle.machine.specs.Plain.{plainBetween, plainMinusOne, letGo}
+use Rattle.machine.specs.Theorems.Valid.{Between, SoundPeriod, SoundCapacity, Reached, contains, plainLater}
+use Rattle.machine.specs.Theorems.Plain.{letGo}
 use Rattle.machine.specs.Replay.{replayed, replayedRecord, timeNumber}
-use Rattle.machine.specs.Examples.{text, table, events, printed, toFour, tickLine, printedAfter, twoWindows, startedInFirst, releasedInSecond, oneWindow, lockedUpdate, lockedAnswers, adjacentWindows, askedLeft, leftAnswers, twoQueues, restartedReader, letInByNumber, noEvent, noEventAnswers}
+use Rattle.machine.specs.Theorems.Examples.{text, table, events, printed, toFour, tickLine, printedAfter, twoWindows, startedInFirst, releasedInSecond, oneWindow, lockedUpdate, lockedAnswers, adjacentWindows, askedLeft, leftAnswers, twoQueues, restartedReader, letInByNumber, noEvent, noEventAnswers}
+use Rattle.machine.specs.Theorems.Events.{Calling, Gives, Puts, Refuses, atEnd, callBy, own, tick, withNew, withNewBlackboard, withNewBuffer, withNewEvent, withNewSemaphore, withProcess, withSemaphoreAt, without}
 
 -- the worked example prints its six lines; continued, t = 4 runs 1, t = 5 sets missed, t = 6 current 2
 pub record Worked : Type 0 where
@@ -56,83 +56,6 @@ pub record Numbers : Type 0 where
   pub fields : nameLimit ∷ priorityLimit ∷ valueLimit ∷ durationLimit ∷ callLimit ∷ timeLimit ∷ [] ≡ 255 ∷ 239 ∷ 32767 ∷ 9999999 ∷ 34 ∷ 99999999 ∷ []
   -- tables: M 1..10,000, P 1..8, windows 1..32, channels 0..16, queues of 1..8 messages; lines of 61 bytes, numbers to 999,999,999
   pub table : frameLimit ∷ partitionLimit ∷ windowLimit ∷ channelLimit ∷ sizeLimit ∷ lineLength ∷ numberLimit ∷ [] ≡ 10000 ∷ 8 ∷ 32 ∷ 16 ∷ 8 ∷ 61 ∷ 999999999 ∷ []
-
--- ---------------------------------------------------------------- events, and what they give
--- partition k's record
-abbrev pub own : Module → ℕ → Partition
-own m k = part m (k - 1)
-
--- call n of partition k with its four fields
-abbrev pub callBy : ℕ → ℕ → ℤ → ℤ → ℤ → ℤ → EventT
-callBy k n a b c e = record { partition = pos k; call = pos n; a = a; b = b; c = c; e = e }
-
--- Partition 0, call 0 is a tick.
-abbrev pub tick : EventT
-tick = callBy 0 0 (pos 0) (pos 0) (pos 0) (pos 0)
-
--- the answer begins with these three numbers, and this is the record after the event
-pub record Gives (m : Module) (e : EventT) (code value : ℕ) (extra : Time) (q : Module) : Type 0 where
-  pub codeIs : step m e .answer .code ≡ code
-  pub valueIs : step m e .answer .value ≡ value
-  pub extraIs : step m e .answer .extra ≡ extra
-  pub state : step m e .state ≡ q
-
--- refused with this code; the whole record stays
-abbrev pub Refuses : Module → EventT → ℕ → Type 0
-Refuses m e code = Gives m e code 0 (At 0) m
-
--- a time-out: −1, or 0..9,999,999
-abbrev pub TimeOut : ℤ → Type 0
-TimeOut a = (plainMinusOne a || plainBetween 0 durationLimit a) ≡ true
-
--- partition k has the record p from now on, and nothing else changes
-abbrev pub Puts : Module → EventT → ℕ → ℕ → ℕ → Partition → Type 0
-Puts m e code value k p = Gives m e code value (At 0) (withPart (k - 1) p m)
-
--- a call of partition k comes to its body: the record is reached, the partition is current and not IDLE, and in NORMAL a process runs
-pub record Calling (m : Module) (k : ℕ) : Type 0 where
-  pub reached : Reached m
-  pub some : 1 ≤ k
-  pub now : current m ≡ k
-  pub active : own m k .mode ≡ 0 → ⊥
-  pub runs : own m k .mode ≡ 3 → running (own m k) ≡ 0 → ⊥
-
--- ---------------------------------------------------------------- the record after
--- process id, which waits on nothing before and after, has the record x; the arrival list is this one
-abbrev pub withProcess : ℕ → Process → Ids → Partition → Partition
-withProcess id x arrival p = withProcesses (set (p .processes) (id - 1) x) (p .processCount) arrival (p .waiting) p
-
--- the arrival list without an id, and with it at its end
-abbrev pub without : ℕ → Ids → Ids
-without id q = idsOf (kept (other id) (members q))
-
-abbrev pub atEnd : ℕ → Ids → Ids
-atEnd id q = idsOf (kept (other id) (members q) ++ (id ∷ []))
-
--- one more process. Created, it is DORMANT: four fields as given, no wait, r, d, w −1, the rest (current priority too) 0.
-abbrev pub newProcess : Given → Process
-newProcess g = record { given = g; times = record { release = Never; deadline = Never; wake = Never; delay = 0 }; current = 0; suspended = false; missed = false; code = 0; message = 0; started = false; wait = None }
-
-abbrev pub withNew : Given → Partition → Partition
-withNew g p = withProcesses (set (p .processes) (p .processCount) (newProcess g)) (p .processCount + 1) (p .arrival) (p .waiting) p
-
--- one more semaphore, one more event (DOWN)
-abbrev pub withNewSemaphore : ℕ → ℕ → ℕ → Partition → Partition
-withNewSemaphore name start max p = withSemaphores (set (p .semaphores) (p .semaphoreCount) (record { name = name; value = start; max = max })) (p .semaphoreCount + 1) p
-
-abbrev pub withNewEvent : ℕ → Partition → Partition
-withNewEvent name p = withEvents (set (p .events) (p .eventCount) (record { name = name; up = false })) (p .eventCount + 1) p
-
--- one more buffer, one more blackboard, with nothing in them
-abbrev pub withNewBuffer : ℕ → ℕ → Partition → Partition
-withNewBuffer name limit p = withBuffers (set (p .buffers) (p .bufferCount) (record { name = name; limit = limit; queue = queueOf [] })) (p .bufferCount + 1) p
-
-abbrev pub withNewBlackboard : ℕ → Partition → Partition
-withNewBlackboard name p = withBlackboards (set (p .blackboards) (p .blackboardCount) (record { name = name; shown = false; message = 0 })) (p .blackboardCount + 1) p
-
--- semaphore j has this value
-abbrev pub withSemaphoreAt : ℕ → ℕ → Partition → Partition
-withSemaphoreAt j n p = withSemaphores (set (p .semaphores) (j - 1) (record { name = semaphore j p .name; value = n; max = semaphore j p .max })) (p .semaphoreCount) p
 
 -- ---------------------------------------------------------------- creating
 -- neither 4 nor 5

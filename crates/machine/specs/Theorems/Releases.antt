@@ -10,9 +10,10 @@ use Rattle.machine.specs.declared.Table.{Table}
 use Rattle.machine.specs.declared.Time.the-variants.{At}
 use Rattle.machine.specs.Partition.{process}
 use Rattle.machine.specs.Step.{step}
-use Rattle.machine.specs.Valid.{Between}
+use Rattle.machine.specs.Theorems.Valid.{Between}
 use Rattle.machine.specs.Windows.{windows, noWindow, releasePoint, WindowAt, NextFlagged, Release}
-use Rattle.machine.specs.Starred.{own, callBy, ReleasesAt}
+use Rattle.machine.specs.Theorems.Events.{own, callBy}
+use Rattle.machine.specs.Theorems.Starred.{ReleasesAt}
 
 -- s is the first in the frame of the starts of windows of partition k with flag 1, the last of them
 abbrev pub FirstFlagged : Table → ℕ → ℕ → Type 0

@@ -17,9 +17,9 @@ use Rattle.machine.specs.Messages.{held}
 use Rattle.machine.specs.Windows.{noWindow, windows}
 use Rattle.machine.specs.Module.{emptyModule, freshModule, noChannel, part, message, queue}
 use Rattle.machine.specs.Table.{flaggedFrom, tableFrom, tableOf}
-use Rattle.machine.specs.Plain.{plainBetween, plainNumber}
-use Rattle.machine.specs.EachCall.{idOf}
-use Rattle.machine.specs.Valid.{Between}
+use Rattle.machine.specs.Theorems.Plain.{plainBetween, plainNumber}
+use Rattle.machine.specs.Theorems.EachCall.{idOf}
+use Rattle.machine.specs.Theorems.Valid.{Between}
 
 -- Line 1: M 1..10,000, P 1..8, windows 1..32, channels 0..16, 0, 0.
 abbrev pub firstLine : Numbers → Bool

@@ -10,10 +10,10 @@ use lib.IntN.{pos}
 use Rattle.machine.specs.declared.Event.{Event as EventT}
 use Rattle.machine.specs.declared.Module.{Module}
 use Rattle.machine.specs.Step.{step}
-use Rattle.machine.specs.LeftRight.{after}
-use Rattle.machine.specs.Valid.{Between, Reached, contains}
-use Rattle.machine.specs.Starred.{own, callBy, Calling}
-use Rattle.machine.specs.Account.{isCall, codeAt}
+use Rattle.machine.specs.Runs.{after}
+use Rattle.machine.specs.Theorems.Valid.{Between, Reached, contains}
+use Rattle.machine.specs.Theorems.Events.{own, callBy, Calling}
+use Rattle.machine.specs.Theorems.Account.{isCall, codeAt}
 
 -- the modes to which call 1 leads, by the mode before it: from IDLE none, from COLD_START 0, 1, 3, from WARM_START 0, 1, 2, 3, from NORMAL 0, 1, 2
 abbrev pub leadsTo : ℕ → List ℕ

@@ -8,28 +8,13 @@ use lib.IntN.{ℤ, pos, negsuc}
 use Rattle.machine.specs.declared.Table.{Table}
 use Rattle.machine.specs.declared.Module.{Module}
 use Rattle.machine.specs.declared.Event.{Event}
-use Rattle.machine.specs.declared.Answer.{Answer}
 use Rattle.machine.specs.declared.EventRecord.{EventRecord}
 use Rattle.machine.specs.declared.Wait.the-variants.{Source, Destination}
 use Rattle.machine.specs.Process.{object, carried}
 use Rattle.machine.specs.Partition.{process, waiters}
-use Rattle.machine.specs.Step.{step}
 use Rattle.machine.specs.Module.{current, runningIn, part, message, queue, channel}
 use Rattle.machine.specs.Channels.{queuing}
-use Rattle.machine.specs.TwoRuns.{keep, final, replies}
-
-abbrev pub next : Module → Event → Module
-next m e = step m e .state
-
-abbrev pub answeredEvent : Module → Event → EventRecord
-answeredEvent m e = record { event = e; answer = step m e .answer }
-
--- the record after a list of events; the events with their answers
-abbrev pub after : Module → List Event → Module
-after = final next answeredEvent
-
-abbrev pub answers : Module → List Event → List EventRecord
-answers = replies next answeredEvent
+use Rattle.machine.specs.Runs.{keep, after, answers}
 
 -- no number below 0 is in S
 abbrev pub memberOf : (ℕ → Bool) → ℤ → Bool

@@ -14,12 +14,11 @@ use Rattle.machine.specs.Process.{object}
 use Rattle.machine.specs.Partition.{waitsOn, waiters}
 use Rattle.machine.specs.Module.{channel}
 use Rattle.machine.specs.Step.{step}
-use Rattle.machine.specs.TwoRuns.{keep}
-use Rattle.machine.specs.LeftRight.{after, answers}
-use Rattle.machine.specs.Valid.{Between, Reached}
-use Rattle.machine.specs.Starred.{own}
-use Rattle.machine.specs.Account.{placeIn, restartsBy}
-use Rattle.machine.specs.Latest.{done}
+use Rattle.machine.specs.Runs.{keep, after, answers}
+use Rattle.machine.specs.Theorems.Valid.{Between, Reached}
+use Rattle.machine.specs.Theorems.Events.{own}
+use Rattle.machine.specs.Theorems.Account.{placeIn, restartsBy}
+use Rattle.machine.specs.Theorems.Latest.{done}
 
 -- ---------------------------------------------------------------- queues and their services
 -- the partition whose processes wait, the object, and which events, by their numbers and their code, serve the first of those who wait

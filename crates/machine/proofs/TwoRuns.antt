@@ -1,25 +1,9 @@
--- Runs over a list of events, of any machine; and two runs whose states are compared by a relation: what holds of one event of each
+-- Two runs of any machine whose states are compared by a relation: what holds of one event of each
 -- kind holds of whole lists. Nothing here knows the executive.
-use mathlib.Core.Path.{_≡_, refl, sym, ap, _∙_}
+use mathlib.Core.Path.{_≡_, refl, sym, _∙_}
 use mathlib.Core.Bool.{Bool, true, false, cond}
 use mathlib.Core.List.{List, [], _∷_, map}
-
--- the elements that pass a test, in order
-module _ {A : Type 0} where
-  abbrev pub keep : (A → Bool) → List A → List A
-  keep p [] = []
-  keep p (x ∷ xs) = cond (p x) (x ∷ keep p xs) (keep p xs)
-
-module _ {M E R : Type 0} (next : M → E → M) (reply : M → E → R) where
-  -- Each event gets the record that the one before it left.
-  abbrev pub final : M → List E → M
-  final m [] = m
-  final m (e ∷ es) = final (next m e) es
-
-  -- the replies to a list of events, in order
-  abbrev pub replies : M → List E → List R
-  replies m [] = []
-  replies m (e ∷ es) = reply m e ∷ replies (next m e) es
+use Rattle.machine.specs.Runs.{final, keep, replies}
 
 -- what one event of each kind must keep for two runs to agree
 pub record Unwinding {M E R : Type 0} (next : M → E → M) (reply : M → E → R) (common : E → Bool) (commonReply : R → Bool) (shown : R → R) (Related : M → M → Type 0) : Type 0 where

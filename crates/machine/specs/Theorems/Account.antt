@@ -19,9 +19,10 @@ use Rattle.machine.specs.Partition.{process, buffer, running, waitsOn, w
 use Rattle.machine.specs.Module.{channel, queue}
 use Rattle.machine.specs.Step.{step}
 use Rattle.machine.specs.Table.{readTable}
-use Rattle.machine.specs.LeftRight.{next, after, isTick}
-use Rattle.machine.specs.Starred.{own, callBy}
-use Rattle.machine.specs.Plain.{plainNumber, plainBetween}
+use Rattle.machine.specs.Runs.{next, after}
+use Rattle.machine.specs.Theorems.LeftRight.{isTick}
+use Rattle.machine.specs.Theorems.Events.{own, callBy}
+use Rattle.machine.specs.Theorems.Plain.{plainNumber, plainBetween}
 
 -- ---------------------------------------------------------------- events
 -- call n of partition k

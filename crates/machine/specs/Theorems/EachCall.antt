@@ -26,10 +26,11 @@ use Rattle.machine.specs.Partition.{process, semaphore, event, buffer, b
 use Rattle.machine.specs.Messages.{held, queueOf}
 use Rattle.machine.specs.Module.{channel, message, queue, current, runningIn, withMessage, withMessages, withPart, withQueue, ticksLeft}
 use Rattle.machine.specs.Step.{step}
-use Rattle.machine.specs.Valid.{plainLater}
-use Rattle.machine.specs.Plain.{plainBetween, plainNumber, plainMinusOne, plainStored, plainAll, waitOver, letGo, plainEach, plainRefilledTo, plainTicked}
-use Rattle.machine.specs.Starred.{own, callBy, Gives, Refuses, Puts, withProcess, atEnd, given, withNew, withNewSemaphore, withNewEvent, withNewBuffer, withNewBlackboard, withSemaphoreAt, awaitsNormal, awaitsNext, awaitsRelease, without}
-use Rattle.machine.specs.TicksLeft.{EndsIn}
+use Rattle.machine.specs.Theorems.Valid.{plainLater}
+use Rattle.machine.specs.Theorems.Plain.{plainBetween, plainNumber, plainMinusOne, plainStored, plainAll, waitOver, letGo, plainEach, plainRefilledTo, plainTicked}
+use Rattle.machine.specs.Theorems.Events.{own, callBy, Gives, Refuses, Puts, withProcess, atEnd, withNew, withNewSemaphore, withNewEvent, withNewBuffer, withNewBlackboard, withSemaphoreAt, without}
+use Rattle.machine.specs.Theorems.Starred.{given, awaitsNormal, awaitsNext, awaitsRelease}
+use Rattle.machine.specs.Theorems.TicksLeft.{EndsIn}
 use Rattle.machine.specs.declared.Message.{Message}
 use Rattle.machine.specs.Windows.{Release}
 use Rattle.machine.specs.declared.Table.{Table}

@@ -12,10 +12,10 @@ use Rattle.machine.specs.Limits.{timeLimit}
 use Rattle.machine.specs.Windows.{windows, waitingOf, startsAt, WaitingTime}
 use Rattle.machine.specs.Module.{current}
 use Rattle.machine.specs.Table.{readTable}
-use Rattle.machine.specs.LeftRight.{after}
-use Rattle.machine.specs.Valid.{Between, Reached}
-use Rattle.machine.specs.Plain.{plainBetween}
-use Rattle.machine.specs.Examples.{text, twoWindows}
+use Rattle.machine.specs.Runs.{after}
+use Rattle.machine.specs.Theorems.Valid.{Between, Reached}
+use Rattle.machine.specs.Theorems.Plain.{plainBetween}
+use Rattle.machine.specs.Theorems.Examples.{text, twoWindows}
 
 -- the waiting time of partition k, asked at the record's own time
 abbrev pub waitingNow : Module → ℕ → ℕ

@@ -30,9 +30,9 @@ use Rattle.machine.specs.Buffers.{hasRoom, holds}
 use Rattle.machine.specs.Partition.{normalMode, process, semaphore, event, buffer, blackboard, stored, storedSemaphore, storedEvent, created, storedBuffer, storedBlackboard, arrivedLast, withLock, applied, tickPartition, enteredNormal, running, waitsOn, waiters}
 use Rattle.machine.specs.Module.{channel, part, queue}
 use Rattle.machine.specs.Step.{step}
-use Rattle.machine.specs.Valid.{Between, contains, Distinct, Reached}
-use Rattle.machine.specs.Starred.{own, callBy, TimeOut, Calling}
-use Rattle.machine.specs.Plain.{followed, waitOver}
+use Rattle.machine.specs.Theorems.Valid.{Between, contains, Distinct, Reached}
+use Rattle.machine.specs.Theorems.Events.{own, callBy, TimeOut, Calling}
+use Rattle.machine.specs.Theorems.Plain.{followed, waitOver}
 
 -- ---------------------------------------------------------------- a queue
 -- it holds just the processes that wait on the object, each once

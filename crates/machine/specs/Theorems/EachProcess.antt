@@ -16,10 +16,10 @@ use Rattle.machine.specs.Process.{blankProcess}
 use Rattle.machine.specs.Partition.{process, running}
 use Rattle.machine.specs.Module.{channel}
 use Rattle.machine.specs.Step.{step}
-use Rattle.machine.specs.Valid.{Between, Reached, plainLater}
-use Rattle.machine.specs.Plain.{atTick, waitOver}
-use Rattle.machine.specs.Starred.{own, newProcess}
-use Rattle.machine.specs.EachCall.{idOf, periodicAt, nowDormant, with, withPriority}
+use Rattle.machine.specs.Theorems.Valid.{Between, Reached, plainLater}
+use Rattle.machine.specs.Theorems.Plain.{atTick, waitOver}
+use Rattle.machine.specs.Theorems.Events.{own, newProcess}
+use Rattle.machine.specs.Theorems.EachCall.{idOf, periodicAt, nowDormant, with, withPriority}
 
 -- ---------------------------------------------------------------- which calls begin and end waits
 -- the wait that call n begins, by its fields a and b (10 PERIODIC_WAIT has none); none for another

@@ -10,11 +10,11 @@ use Rattle.machine.specs.declared.Module.{Module}
 use Rattle.machine.specs.declared.Time.the-variants.{Never, At}
 use Rattle.machine.specs.Partition.{process, running}
 use Rattle.machine.specs.Step.{step}
-use Rattle.machine.specs.LeftRight.{after}
-use Rattle.machine.specs.Valid.{Between, Reached}
-use Rattle.machine.specs.Plain.{plainNumber}
-use Rattle.machine.specs.Starred.{own}
-use Rattle.machine.specs.EachProcess.{StopOf, Erasure}
+use Rattle.machine.specs.Runs.{after}
+use Rattle.machine.specs.Theorems.Valid.{Between, Reached}
+use Rattle.machine.specs.Theorems.Plain.{plainNumber}
+use Rattle.machine.specs.Theorems.Events.{own}
+use Rattle.machine.specs.Theorems.EachProcess.{StopOf, Erasure}
 
 -- an event is 10 PERIODIC_WAIT by process id of partition k, answered 7
 abbrev pub waitsPeriod : Module → EventT → ℕ → ℕ → Bool

@@ -15,10 +15,10 @@ use Rattle.machine.specs.Process.{ready}
 use Rattle.machine.specs.Partition.{process}
 use Rattle.machine.specs.Module.{current, runningIn}
 use Rattle.machine.specs.Step.{step}
-use Rattle.machine.specs.TwoRuns.{keep}
-use Rattle.machine.specs.LeftRight.{common, after, Within, Closed}
-use Rattle.machine.specs.Valid.{Between, Reached}
-use Rattle.machine.specs.Starred.{own}
+use Rattle.machine.specs.Runs.{keep, after}
+use Rattle.machine.specs.Theorems.LeftRight.{common, Within, Closed}
+use Rattle.machine.specs.Theorems.Valid.{Between, Reached}
+use Rattle.machine.specs.Theorems.Events.{own}
 
 -- ---------------------------------------------------------------- every reached record
 pub record LockHolds (m : Module) (k : ℕ) : Type 0 where

@@ -10,12 +10,12 @@ use Rattle.machine.specs.declared.Module.{Module}
 use Rattle.machine.specs.Partition.{process}
 use Rattle.machine.specs.Step.{step}
 use Rattle.machine.specs.Table.{readTable}
-use Rattle.machine.specs.LeftRight.{after}
-use Rattle.machine.specs.Valid.{Between, Reached}
-use Rattle.machine.specs.Plain.{plainBetween, plainNumber}
-use Rattle.machine.specs.Starred.{own}
-use Rattle.machine.specs.EachCall.{idOf}
-use Rattle.machine.specs.EachProcess.{CallOf, StartOf, Erasure}
+use Rattle.machine.specs.Runs.{after}
+use Rattle.machine.specs.Theorems.Valid.{Between, Reached}
+use Rattle.machine.specs.Theorems.Plain.{plainBetween, plainNumber}
+use Rattle.machine.specs.Theorems.Events.{own}
+use Rattle.machine.specs.Theorems.EachCall.{idOf}
+use Rattle.machine.specs.Theorems.EachProcess.{CallOf, StartOf, Erasure}
 
 -- the current priority of process id of partition k after an event, where it is n before: an accepted 3 START or 4 DELAYED_START of it gives its base priority, an
 -- accepted 12 SET_PRIORITY of it the number that it names; an accepted mode 0, 1 or 2 leaves no process; else it stays

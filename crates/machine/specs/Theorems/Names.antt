@@ -5,8 +5,8 @@ use mathlib.Core.Path.{_≡_}
 use Rattle.machine.specs.declared.Partition.{Partition}
 use Rattle.machine.specs.declared.Module.{Module}
 use Rattle.machine.specs.Partition.{process, semaphore, event, buffer, blackboard}
-use Rattle.machine.specs.Valid.{Between, Reached}
-use Rattle.machine.specs.Starred.{own}
+use Rattle.machine.specs.Theorems.Valid.{Between, Reached}
+use Rattle.machine.specs.Theorems.Events.{own}
 
 -- of the ids 1..count, no two have one name
 abbrev pub Differ : (ℕ → ℕ) → ℕ → Type 0

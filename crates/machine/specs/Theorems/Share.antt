@@ -12,9 +12,9 @@ use Rattle.machine.specs.declared.Window.{Window}
 use Rattle.machine.specs.declared.Module.{Module}
 use Rattle.machine.specs.Windows.{windows}
 use Rattle.machine.specs.Module.{current, withTime}
-use Rattle.machine.specs.TwoRuns.{keep}
-use Rattle.machine.specs.LeftRight.{answers, isTick}
-use Rattle.machine.specs.Valid.{Between, Reached}
+use Rattle.machine.specs.Runs.{keep, answers}
+use Rattle.machine.specs.Theorems.LeftRight.{isTick}
+use Rattle.machine.specs.Theorems.Valid.{Between, Reached}
 
 -- how many of n numbers from a on pass a test
 unfoldable pub howMany : (ℕ → Bool) → ℕ → ℕ → ℕ

@@ -14,10 +14,10 @@ use Rattle.machine.specs.declared.Table.{Table}
 use Rattle.machine.specs.Windows.{noWindow, windows, covers, lookup, StartAt, WindowLeft}
 use Rattle.machine.specs.Module.{window, current, ticksLeft}
 use Rattle.machine.specs.Step.{step}
-use Rattle.machine.specs.TwoRuns.{keep}
-use Rattle.machine.specs.LeftRight.{common, after, Within, Closed}
-use Rattle.machine.specs.Valid.{Between, Reached}
-use Rattle.machine.specs.Starred.{callBy, Calling}
+use Rattle.machine.specs.Runs.{keep, after}
+use Rattle.machine.specs.Theorems.LeftRight.{common, Within, Closed}
+use Rattle.machine.specs.Theorems.Valid.{Between, Reached}
+use Rattle.machine.specs.Theorems.Events.{callBy, Calling}
 
 -- ---------------------------------------------------------------- the call
 -- 34 GET_TICKS_LEFT of partition k

@@ -13,11 +13,11 @@ use Rattle.machine.specs.Ids.{members, kept}
 use Rattle.machine.specs.Process.{ready}
 use Rattle.machine.specs.Partition.{process, running}
 use Rattle.machine.specs.Step.{step}
-use Rattle.machine.specs.LeftRight.{after}
-use Rattle.machine.specs.Valid.{Between, contains, Distinct, Reached}
-use Rattle.machine.specs.Plain.{plainNumber, idsFrom}
-use Rattle.machine.specs.Starred.{own}
-use Rattle.machine.specs.EachCall.{idOf}
+use Rattle.machine.specs.Runs.{after}
+use Rattle.machine.specs.Theorems.Valid.{Between, contains, Distinct, Reached}
+use Rattle.machine.specs.Theorems.Plain.{plainNumber, idsFrom}
+use Rattle.machine.specs.Theorems.Events.{own}
+use Rattle.machine.specs.Theorems.EachCall.{idOf}
 
 -- the process of partition k that an event moves: the caller of 9 TIMED_WAIT and that which 12 SET_PRIORITY names, where the answer's code is 0 (a TIMED_WAIT
 -- of more than 0 answers 7); 0 for none

@@ -15,11 +15,11 @@ use Rattle.machine.specs.declared.Time.the-variants.{Never}
 use Rattle.machine.specs.Process.{ready}
 use Rattle.machine.specs.Partition.{process, waiters}
 use Rattle.machine.specs.Step.{step}
-use Rattle.machine.specs.Valid.{Between, Reached, contains}
-use Rattle.machine.specs.Plain.{come}
-use Rattle.machine.specs.Starred.{own, callBy}
-use Rattle.machine.specs.EachCall.{idOf}
-use Rattle.machine.specs.EachProcess.{waitOf, CallOf, CallBy, Tick, StartOf, StopOf, Erasure, Entry, Service}
+use Rattle.machine.specs.Theorems.Valid.{Between, Reached, contains}
+use Rattle.machine.specs.Theorems.Plain.{come}
+use Rattle.machine.specs.Theorems.Events.{own, callBy}
+use Rattle.machine.specs.Theorems.EachCall.{idOf}
+use Rattle.machine.specs.Theorems.EachProcess.{waitOf, CallOf, CallBy, Tick, StartOf, StopOf, Erasure, Entry, Service}
 
 -- ---------------------------------------------------------------- which changes there are
 -- the wait that a call by process id begins, which answers 7

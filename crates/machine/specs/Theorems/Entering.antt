@@ -13,10 +13,10 @@ use Rattle.machine.specs.Ids.{members, kept}
 use Rattle.machine.specs.Process.{ready}
 use Rattle.machine.specs.Partition.{process}
 use Rattle.machine.specs.Step.{step}
-use Rattle.machine.specs.Valid.{Between}
-use Rattle.machine.specs.Plain.{idsFrom}
-use Rattle.machine.specs.Starred.{own, callBy}
-use Rattle.machine.specs.EachCall.{startedAt}
+use Rattle.machine.specs.Theorems.Valid.{Between}
+use Rattle.machine.specs.Theorems.Plain.{idsFrom}
+use Rattle.machine.specs.Theorems.Events.{own, callBy}
+use Rattle.machine.specs.Theorems.EachCall.{startedAt}
 
 abbrev pub enter : ℕ → EventT
 enter k = callBy k 1 (pos 3) (pos 0) (pos 0) (pos 0)

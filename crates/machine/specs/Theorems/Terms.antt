@@ -18,7 +18,7 @@ use Rattle.machine.specs.declared.Time.the-variants.{Never}
 use Rattle.machine.specs.Process.{object, carried, ready, waitsForNormal}
 use Rattle.machine.specs.Partition.{process, waiters, nothingCreated}
 use Rattle.machine.specs.Module.{part}
-use Rattle.machine.specs.Valid.{contains, Reached}
+use Rattle.machine.specs.Theorems.Valid.{contains, Reached}
 
 -- ---------------------------------------------------------------- queues
 -- in the queue of w are the processes that wait on its object, and no others

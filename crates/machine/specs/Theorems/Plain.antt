@@ -48,7 +48,7 @@ use Rattle.machine.specs.Module.{emptyModule, channel, part, queue, with
 use Rattle.machine.specs.Ticks.{partitionCount}
 use Rattle.machine.specs.Channels.{queuing, otherEnd, leadsInto, erasedTo, admitted}
 use Rattle.machine.specs.Step.{decision, answerTo, step}
-use Rattle.machine.specs.Valid.{Between, plainLater}
+use Rattle.machine.specs.Theorems.Valid.{Between, plainLater}
 
 -- ---------------------------------------------------------------- lists
 -- what an id names: ids count from 1, and 0 names none

@@ -1,0 +1,27 @@
+-- What is claimed of the machine. Nothing of the machine rests on it.
+pub mod Examples
+pub mod LeftRight
+pub mod Valid
+pub mod Plain
+pub mod Events
+pub mod Starred
+pub mod Releases
+pub mod Queues
+pub mod Locks
+pub mod TicksLeft
+pub mod Waits
+pub mod Account
+pub mod EachCall
+pub mod Entering
+pub mod EachProcess
+pub mod ProcessStates
+pub mod Priorities
+pub mod Periods
+pub mod Arrivals
+pub mod TableLines
+pub mod Terms
+pub mod Modes
+pub mod Names
+pub mod Latest
+pub mod Share
+pub mod ServedBefore

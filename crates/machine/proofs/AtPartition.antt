@@ -7,7 +7,7 @@ use native.Mathlib.Omega.{arith}
 use lib.ListN.{take}
 use lib.Dec.{eqb}
 use lib.IntN.{pos}
-use borrow.Author.Tests.{eq-eqb, not-false}
+use borrow.Author.Tests.{eq-eqb, not-false, ne-eqb}
 use Rattle.machine.specs.declared.Process.{Process}
 use Rattle.machine.specs.declared.Partition.{Partition}
 use Rattle.machine.specs.declared.Request.{Request}
@@ -40,7 +40,26 @@ use Rattle.machine.proofs.Fields.{in-limits, between-zero}
 use Rattle.machine.proofs.Dispatch.{Calls, by-event}
 use Rattle.machine.proofs.Bodies.{Sends, Receives, OnQueue, Bodily}
 use Rattle.machine.proofs.Reached.{made, made-sound, made-body, Channelled, on-queue, transfer-sound, Fills, refilled-keeps, part-sound, erased-sound, place, context-sound, at-set, plain-part, tick-module-plain}
-use Rattle.machine.proofs.Acts.{actsOnNamed, Acts, event-partition, event-call, made-acts}
+use Rattle.machine.proofs.Acts.{actsOnNamed, Acts}
+use Rattle.machine.proofs.EveryCall.{call-acts}
+use Rattle.machine.proofs.Refusals.{call-in-range}
+
+-- ---------------------------------------------------------------- a call that comes to its body
+module _ (m : Module) (s : SoundModule m) (e : EventT) (q : Calls m (requestOf e)) where
+  -- its partition and its number are those of the event
+  event-partition : e .partition ≡ pos (numberOf (requestOf e .partition))
+  event-partition = number-of (e .partition) (q .some)
+
+  event-call : e .call ≡ pos (numberOf (requestOf e .call))
+  event-call =
+      let u = call-in-range (m .table) (requestOf e) (q .formed) (ne-eqb (numberOf (requestOf e .partition)) 0 (q .some)) in
+      number-of (e .call) (λ z. omega (arith, u .0))
+
+  made-acts : let h = numberOf (requestOf e .partition) in Acts (contextOf m h) (requestOf e) (part m (h - 1)) (numberOf (requestOf e .call)) (made m s (requestOf e) q)
+  made-acts =
+      let h = numberOf (requestOf e .partition) in
+      call-acts (contextOf m h) (portOf m h (requestOf e)) (numberOf (requestOf e .call)) (requestOf e) (part m (h - 1))
+      (λ there. let w = in-limits 1 (m .table .channelCount) (requestOf e .a) there in omega (arith, w .0)) .is
 
 pub ticked-part : (m : Module) → SoundModule m → (k : ℕ) → Between 1 (m .table .size) k → own (tickModule m) k ≡ noted (tickPartition (m .t + 1) (own m k))
 unfolding plainTick

@@ -9,14 +9,13 @@ use Rattle.machine.specs.declared.Wait.the-variants.{Sending, Receiving}
 use Rattle.machine.specs.Limits.{bufferLimit, messageLimit, nameLimit, durationLimit}
 use Rattle.machine.specs.Fields.{isName, isMessage, numberOf}
 use Rattle.machine.specs.Process.{object}
-use Rattle.machine.specs.Partition.{buffer}
+use Rattle.machine.specs.Partition.{buffer, noBuffer}
 use Rattle.machine.specs.Buffers.{createBuffer, sendBuffer, receiveBuffer}
 use Rattle.machine.specs.Theorems.Valid.{AllMessages}
 use mathlib.Core.Logic.{inl, inr, ⊎-elim}
 use Rattle.machine.specs.Services.{services}
-use Rattle.machine.specs.Module.{queue}
 use Rattle.machine.specs.Theorems.Queues.{queueNumber}
-use Rattle.machine.proofs.Tests.{not-both, Passed}
+use Rattle.machine.proofs.Tests.{not-both, Passed, and-left}
 use Rattle.machine.proofs.Bounds.{and-true-parts, known-id}
 use Rattle.machine.proofs.Messages.{queue-sound, first-sound}
 use Rattle.machine.proofs.Fields.{in-limits}
@@ -25,6 +24,9 @@ use Rattle.machine.proofs.Orders.{buffer-queue}
 use Rattle.machine.proofs.Fairness.{buffer-available, on-object, created-free, sent-fair, received-fair}
 use Rattle.machine.proofs.Calmness.{sent-calm, received-calm}
 use Rattle.machine.proofs.CallLaws.{laws, Laws, waits-unseen, checks, waits}
+use Rattle.machine.specs.declared.Buffer.{Buffer}
+use Rattle.machine.proofs.Acts.{TransferBy}
+use Rattle.machine.proofs.Stores.{free-name}
 
 pub create-buffer : Laws 23
 unfolding services createBuffer Passed AllMessages
@@ -45,6 +47,8 @@ create-buffer = laws (λ _ _ _ _ _ _. refl) λ c x r p. checks _ _ refl (λ h.
           (λ y. not-both _ (y .2) refl))
           (buffer-available (c .frame) (c .time) p v kind i _ _ t);
       calm = λ _ _ _ _ a. (λ e z. a .there e (omega arith), tt);
+      stores = λ v. ((refl, free-name (λ (x : Buffer). x .name) noBuffer bufferLimit (p .bufferCount) (p .buffers) (v .objects .buffers .numbered) (r .a) (h .1 .0) (and-left (isName (r .a)) _ (not-false _ (h .1 .1 .0)))), tt);
+      acts = λ _. (tt, tt, refl, refl, (refl, refl));
     })
 
 pub send-buffer : Laws 24
@@ -66,6 +70,8 @@ send-buffer = laws (λ _ c u x r p. waits-unseen c u _ _ _ _ _ _ _ p) λ c x r p
       calm = λ kind j of low a.
           let some = a .valid .objects .buffers .numbered .few in
           ((λ is. a .noSend is refl, sent-calm kind j of low 24 (queueNumber 4 i) p (λ o. of .receivers (omega (arith, b .1, some))) m), tt);
+      stores = λ _. (b, tt);
+      acts = λ _. (TransferBy.sends refl refl b _ refl, tt, refl, refl, (refl, refl));
     })
     (λ h g e.
     let b = known-id i (p .bufferCount) (h .0) in
@@ -74,6 +80,8 @@ send-buffer = laws (λ _ c u x r p. waits-unseen c u _ _ _ _ _ _ _ p) λ c x r p
       known = (b, few g);
       fair = λ v k. on-object c p v k x 24 _ 3 i refl (omega (arith, b .1, v .objects .buffers .numbered .few)) (omega arith) e;
       calm = λ kind j of low a o. let some = a .valid .objects .buffers .numbered .few in a .noSend (omega (arith, b .1, some)) refl (omega (arith, b .1, some));
+      listed = (refl, refl);
+      named = λ _. (refl, λ z. omega (arith, b .0));
     })
 
 pub receive-buffer : Laws 25
@@ -94,6 +102,8 @@ receive-buffer = laws (λ _ c u x r p. waits-unseen c u _ _ _ _ _ _ _ p) λ c x 
       calm = λ kind j of low a.
           let some = a .valid .objects .buffers .numbered .few in
           ((λ is. a .noReceive is refl, received-calm kind j of low 25 (queueNumber 3 i) p (λ o. a .noReceive (omega (arith, b .1, some)) refl (omega (arith, b .1, some))) _), tt);
+      stores = λ _. (b, tt);
+      acts = λ _. (TransferBy.receives refl refl b _ refl, tt, refl, refl, (refl, refl));
     })
     (λ h _ e.
     let b = known-id i (p .bufferCount) (h .0) in
@@ -102,4 +112,6 @@ receive-buffer = laws (λ _ c u x r p. waits-unseen c u _ _ _ _ _ _ _ p) λ c x 
       known = (b, omega arith);
       fair = λ v k. on-object c p v k x 25 _ 4 i refl (omega (arith, b .1, v .objects .buffers .numbered .few)) (omega arith) e;
       calm = λ kind j of low a o. of .receivers (omega (arith, b .1, a .valid .objects .buffers .numbered .few));
+      listed = (refl, refl);
+      named = λ _. (refl, λ z. omega (arith, b .0));
     })

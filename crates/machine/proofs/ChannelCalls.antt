@@ -1,6 +1,6 @@
 -- Calls 21, 22, 30 and 31, of channels: what is shown of each. Assumes nothing.
 use Prim.Native.Nat.{ℕ, _+_, _-_, _≤_, _<_}
-use mathlib.Core.Path.{_≡_, refl}
+use mathlib.Core.Path.{_≡_, refl, ap}
 use mathlib.Core.Bool.{true, not}
 use native.Mathlib.Omega.{arith}
 use lib.Dec.{leb}
@@ -28,11 +28,13 @@ write-call = laws (λ _ _ _ _ _ _. refl) λ c x r p. checks _ _ refl (λ h. chec
   order = tt;
   fair = λ _ _. tt;
   calm = λ _ _ _ _ _. tt;
+  stores = λ _. tt;
+  acts = λ _. refl;
 }))
 
 pub read-call : Laws 22
 unfolding services read channelChecks
-read-call = laws (λ _ _ _ _ _ _. refl) λ c x r p. checks _ _ refl (λ _. checks _ _ refl (λ _. answers (λ _ _ s.
+read-call = laws (λ _ _ _ _ _ _. refl) λ c x r p. checks _ _ refl (λ _. checks _ _ refl (λ _. answers refl (λ _ _ s.
     (omega (arith, s .message .value), by-test (λ (n : ℕ). n ≤ numberLimit) (leb (c .time - x .message .written) (x .channel .refresh)) (λ _. omega arith) (λ _. omega arith)))))
 
 -- at the wanted end of a queuing channel, by the checks
@@ -71,6 +73,8 @@ send-channel = laws (λ _ c u x r p. waits-unseen c u _ _ _ _ _ _ _ p) λ c x r 
       order = tt;
       fair = λ _ _. tt;
       calm = λ _ _ _ _ _. tt;
+      stores = λ _. tt;
+      acts = λ _. inl refl;
     })
     (λ h g e.
     let l = is-placed x _ h in
@@ -82,6 +86,8 @@ send-channel = laws (λ _ c u x r p. waits-unseen c u _ _ _ _ _ _ _ p) λ c x r 
         (λ j few o. record { call = refl; place = omega arith; there = is-there x _ h; kind = is-queuing x _ h; source = is-end x _ h; full = ltb-false _ _ e }, λ j few o. absurd (omega arith)),
       );
       calm = λ kind j of low a o. a .noSendChannel (omega arith) refl (is-there x _ h) (omega arith);
+      listed = (refl, refl);
+      named = λ at. let is = at (is-there x _ h) in (ap (λ k. Source k m) is, λ z. omega arith);
     })
 
 pub receive-channel : Laws 31
@@ -94,6 +100,8 @@ receive-channel = laws (λ _ c u x r p. waits-unseen c u _ _ _ _ _ _ _ p) λ c x
       order = tt;
       fair = λ _ _. tt;
       calm = λ _ _ _ _ _. tt;
+      stores = λ _. tt;
+      acts = λ _. inr refl;
     })
     (λ h _ e.
     let l = is-placed x _ h in
@@ -105,4 +113,6 @@ receive-channel = laws (λ _ c u x r p. waits-unseen c u _ _ _ _ _ _ _ p) λ c x
         (λ j few o. absurd (omega arith), λ j few o. record { call = refl; place = omega arith; there = is-there x _ h; kind = is-queuing x _ h; destination = is-end x _ h; empty = let z : x .traffic .len ≤ 0 = ltb-false 0 _ e in omega arith }),
       );
       calm = λ kind j of low a o. of .ends (omega arith);
+      listed = (refl, refl);
+      named = λ at. let is = at (is-there x _ h) in (ap Destination is, λ z. omega arith);
     })

@@ -1,72 +1,27 @@
 -- A law of every event from that law of each place and each call, and a law of the module from that law of each decision. Assumes nothing.
-use Prim.Native.Nat.{ℕ, zero, suc, _+_, _-_, _≤_, _<_}
+use Prim.Native.Nat.{ℕ, _-_, _<_}
 use mathlib.Core.Path.{_≡_, refl}
 use mathlib.Core.Bool.{Bool, true, false, _&&_}
-use mathlib.Core.List.{List, [], _∷_}
-use native.Mathlib.Omega.{arith}
-use lib.ListN.{getD, length}
-use lib.Dec.{eqb, leb}
+use mathlib.Core.List.{[]}
+use lib.Dec.{leb}
 use borrow.Author.Tests.{eqb-true, eqb-false, leb-false, lt-leb, not-false}
-use Rattle.machine.specs.declared.Partition.{Partition}
-use Rattle.machine.specs.declared.Context.{Context}
-use Rattle.machine.specs.declared.Port.{Port}
 use Rattle.machine.specs.declared.Message.{Message}
-use Rattle.machine.specs.declared.Field.{Field}
 use Rattle.machine.specs.declared.Request.{Request}
 use Rattle.machine.specs.declared.Decision.{Decision}
 use Rattle.machine.specs.declared.Decision.the-variants.{Refused, Unchanged, Ticked, Blocked, Changed, Restarted, Written, Passed as PassedOn}
 use Rattle.machine.specs.declared.Transfer.{Transfer}
 use Rattle.machine.specs.declared.Module.{Module}
 use Rattle.machine.specs.Fields.{numberOf}
-use Rattle.machine.specs.Limits.{timeLimit, callLimit}
+use Rattle.machine.specs.Limits.{timeLimit}
 use Rattle.machine.specs.Partition.{partitionAfter}
 use Rattle.machine.specs.Module.{part, current, withPart, withMessage}
 use Rattle.machine.specs.Ticks.{tickModule}
-use Rattle.machine.specs.Channels.{portOf, write, read, send, receive, passed}
-use Rattle.machine.specs.Calls.{setMode, createProcess, start, stop, stopSelf, suspend, suspendSelf, timedWait, periodicWait, resume, setPriority, getStatus, lockPreemption, unlockPreemption, getTicksLeft}
-use Rattle.machine.specs.Objects.{createSemaphore, createEvent, waitSemaphore, waitEvent, signal, setEvent, resetEvent}
-use Rattle.machine.specs.Buffers.{createBuffer, sendBuffer, receiveBuffer}
-use Rattle.machine.specs.Blackboards.{createBlackboard, show, readBlackboard, clear}
-use Rattle.machine.specs.Decisions.{checked, awaiting, queued}
-use Rattle.machine.specs.Services.{Service, services, noService, callDecision}
+use Rattle.machine.specs.Channels.{portOf, passed}
+use Rattle.machine.specs.Decisions.{checked}
+use Rattle.machine.specs.Services.{callDecision}
 use Rattle.machine.specs.Places.{malformed, noCaller, ticks}
 use Rattle.machine.specs.Step.{contextOf, decision, restarted, moduleAfter}
 use Rattle.machine.proofs.Tests.{by-test, by-codes, Passed}
-
--- a law of each of a list by its number, counted from k on, and of what stands past its end
-unfoldable pub Each : {A : Type 0} → (ℕ → A → Type 0) → ℕ → List A → Type 0
-Each P k [] = Unit {0}
-Each P k (x ∷ l) = P k x × Each P (suc k) l
-
-by-place : {A : Type 0} (P : ℕ → A → Type 0) (l : List A) (d : A) (k : ℕ) → Each P k l → (i n : ℕ) → n ≡ k + i → (length l ≤ i → P n d) → P n (getD l i d)
-unfolding Each
-by-place P [] d k f i n e g = g (omega arith)
-by-place P (x ∷ l) d k f zero n e g = let h : n ≡ k = omega arith in rw h (f .0)
-by-place P (x ∷ l) d k f (suc i) n e g = by-place P l d (suc k) (f .1) i n (omega arith) (λ h. g (omega arith))
-
--- ---------------------------------------------------------------- calls
--- a law of every call from that law of each, by its number
-module _ (c : Context) (x : Port) (n : ℕ) (r : Request) (p : Partition) (P : Decision → Type 0) where
-  all : length services ≡ callLimit
-  unfolding services
-  all = refl
-
-  pub by-number : Each (λ j (s : Service). n ≡ j → P (s .decides c x r p)) 1 services → ((1 ≤ n → n ≤ callLimit → ⊥) → P (Refused 13)) → P (callDecision c x n r p)
-  unfolding callDecision
-  by-number each other =
-      by-test (λ (s : Service). P (s .decides c x r p)) (eqb n 0) (λ z. other (λ lo hi. let e = eqb-true n 0 z in omega arith)) λ z.
-      let some = eqb-false n 0 z in
-      by-place (λ j (s : Service). n ≡ j → P (s .decides c x r p)) services noService 1 each (n - 1) n (omega arith) (λ h _. other (λ lo hi. let e = all in omega arith)) refl
-
--- the same of a law that names the call's number
-each-along : {A : Type 0} (P Q : ℕ → A → Type 0) → ((j : ℕ) (a : A) → P j a → Q j a) → (l : List A) (k : ℕ) → Each P k l → Each Q k l
-unfolding Each
-each-along P Q f [] k h = tt
-each-along P Q f (a ∷ l) k h = (f k a (h .0), each-along P Q f l (suc k) (h .1))
-
-module _ (c : Context) (x : Port) (r : Request) (p : Partition) (P : ℕ → Decision → Type 0) where
-  pub by-each : Each (λ j (s : Service). P j (s .decides c x r p)) 1 services → (n : ℕ) → 1 ≤ n → n ≤ callLimit → P n (callDecision c x n r p)
-  by-each f n lo hi = by-number c x n r p (P n) (each-along (λ j (s : Service). P j (s .decides c x r p)) (λ j (s : Service). n ≡ j → P n (s .decides c x r p)) (λ j s h e. rw e h) services 1 f) (λ out. absurd (out lo hi))
 
 -- ---------------------------------------------------------------- events
 -- a number that an event gets before the body of its call

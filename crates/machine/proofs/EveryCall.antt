@@ -20,13 +20,15 @@ use Rattle.machine.proofs.Kept.{Sound, SoundPort}
 use Rattle.machine.proofs.Orders.{InOrder}
 use Rattle.machine.proofs.Fairness.{IsFair}
 use Rattle.machine.proofs.Calmness.{OfSenders, IsCalm}
-use Rattle.machine.proofs.CallLaws.{Other, NoStart, withRelease, CallLaws}
+use Rattle.machine.proofs.CallLaws.{Other, NoStart, withRelease, CallLaws, Named}
 use Rattle.machine.proofs.ProcessCalls.{set-mode, create-process, start-call, delayed-start, stop-call, stop-self, suspend-call, suspend-self, timed-wait, periodic-wait, resume-call, set-priority, get-status}
 use Rattle.machine.proofs.ObjectCalls.{create-semaphore, wait-semaphore, signal-call, create-event, set-event-call, reset-event-call, wait-event}
 use Rattle.machine.proofs.BufferCalls.{create-buffer, send-buffer, receive-buffer}
 use Rattle.machine.proofs.BlackboardCalls.{create-blackboard, show-call, read-blackboard, clear-call}
 use Rattle.machine.proofs.ChannelCalls.{write-call, read-call, send-channel, receive-channel}
 use Rattle.machine.proofs.LockCalls.{lock-call, unlock-call, ticks-left-call}
+use Rattle.machine.proofs.Acts.{Act}
+use Rattle.machine.proofs.Stores.{Stores}
 
 -- what is shown of each call of a list, by its number, counted from k on
 infixr 20 _⊕_
@@ -110,6 +112,14 @@ call-fair c p v k x n r = by-call n (λ s. IsFair x n p (s .decides c x r p)) (�
 pub call-calm : (kind j : ℕ) (of : OfSenders kind) (low : j ≤ 16) (n : ℕ) (c : Context) (x : Port) (r : Request) (p : Partition) → Other kind j n c x r p → IsCalm kind j of low n (r .a) p (callDecision c x n r p)
 unfolding callDecision
 call-calm kind j of low n c x r p a = by-call n (λ s. IsCalm kind j of low n (r .a) p (s .decides c x r p)) (λ s l. record { is = l .lawful c x r p .calm kind j of low a }) (λ _. record { is = tt })
+
+pub call-stores : (c : Context) (x : Port) (n : ℕ) (r : Request) (p : Partition) → Valid (c .frame) (c .time) p → Stores n r p (callDecision c x n r p)
+unfolding callDecision
+call-stores c x n r p v = by-call n (λ s. Stores n r p (s .decides c x r p)) (λ s l. record { is = l .lawful c x r p .stores v }) (λ _. record { is = tt })
+
+pub call-acts : (c : Context) (x : Port) (n : ℕ) (r : Request) (p : Partition) → Named x r → Act c r p n (callDecision c x n r p)
+unfolding callDecision
+call-acts c x n r p at = by-call n (λ s. Act c r p n (s .decides c x r p)) (λ s l. record { is = l .lawful c x r p .acts at }) (λ _. record { is = tt })
 
 -- a call that takes no start rule does not look at the release point
 pub release-unseen : (n : ℕ) → NoStart n → (c : Context) (u : ℕ) (x : Port) (r : Request) (p : Partition) → callDecision (withRelease u c) x n r p ≡ callDecision c x n r p

@@ -37,6 +37,8 @@ lock-call = laws (λ _ _ _ _ _ _. refl) λ c x r p. checks _ _ refl (λ h. recor
   order = (tt, tt);
   fair = λ v k. one-process c p v k x 32 (LevelSet _ _) tt;
   calm = λ _ _ _ _ _. (tt, tt);
+  stores = λ _. (tt, tt);
+  acts = λ _. (tt, tt, refl, refl, (refl, refl));
 })
 
 pub unlock-call : Laws 33
@@ -60,8 +62,10 @@ unlock-call = laws (λ _ _ _ _ _ _. refl) λ c x r p. checks _ _ refl (λ h. rec
   order = (tt, tt);
   fair = λ v k. one-process c p v k x 33 (LevelSet _ _) tt;
   calm = λ _ _ _ _ _. (tt, tt);
+  stores = λ _. (tt, tt);
+  acts = λ _. (tt, tt, refl, refl, (refl, refl));
 })
 
 pub ticks-left-call : Laws 34
 unfolding services getTicksLeft
-ticks-left-call = laws (λ _ _ _ _ _ _. refl) λ c x r p. answers (λ _ k _. (omega (arith, k .left .1, k .frame .1), omega arith))
+ticks-left-call = laws (λ _ _ _ _ _ _. refl) λ c x r p. answers refl (λ _ k _. (omega (arith, k .left .1, k .frame .1), omega arith))

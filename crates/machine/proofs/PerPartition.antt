@@ -31,11 +31,12 @@ use Rattle.machine.proofs.Refusals.{call-in-range}
 use Rattle.machine.proofs.Calling.{number-of}
 use Rattle.machine.proofs.Plain.{lossless}
 use Rattle.machine.proofs.Account.{call-of}
-use Rattle.machine.proofs.Stores.{Marks, call-stores}
+use Rattle.machine.proofs.Stores.{Marks}
 use Rattle.machine.proofs.Dispatch.{Calls, by-event}
 use Rattle.machine.proofs.Bodies.{Bodily}
 use Rattle.machine.proofs.Kept.{nothing-valid}
 use Rattle.machine.proofs.Reached.{at-set, plain-part, tick-module-plain, place, made, made-sound, made-body, part-sound, erased-sound, refilled-keeps, on-queue, transfer-sound}
+use Rattle.machine.proofs.EveryCall.{call-stores}
 
 -- ---------------------------------------------------------------- the ways in which an event reaches a partition
 -- P is shown of the number of a partition, counted from 0, and of its record: as it was, as a tick leaves it, as its own call leaves it, with the first
@@ -123,5 +124,4 @@ pub made-stores : (m : Module) (s : SoundModule m) (e : EventT) (c : Calls m (re
 made-stores m s e c =
     let r = requestOf e in
     let k = numberOf (r .partition) in
-    let u = call-in-range (m .table) r (c .formed) (ne-eqb _ 0 (c .some)) in
-    call-stores (numberOf (r .call)) r (contextOf m k) (portOf m k r) (part m (k - 1)) (s .eachPartition (k - 1) (place m s r c)) (u .0) (u .1) .is
+    call-stores (contextOf m k) (portOf m k r) (numberOf (r .call)) r (part m (k - 1)) (s .eachPartition (k - 1) (place m s r c)) .is

@@ -1,7 +1,7 @@
 -- Calls 1 to 13: what is shown of each. Assumes nothing.
 use Prim.Native.Nat.{ℕ}
 use mathlib.Core.Path.{_≡_, refl, ap, sym, _∙_}
-use mathlib.Core.Bool.{true, false, cond}
+use mathlib.Core.Bool.{true, false, cond, and-false}
 use native.Mathlib.Omega.{arith}
 use borrow.Author.Tests.{leb-false, not-true, not-false}
 use Rattle.machine.specs.declared.Process.{Process}
@@ -15,16 +15,16 @@ use Rattle.machine.specs.declared.Field.{Field}
 use Rattle.machine.specs.declared.Field.the-variants.{Number}
 use Rattle.machine.specs.declared.Wait.the-variants.{Timed, None, Normal}
 use Rattle.machine.specs.Limits.{processLimit, priorityLimit, modeLimit, durationLimit, numberLimit}
-use Rattle.machine.specs.Fields.{isNumber, numberOf}
-use Rattle.machine.specs.Process.{classOf, object, ready, withCurrent, objectIn, waitsForNothing, startRule}
+use Rattle.machine.specs.Fields.{isNumber, numberOf, isName}
+use Rattle.machine.specs.Process.{classOf, object, ready, withCurrent, objectIn, waitsForNothing, startRule, blankProcess}
 use Rattle.machine.specs.Partition.{normalMode, process, stored}
 use Rattle.machine.specs.Calls.{setMode, createProcess, reaches, start, stop, stopSelf, suspend, suspendSelf, timedWait, periodicWait, resume, setPriority, getStatus}
 use Rattle.machine.specs.Theorems.Valid.{SoundProcess, settingOf, SoundChange, latestDeadline}
-use Rattle.machine.specs.Decisions.{blocked, startMode, dormant}
-use mathlib.Core.Logic.{inl, inr}
+use Rattle.machine.specs.Decisions.{blocked, startMode}
+use mathlib.Core.Logic.{inl, inr, _⊎_}
 use Rattle.machine.specs.Services.{services}
 use Rattle.machine.specs.Theorems.Queues.{KeepsOrEnds}
-use Rattle.machine.proofs.Tests.{by-test, Passed}
+use Rattle.machine.proofs.Tests.{by-test, Passed, and-left}
 use Rattle.machine.proofs.Bounds.{or-false-parts, known-id}
 use Rattle.machine.proofs.Fields.{in-limits}
 use Rattle.machine.proofs.Keeping.{process-stored, stored-listed}
@@ -35,6 +35,9 @@ use Rattle.machine.proofs.Orders.{start-object, OrderlyChange}
 use Rattle.machine.proofs.Fairness.{OnProcesses, by-processes, one-process, no-object}
 use Rattle.machine.proofs.Calmness.{below-three, senders-some, KeepsSending, keeps-same, CalmChange, idle, caller-off}
 use Rattle.machine.proofs.CallLaws.{laws, Lawful, Laws, checks, answers}
+use Rattle.machine.proofs.Acts.{BlockedBy, Makes, StoredBy, actsOnNamed, last-off, live, mode-low}
+use Rattle.machine.proofs.Stores.{Marked, free-name, resumed-given, start-given}
+use lib.Dec.{eqb}
 
 pub set-mode : Laws 1
 unfolding services setMode Passed
@@ -45,6 +48,8 @@ set-mode = laws (λ s _ _ _ _ _. absurd (s .0 refl)) λ c x r p. checks _ _ refl
       order = (tt, tt);
       fair = λ v k. one-process c p v k x 1 (Entered c) tt;
       calm = λ _ _ _ _ _. (tt, tt);
+      stores = λ _. (refl, tt);
+      acts = λ _. ((refl, e), tt, refl, refl, (refl, refl));
     })
     (λ e. record {
       codes = refl;
@@ -52,6 +57,8 @@ set-mode = laws (λ s _ _ _ _ _. absurd (s .0 refl)) λ c x r p. checks _ _ refl
       order = tt;
       fair = λ _ _. tt;
       calm = λ _ _ _ _ _. (refl, below-three (r .a) (not-false _ (h .0)) e);
+      stores = λ _. (refl, below-three (r .a) (not-false _ (h .0)) e);
+      acts = λ _. let m = mode-low (r .a) (not-false _ (h .0)) e in (refl, m .0, m .1);
     }))
 
 pub create-process : Laws 2
@@ -64,12 +71,15 @@ create-process = laws (λ _ _ _ _ _ _. refl) λ c x r p. checks _ _ refl (λ h. 
   order = (tt, tt);
   fair = λ v k. one-process c p v k x 2 (Created _ _) tt;
   calm = λ _ _ _ _ _. (tt, tt);
+  stores = λ v. ((refl, free-name (λ (x : Process). x .given .name) blankProcess processLimit (p .processCount) (p .processes) (v .lists .numbered) (r .a) (h .1 .0) (and-left (isName (r .a)) _ (not-false _ (h .1 .1 .0)))), tt);
+  acts = λ _. (refl, tt, refl, refl, (refl, refl));
 })
 
 -- 3 and 4 are one
-started : (n : ℕ) (c : Context) (x : Port) (r : Request) (p : Partition) (id : ℕ) (delay : Field) → Lawful n c x r p (start c id delay p)
+started : (n : ℕ) → (n ≡ 3) ⊎ (n ≡ 4) → eqb n 9 ≡ false → eqb n 12 ≡ false → (c : Context) (x : Port) (r : Request) (p : Partition) (delay : Field) → Lawful n c x r p (start c (numberOf (r .a)) delay p)
 unfolding start Passed
-started n c x r p id delay = checks _ _ refl (λ h.
+started n is nine twelve c x r p delay = checks _ _ refl (λ h.
+    let id = numberOf (r .a) in
     let b = known-id id (p .processCount) (h .0) in
     let y = process id p in
     let off : y .started ≡ false = not-true _ (not-false _ (h .1 .1 .0)) in
@@ -101,15 +111,17 @@ started n c x r p id delay = checks _ _ refl (λ h.
                 (λ _. idles Normal z refl),
             tt,
           );
+      stores = λ _. (by-test (λ (q : Process). q .given ≡ y .given) (normalMode p) (λ _. start-given c (numberOf delay) y) (λ _. refl), tt);
+      acts = λ _. (StoredBy.starts is refl off (numberOf delay) refl, tt, refl, and-false (actsOnNamed n), rw (nine, twelve) (refl, refl));
     })
 
 pub start-call : Laws 3
 unfolding services
-start-call = laws (λ s _ _ _ _ _. absurd (s .1 refl)) λ c x r p. started 3 c x r p (numberOf (r .a)) (Number 0)
+start-call = laws (λ s _ _ _ _ _. absurd (s .1 refl)) λ c x r p. started 3 (inl refl) refl refl c x r p (Number 0)
 
 pub delayed-start : Laws 4
 unfolding services
-delayed-start = laws (λ s _ _ _ _ _. absurd (s .2 refl)) λ c x r p. started 4 c x r p (numberOf (r .a)) (r .b)
+delayed-start = laws (λ s _ _ _ _ _. absurd (s .2 refl)) λ c x r p. started 4 (inr refl) refl refl c x r p (r .b)
 
 pub stop-call : Laws 5
 unfolding services stop Passed
@@ -122,6 +134,8 @@ stop-call = laws (λ _ _ _ _ _ _. refl) λ c x r p. checks _ _ refl (λ h.
       order = (inl refl, tt);
       fair = λ v k. one-process c p v k x 5 (Stored id _) tt;
       calm = λ kind j of low _. ((λ e. absurd (senders-some kind j of low (sym e)), λ _. inr refl), tt);
+      stores = λ _. (refl, tt);
+      acts = λ _. (StoredBy.stops refl refl (not-false _ (h .1 .1 .0)) refl, tt, refl, refl, (refl, refl));
     })
 
 pub stop-self : Laws 6
@@ -136,6 +150,8 @@ stop-self = laws (λ _ _ _ _ _ _. refl) λ c x r p. checks _ _ refl (λ h.
       order = (tt, inl refl);
       fair = λ v k. by-processes c p v k x 6 (LevelSet 0 0) (Stored (c .caller) _) 0 tt tt (v .lists);
       calm = λ kind j of low a. (tt, idle kind j of low 6 (r .a) c p (a .valid) (a .context) (a .there) (c .caller) None (caller-off kind j of low 6 (r .a) c p (a .valid) (a .context) (a .there) on) refl);
+      stores = λ _. (tt, refl);
+      acts = λ _. (tt, StoredBy.stopsSelf refl refl on refl, refl, refl, (refl, refl));
     })
 
 pub suspend-call : Laws 7
@@ -151,6 +167,8 @@ suspend-call = laws (λ _ _ _ _ _ _. refl) λ c x r p. checks _ _ refl (λ h.
       order = (inr refl, tt);
       fair = λ v k. one-process c p v k x 7 (Stored id _) tt;
       calm = λ kind j of low _. (keeps-same kind j of low 7 (process id p .wait), tt);
+      stores = λ _. (refl, tt);
+      acts = λ _. (StoredBy.marks refl refl (live (process id p) (h .1 .1 .0)) (h .1 .1 .1 .0) refl, tt, refl, refl, (refl, refl));
     })
 
 pub suspend-self : Laws 8
@@ -159,7 +177,7 @@ suspend-self = laws (λ _ _ _ _ _ _. refl) λ c x r p. checks _ _ refl (λ h.
     let f = or-false-parts (startMode p) _ (h .0) in
     let on = not-false (normalMode p) (f .0) in
     let y = process (c .caller) p in
-    by-test (Lawful 8 c x r p) (isNumber 0 (r .a)) (λ _. answers (λ _ _ _. (omega arith, omega arith))) (λ e. checks _ _ refl (λ free. record {
+    by-test (Lawful 8 c x r p) (isNumber 0 (r .a)) (λ _. answers refl (λ _ _ _. (omega arith, omega arith))) (λ e. checks _ _ refl (λ free. record {
       codes = tt;
       sound = λ v k _.
           let q = normal-caller c p v k on in
@@ -167,6 +185,8 @@ suspend-self = laws (λ _ _ _ _ _ _. refl) λ c x r p. checks _ _ refl (λ h.
       order = (refl, on);
       fair = λ v k. no-object c p v k x 8 _ (ready-off y (normal-caller c p v k on .isReady));
       calm = λ kind j of low a e. senders-some kind j of low (sym e ∙ caller-off kind j of low 8 (r .a) c p (a .valid) (a .context) (a .there) on);
+      stores = λ _. refl;
+      acts = λ _. (refl, on, BlockedBy.suspends refl _ refl);
     })))
 
 pub timed-wait : Laws 9
@@ -180,6 +200,8 @@ timed-wait = laws (λ _ _ _ _ _ _. refl) λ c x r p. checks _ _ refl (λ h.
       order = (tt, tt);
       fair = λ v k. one-process c p v k x 9 (Last (c .caller)) tt;
       calm = λ _ _ _ _ _. (tt, tt);
+      stores = λ _. (tt, tt);
+      acts = λ _. (tt, tt, refl, refl, (refl, refl));
     })
     (λ e. checks _ _ refl (λ free. record {
       codes = tt;
@@ -191,6 +213,8 @@ timed-wait = laws (λ _ _ _ _ _ _. refl) λ c x r p. checks _ _ refl (λ h.
       order = (refl, on);
       fair = λ v k. no-object c p v k x 9 _ refl;
       calm = λ kind j of low _ e. senders-some kind j of low (sym e);
+      stores = λ _. refl;
+      acts = λ _. (refl, on, BlockedBy.waits refl (inl refl) _ refl refl);
     })))
 
 pub periodic-wait : Laws 10
@@ -206,6 +230,8 @@ periodic-wait = laws (λ _ _ _ _ _ _. refl) λ c x r p. checks _ _ refl (λ h.
       order = (refl, on);
       fair = λ v k. no-object c p v k x 10 _ refl;
       calm = λ kind j of low _ e. senders-some kind j of low (sym e);
+      stores = λ _. refl;
+      acts = λ _. (refl, on, BlockedBy.releases refl (not-false _ (f .1)) refl);
     }))
 
 pub resume-call : Laws 11
@@ -226,6 +252,8 @@ resume-call = laws (λ _ _ _ _ _ _. refl) λ c x r p. checks _ _ refl (λ h.
             (λ _. keeps-same kind j of low 11 (y .wait)),
         tt,
       );
+      stores = λ _. (resumed-given y, tt);
+      acts = λ _. (StoredBy.resumes refl refl (live y (h .1 .1 .0)) (not-false _ (h .1 .1 .1 .0)) refl, tt, refl, refl, (refl, refl));
     })
 
 pub set-priority : Laws 12
@@ -245,11 +273,13 @@ set-priority = laws (λ _ _ _ _ _ _. refl) λ c x r p. checks _ _ refl (λ h.
       order = (inr refl, by-test (OrderlyChange _) (ready y) (λ _. tt) (λ _. tt));
       fair = λ v k. by-processes c p v k x 12 (Stored id q) (cond (ready y) (Last id) Nothing) 0 tt (by-test OnProcesses (ready y) (λ _. tt) (λ _. tt)) (stored-listed p id q (v .lists) b);
       calm = λ kind j of low _. (keeps-same kind j of low 12 (y .wait), by-test (CalmChange kind j of low 12 _) (ready y) (λ _. tt) (λ _. tt));
+      stores = λ _. (refl, by-test (Marked 12 r _) (ready y) (λ _. tt) (λ _. tt));
+      acts = λ _. (StoredBy.prioritises refl refl (not-false _ (h .1 .1 .0)) (in-limits 1 priorityLimit (r .b) (not-false _ (h .1 .0)) .0) refl, by-test (Makes c r p 12) (ready y) (λ _. tt) (λ _. tt), rw (last-off (ready y) id), refl, (refl, refl));
     })
 
 pub get-status : Laws 13
 unfolding services getStatus Passed
-get-status = laws (λ _ _ _ _ _ _. refl) λ c x r p. checks _ _ refl (λ h. let id = numberOf (r .a) in answers (λ v k _. (
+get-status = laws (λ _ _ _ _ _ _. refl) λ c x r p. checks _ _ refl (λ h. let id = numberOf (r .a) in answers refl (λ v k _. (
   omega (arith, status-small c id (process id p)),
   more-room latestDeadline numberLimit (process id p .times .deadline) (omega arith) (times-bounded _ (process id p) (v .eachProcess id (known-id id (p .processCount) (h .0))) (k .time) .deadline),
 )))

@@ -2,47 +2,32 @@
 -- mode is set by call 1 alone, an event by 18 and 19 alone, a blackboard by 27 and 29 alone, and each the one that it names. Assumes nothing.
 use Prim.Native.Nat.{ℕ, zero, suc, _+_, _-_, _≤_, _<_}
 use mathlib.Core.Path.{_≡_, refl, ap, sym, _∙_}
-use mathlib.Core.Bool.{Bool, true, false}
+use mathlib.Core.Bool.{true, false}
 use mathlib.Core.List.{List, [], _∷_}
-use mathlib.Core.Logic.{_⊎_, inl, inr}
+use mathlib.Core.Logic.{_⊎_, inl}
 use native.Mathlib.Omega.{arith}
 use lib.ListN.{length, getD, take, length-take}
 use lib.Dec.{eqb}
 use lib.Seq.{getD-take}
-use borrow.Author.Tests.{eq-eqb, not-false}
+use borrow.Author.Tests.{eq-eqb}
 use Rattle.machine.specs.declared.Process.{Process}
-use Rattle.machine.specs.declared.Semaphore.{Semaphore as SemaphoreT}
-use Rattle.machine.specs.declared.EventState.{EventState}
-use Rattle.machine.specs.declared.Buffer.{Buffer}
-use Rattle.machine.specs.declared.Blackboard.{Blackboard as BlackboardT}
 use Rattle.machine.specs.declared.Partition.{Partition}
 use Rattle.machine.specs.declared.Context.{Context}
-use Rattle.machine.specs.declared.Port.{Port}
 use Rattle.machine.specs.declared.Request.{Request}
 use Rattle.machine.specs.declared.Field.{Field}
 use Rattle.machine.specs.declared.Field.the-variants.{Number, MinusOne, Other}
-use Rattle.machine.specs.declared.Wait.{Wait}
-use Rattle.machine.specs.declared.Wait.the-variants.{Semaphore}
 use Rattle.machine.specs.declared.Change.{Change}
 use Rattle.machine.specs.declared.Change.the-variants.{Nothing, Stored, Created, Last, StoredSemaphore, StoredEvent, CreatedBuffer, Moved, StoredBlackboard, Ended, Handed, LevelSet, Entered}
 use Rattle.machine.specs.declared.Decision.{Decision}
 use Rattle.machine.specs.declared.Decision.the-variants.{Refused, Unchanged, Ticked, Blocked, Changed, Restarted, Written, Passed as PassedOn}
-use Rattle.machine.specs.Limits.{callLimit, processLimit, semaphoreLimit, eventLimit, bufferLimit, blackboardLimit}
 use Rattle.machine.specs.Fields.{isNumber, isName, between, numberOf}
-use Rattle.machine.specs.Process.{blankProcess, object, ready, withCurrent, waitsForNothing, waitsForNormal, periodic, startRule, entered, due, onlyMarked, woken, expired, ticked, resumed}
-use Rattle.machine.specs.Partition.{byId, noSemaphore, noEvent, noBuffer, noBlackboard, normalMode, process, semaphore, event, buffer, blackboard, waiters, applied}
-use Rattle.machine.specs.Decisions.{checked, blocked, queued, awaiting, nameTaken}
-use Rattle.machine.specs.Calls.{setMode, createProcess, start, stop, stopSelf, suspend, suspendSelf, timedWait, periodicWait, resume, setPriority, getStatus, lockPreemption, unlockPreemption, getTicksLeft}
-use Rattle.machine.specs.Objects.{createSemaphore, createEvent, waitSemaphore, waitEvent, signalled, signal, setEvent, resetEvent}
-use Rattle.machine.specs.Buffers.{createBuffer, sendBuffer, receiveBuffer}
-use Rattle.machine.specs.Blackboards.{createBlackboard, show, readBlackboard, clear}
-use Rattle.machine.specs.Channels.{write, read, send, receive}
-use Rattle.machine.specs.Services.{Service, services, callDecision}
-use Rattle.machine.specs.Theorems.Valid.{Between, Numbered, Valid}
-use Rattle.machine.proofs.Tests.{by-test, by-checks, Passed, passed-parts, and-left, not-both, or-left, or-right}
-use Rattle.machine.proofs.Bounds.{known-id, within-in, named-in}
-use Rattle.machine.proofs.Dispatch.{Each, by-number}
-use Rattle.machine.proofs.Calmness.{below-three}
+use Rattle.machine.specs.Process.{waitsForNothing, waitsForNormal, periodic, startRule, entered, due, onlyMarked, woken, expired, ticked, resumed}
+use Rattle.machine.specs.Partition.{byId, process, semaphore, event, buffer, blackboard, applied}
+use Rattle.machine.specs.Decisions.{nameTaken}
+use Rattle.machine.specs.Objects.{signalled}
+use Rattle.machine.specs.Theorems.Valid.{Between, Numbered}
+use Rattle.machine.proofs.Tests.{by-test, not-both, or-left, or-right}
+use Rattle.machine.proofs.Bounds.{within-in, named-in}
 
 -- ---------------------------------------------------------------- what a process was given
 pub start-given : (c : Context) (delay : ℕ) (x : Process) → startRule c delay x .given ≡ x .given
@@ -53,7 +38,7 @@ pub entered-given : (c : Context) (x : Process) → entered c x .given ≡ x .gi
 unfolding entered
 entered-given c x = by-test (λ (y : Process). y .given ≡ x .given) (waitsForNormal (x .wait)) (λ _. start-given c (x .times .delay) x) (λ _. refl)
 
-resumed-given : (x : Process) → resumed x .given ≡ x .given
+pub resumed-given : (x : Process) → resumed x .given ≡ x .given
 resumed-given x = by-test (λ (y : Process). y .given ≡ x .given) (waitsForNothing (x .wait)) (λ _. refl) (λ _. refl)
 
 woken-given : (t : ℕ) (x : Process) → woken t x .given ≡ x .given
@@ -92,11 +77,6 @@ module _ {A : Type 0} (nameOf : A → ℕ) (d : A) (limit : ℕ) where
       not-both _ (is-named f ok (nameOf (getD (take n l) (y - 1) d)) (ap nameOf (sym is) ∙ e)) (not-taken f (take n l) none (y - 1) lt)
 
 -- ---------------------------------------------------------------- changes
-infixr 10 _&_
--- a law of each of a list, and of the next
-abbrev _&_ : {A B : Type 0} → A → B → A × B
-a & b = (a, b)
-
 module _ (n : ℕ) (r : Request) where
   -- an object that exists is reached by call a or b alone, and it is the one that the call names
   abbrev pub ByCalls : ℕ → ℕ → ℕ → ℕ → Type 0
@@ -130,61 +110,7 @@ module _ (n : ℕ) (r : Request) where
   pub record Stores (p : Partition) (d : Decision) : Type 0 where
     pub is : Marks p d
 
-  module _ (c : Context) (x : Port) (p : Partition) (v : Valid (c .frame) (c .time) p) where
-    fine : {d : Decision} → Marks p d → Stores p d
-    fine h = record { is = h }
-
-    checks : (l : List (Bool × ℕ)) {d : Decision} → (Passed l → Stores p d) → Stores p (checked Refused l d)
-    checks l {d} f = by-checks (Stores p) Refused l d (λ _. fine tt) f
-
-    waits : (before : List (Bool × ℕ)) (beside : Bool) (a : Field) (b : Bool) (success : Decision) (w : Wait)
-        → (Passed before → b ≡ true → Stores p success) → Stores p (awaiting c before beside [] a b success w p)
-    unfolding awaiting queued blocked Passed
-    waits before beside a b success w f = checks _ (λ h. by-test (Stores p) b (λ e. f (passed-parts before _ h .0) e) (λ _. checks _ (λ _. checks _ (λ _. fine refl))))
-
-    signalled-marks : (l : List ℕ) (k : ℕ) → Between 1 (p .semaphoreCount) k → Marked p (signalled l k p)
-    unfolding signalled
-    signalled-marks [] k b = inl (b, refl)
-    signalled-marks (id ∷ l) k b = refl
-
-    each : Each (λ j (s : Service). n ≡ j → Stores p (s .decides c x r p)) 1 services
-    unfolding Each services Passed setMode createProcess start stop stopSelf suspend suspendSelf timedWait periodicWait blocked resume setPriority getStatus createSemaphore waitSemaphore signal createEvent setEvent resetEvent waitEvent write read createBuffer sendBuffer receiveBuffer createBlackboard show readBlackboard clear send receive lockPreemption unlockPreemption getTicksLeft
-    each =
-        (λ e. checks _ (λ h. by-test (Stores p) (isNumber 3 (r .a)) (λ _. fine (e, tt)) (λ z. fine (e, below-three (r .a) (not-false _ (h .0)) z))))
-        & (λ _. checks _ (λ h. fine ((refl, free-name (λ (x : Process). x .given .name) blankProcess processLimit (p .processCount) (p .processes) (v .lists .numbered) (r .a) (h .1 .0) (and-left (isName (r .a)) _ (not-false _ (h .1 .1 .0)))), tt)))
-        & (λ _. checks _ (λ _. fine (by-test (λ (y : Process). y .given ≡ process (numberOf (r .a)) p .given) (normalMode p) (λ _. start-given c _ (process (numberOf (r .a)) p)) (λ _. refl), tt)))
-        & (λ _. checks _ (λ _. fine (by-test (λ (y : Process). y .given ≡ process (numberOf (r .a)) p .given) (normalMode p) (λ _. start-given c _ (process (numberOf (r .a)) p)) (λ _. refl), tt)))
-        & (λ _. checks _ (λ _. fine (refl, tt)))
-        & (λ _. checks _ (λ _. fine (tt, refl)))
-        & (λ _. checks _ (λ _. fine (refl, tt)))
-        & (λ _. checks _ (λ _. by-test (Stores p) (isNumber 0 (r .a)) (λ _. fine tt) (λ _. checks _ (λ _. fine refl))))
-        & (λ _. checks _ (λ _. by-test (Stores p) (isNumber 0 (r .a)) (λ _. fine (tt, tt)) (λ _. checks _ (λ _. fine refl))))
-        & (λ _. checks _ (λ _. checks _ (λ _. fine refl)))
-        & (λ _. checks _ (λ _. fine (resumed-given (process (numberOf (r .a)) p), tt)))
-        & (λ _. checks _ (λ _. by-test (λ (b : Change). Stores p (Changed (Stored (numberOf (r .a)) (withCurrent (numberOf (r .b)) (process (numberOf (r .a)) p))) b 0)) (ready (process (numberOf (r .a)) p)) (λ _. fine (refl, tt)) (λ _. fine (refl, tt))))
-        & (λ _. checks _ (λ _. fine tt))
-        & (λ _. checks _ (λ h. fine (inr (refl, free-name (λ (x : SemaphoreT). x .name) noSemaphore semaphoreLimit (p .semaphoreCount) (p .semaphores) (v .objects .semaphores .numbered) (r .a) (h .1 .0) (and-left (isName (r .a)) _ (not-false _ (h .1 .1 .0)))), tt)))
-        & (λ _. waits _ _ _ _ _ _ (λ h _. fine (inl (known-id _ _ (h .0), refl), tt)))
-        & (λ _. checks _ (λ h. fine (signalled-marks (waiters (object (Semaphore (numberOf (r .a)))) p) (numberOf (r .a)) (known-id _ _ (h .0)), tt)))
-        & (λ _. checks _ (λ h. fine ((inr (refl, free-name (λ (x : EventState). x .name) noEvent eventLimit (p .eventCount) (p .events) (v .objects .events .numbered) (r .a) (h .1 .0) (not-false _ (h .1 .1 .0))), λ low. absurd (omega arith)), tt)))
-        & (λ e. checks _ (λ h. fine ((inl (known-id _ _ (h .0), refl), λ _. (inl e, refl)), tt)))
-        & (λ e. checks _ (λ h. fine ((inl (known-id _ _ (h .0), refl), λ _. (inr e, refl)), tt)))
-        & (λ _. waits _ _ _ _ _ _ (λ _ _. fine tt))
-        & (λ _. checks _ (λ _. checks _ (λ _. fine tt)))
-        & (λ _. checks _ (λ _. checks _ (λ _. fine tt)))
-        & (λ _. checks _ (λ h. fine ((refl, free-name (λ (x : Buffer). x .name) noBuffer bufferLimit (p .bufferCount) (p .buffers) (v .objects .buffers .numbered) (r .a) (h .1 .0) (and-left (isName (r .a)) _ (not-false _ (h .1 .1 .0)))), tt)))
-        & (λ _. waits _ _ _ _ _ _ (λ h _. fine (known-id _ _ (h .0), tt)))
-        & (λ _. waits _ _ _ _ _ _ (λ h _. fine (known-id _ _ (h .0), tt)))
-        & (λ _. checks _ (λ h. fine ((inr (refl, free-name (λ (x : BlackboardT). x .name) noBlackboard blackboardLimit (p .blackboardCount) (p .blackboards) (v .objects .blackboards .numbered) (r .a) (h .1 .0) (not-false _ (h .1 .1 .0))), λ low. absurd (omega arith)), tt)))
-        & (λ e. checks _ (λ h. fine ((inl (known-id _ _ (h .0), refl), λ _. (inl e, refl)), tt)))
-        & (λ _. waits _ _ _ _ _ _ (λ _ _. fine tt))
-        & (λ e. checks _ (λ h. fine ((inl (known-id _ _ (h .0), refl), λ _. (inr e, refl)), tt)))
-        & (λ _. waits _ _ _ _ _ _ (λ _ _. fine tt))
-        & (λ _. waits _ _ _ _ _ _ (λ _ _. fine tt))
-        & (λ _. checks _ (λ _. fine (tt, tt)))
-        & (λ _. checks _ (λ _. fine (tt, tt)))
-        & (λ _. fine tt)
-        & tt
-
-    pub call-stores : 1 ≤ n → n ≤ callLimit → Stores p (callDecision c x n r p)
-    call-stores lo hi = by-number c x n r p (Stores p) each (λ out. absurd (out lo hi))
+  pub signalled-marks : (p : Partition) (l : List ℕ) (k : ℕ) → Between 1 (p .semaphoreCount) k → Marked p (signalled l k p)
+  unfolding signalled
+  signalled-marks p [] k b = inl (b, refl)
+  signalled-marks p (id ∷ l) k b = refl

@@ -4,7 +4,8 @@ ghost use mathlib.Core.Bool.{_&&_, _||_};
 ghost use mathlib.Core.List.{[], _∷_};
 ghost use lib.Dec.{eqb, ltb};
 ghost use Rattle.machine.specs.Fields.{isNumber};
-ghost use Rattle.machine.specs.Decisions.{coded, codeOf, replyOf, changes, restarts, writtenAt, messageOf, passedAt, transferOf, noMessage, changed, blocked, creationChecks, waitChecks, unknown};
+ghost use Rattle.machine.specs.Decisions.{coded, codeOf, replyOf, noMessage, changed, blocked, creationChecks, waitChecks, unknown};
+ghost use Rattle.machine.specs.Questions.{changes, restarts, messageAt, messageOf, transferAt, transferOf};
 use machine::Change;
 use machine::Context;
 use machine::Decision;
@@ -78,8 +79,8 @@ pub fn is_restart(d: Decision) -> bool
 }
 
 // The place of the channel on which it leaves a message, past the last for none.
-pub fn written_at(d: Decision) -> usize
-    ensures { λ r. ⌜ r ≡ writtenAt d ⌝ }
+pub fn message_at(d: Decision) -> usize
+    ensures { λ r. ⌜ r ≡ messageAt d ⌝ }
 {
     match d {
         Decision::Refused(_) => Module::CHANNELS,
@@ -120,8 +121,8 @@ pub fn message_of(d: Decision) -> Message
 }
 
 // The place of the channel on which it makes a transfer, past the last for none.
-pub fn passed_at(d: Decision) -> usize
-    ensures { λ r. ⌜ r ≡ passedAt d ⌝ }
+pub fn transfer_at(d: Decision) -> usize
+    ensures { λ r. ⌜ r ≡ transferAt d ⌝ }
 {
     match d {
         Decision::Refused(_) => Module::CHANNELS,

@@ -13,7 +13,8 @@ use mir.Val.{toZ, ofZ, SFits}
 use mir.ValLaws.{toZ-ofZ}
 use borrow.Author.Tests.{ne-eqb, lt-ltb, ltb-true, ltb-false, eqb-true, eqb-false, leb-true, not-false}
 use Rattle.machine.specs.Channels.{portAt, portOf, queuingAt, seesTraffic, otherEnd, otherQueue, noTraffic, trafficOf, passed, leadsInto, keptTo, refilledTo}
-use Rattle.machine.specs.Decisions.{noCallerAs, coded, checked, codeOf, replyOf, changes, restarts, writtenAt, messageOf, passedAt, transferOf, noMessage}
+use Rattle.machine.specs.Decisions.{noCallerAs, coded, checked, codeOf, replyOf, noMessage}
+use Rattle.machine.specs.Questions.{changes, restarts, messageAt, messageOf, transferAt, transferOf}
 use Rattle.machine.specs.Messages.{noQueue, moved, endsWait}
 use Rattle.machine.specs.Fields.{requestOf, numberOf}
 use Rattle.machine.specs.Limits.{partitionLimit, channelLimit}
@@ -390,42 +391,42 @@ module _ {m : Module} {e : Event} {T : Table} {x : Plan} (f : Planned m e T x) w
           stores : {y : Module} → y ≡ moduleAfter m k d → length (y .partitions) ≡ partitionLimit → Held y → y .table ≡ q .table → y .t ≡ q .t → After m (x .request) (x .current) y b
           stores {y} g l l′ a t = record { state = rw (request-is) (g ∙ ap (moduleAfter m k) made-is); reply = rw (request-is) (says ∙ ap replyOf made-is); long = l; held = l′; window = window-is y a t }
 
-          pub call-same : changes d ≡ false → channelLimit ≤ writtenAt d → channelLimit ≤ passedAt d → {y : Module} → y ≡ q → After m (x .request) (x .current) y b
+          pub call-same : changes d ≡ false → channelLimit ≤ messageAt d → channelLimit ≤ transferAt d → {y : Module} → y ≡ q → After m (x .request) (x .current) y b
           call-same c h h′ {y} g =
               let w = called-same in
               let n = called-no-tick (contextOf m k) (portOf m k r) (numberOf (r .call)) r (part m (k - 1)) in
               let u : NoTick d = subst NoTick (sym made-called) (n .is) in
               stores (g ∙ w ∙ sym (after-same m k (f .held .0) d u c h h′)) (rw (g, w) (f .long)) (rw (g, w) (f .held)) (ap (λ (z : Module). z .table) g) (ap (λ (z : Module). z .t) g)
 
-          pub call-written : writtenAt d < channelLimit → {a : Message} → a ≡ messageOf d → {y : Module} → y ≡ withMessage (writtenAt d) a q → After m (x .request) (x .current) y b
+          pub call-written : messageAt d < channelLimit → {a : Message} → a ≡ messageOf d → {y : Module} → y ≡ withMessage (messageAt d) a q → After m (x .request) (x .current) y b
           call-written h {a} e {y} g =
               let w = called-same in
-              stores (g ∙ rw (e, w) (sym (after-written m k d h))) (rw (g, w) (f .long)) (rw (g, w) (length-set (m .messages) (writtenAt d) a ∙ f .held .0, f .held .1)) (ap (λ (z : Module). z .table) g) (ap (λ (z : Module). z .t) g)
+              stores (g ∙ rw (e, w) (sym (after-written m k d h))) (rw (g, w) (f .long)) (rw (g, w) (length-set (m .messages) (messageAt d) a ∙ f .held .0, f .held .1)) (ap (λ (z : Module). z .table) g) (ap (λ (z : Module). z .t) g)
 
           -- a transfer: the queue of messages, and where a wait ends, the partition at the other end
-          module _ (h : passedAt d < channelLimit) {a : Transfer} (is : a ≡ transferOf d) {l : Queue} (moved-is : l ≡ moved a (getD (q .queues) (passedAt d) pastQueue)) {end : ℕ} (ends : end ≡ cond (endsWait a) (otherEnd (x .own) (channel T (passedAt d)) - 1) partitionLimit) where
-            moves : l ≡ moved a (queue q (passedAt d))
-            moves = moved-is ∙ ap (moved a) (getD-any (q .queues) (passedAt d) pastQueue noQueue (let w = called-same in let z : length (q .queues) ≡ channelLimit = rw w (f .held .1) in omega arith))
+          module _ (h : transferAt d < channelLimit) {a : Transfer} (is : a ≡ transferOf d) {l : Queue} (moved-is : l ≡ moved a (getD (q .queues) (transferAt d) pastQueue)) {end : ℕ} (ends : end ≡ cond (endsWait a) (otherEnd (x .own) (channel T (transferAt d)) - 1) partitionLimit) where
+            moves : l ≡ moved a (queue q (transferAt d))
+            moves = moved-is ∙ ap (moved a) (getD-any (q .queues) (transferAt d) pastQueue noQueue (let w = called-same in let z : length (q .queues) ≡ channelLimit = rw w (f .held .1) in omega arith))
 
             pub call-passed : end < partitionLimit → {p : Partition} → p ≡ noted (endedBy a (part q end))
-                → {y : Module} → y ≡ record { table = q .table; t = q .t; messages = q .messages; queues = set (q .queues) (passedAt d) l; partitions = set (q .partitions) end p } → After m (x .request) (x .current) y b
+                → {y : Module} → y ≡ record { table = q .table; t = q .t; messages = q .messages; queues = set (q .queues) (transferAt d) l; partitions = set (q .partitions) end p } → After m (x .request) (x .current) y b
             call-passed inside {p} e {y} g =
                 let w = called-same in
                 let on : endsWait a ≡ true = either (endsWait a) (λ t. t) (λ t. let z : end ≡ partitionLimit = ends ∙ rw t in absurd (omega arith)) in
-                let at : end ≡ otherEnd k (channel (m .table) (passedAt d)) - 1 = ends ∙ rw (on, own-is, ← f .same) in
-                let done : passed k (passedAt d) (transferOf d) m ≡ withPart (otherEnd k (channel (m .table) (passedAt d)) - 1) (endedBy a (part m (otherEnd k (channel (m .table) (passedAt d)) - 1))) (withQueue (passedAt d) (moved a (queue m (passedAt d))) m) = rw (← is, on) in
-                stores (g ∙ rw (e, moves, w, at) (sym (after-passed m k d h ∙ done))) (rw (g, w) (length-set (m .partitions) end p ∙ f .long)) (rw (g, w) (f .held .0, length-set (m .queues) (passedAt d) l ∙ f .held .1)) (ap (λ (z : Module). z .table) g) (ap (λ (z : Module). z .t) g)
+                let at : end ≡ otherEnd k (channel (m .table) (transferAt d)) - 1 = ends ∙ rw (on, own-is, ← f .same) in
+                let done : passed k (transferAt d) (transferOf d) m ≡ withPart (otherEnd k (channel (m .table) (transferAt d)) - 1) (endedBy a (part m (otherEnd k (channel (m .table) (transferAt d)) - 1))) (withQueue (transferAt d) (moved a (queue m (transferAt d))) m) = rw (← is, on) in
+                stores (g ∙ rw (e, moves, w, at) (sym (after-passed m k d h ∙ done))) (rw (g, w) (length-set (m .partitions) end p ∙ f .long)) (rw (g, w) (f .held .0, length-set (m .queues) (transferAt d) l ∙ f .held .1)) (ap (λ (z : Module). z .table) g) (ap (λ (z : Module). z .t) g)
 
-            pub call-moved : partitionLimit ≤ end → {y : Module} → y ≡ record { table = q .table; t = q .t; messages = q .messages; queues = set (q .queues) (passedAt d) l; partitions = q .partitions } → After m (x .request) (x .current) y b
+            pub call-moved : partitionLimit ≤ end → {y : Module} → y ≡ record { table = q .table; t = q .t; messages = q .messages; queues = set (q .queues) (transferAt d) l; partitions = q .partitions } → After m (x .request) (x .current) y b
             call-moved far {y} g =
                 let w = called-same in
-                let u = withQueue (passedAt d) (moved a (queue m (passedAt d))) m in
-                let done : passed k (passedAt d) (transferOf d) m ≡ u = rw (← is) (by-test (λ (z : Module). z ≡ u) (endsWait a)
+                let u = withQueue (transferAt d) (moved a (queue m (transferAt d))) m in
+                let done : passed k (transferAt d) (transferOf d) m ≡ u = rw (← is) (by-test (λ (z : Module). z ≡ u) (endsWait a)
                 (λ t.
-                let at : end ≡ otherEnd k (channel (m .table) (passedAt d)) - 1 = ends ∙ rw (t, own-is, ← f .same) in
-                ap (λ (v : List Partition). record { table = m .table; t = m .t; messages = m .messages; queues = set (m .queues) (passedAt d) (moved a (queue m (passedAt d))); partitions = v }) (set-out (m .partitions) (otherEnd k (channel (m .table) (passedAt d)) - 1) _ (omega (arith, f .long))))
+                let at : end ≡ otherEnd k (channel (m .table) (transferAt d)) - 1 = ends ∙ rw (t, own-is, ← f .same) in
+                ap (λ (v : List Partition). record { table = m .table; t = m .t; messages = m .messages; queues = set (m .queues) (transferAt d) (moved a (queue m (transferAt d))); partitions = v }) (set-out (m .partitions) (otherEnd k (channel (m .table) (transferAt d)) - 1) _ (omega (arith, f .long))))
                 (λ _. refl)) in
-                stores (g ∙ rw (moves, w) (sym (after-passed m k d h ∙ done))) (rw (g, w) (f .long)) (rw (g, w) (f .held .0, length-set (m .queues) (passedAt d) l ∙ f .held .1)) (ap (λ (z : Module). z .table) g) (ap (λ (z : Module). z .t) g)
+                stores (g ∙ rw (moves, w) (sym (after-passed m k d h ∙ done))) (rw (g, w) (f .long)) (rw (g, w) (f .held .0, length-set (m .queues) (transferAt d) l ∙ f .held .1)) (ap (λ (z : Module). z .table) g) (ap (λ (z : Module). z .t) g)
 
           module _ {p : Partition} (after : p ≡ noted (partitionAfter d (part q (x .slot)))) where
             pub call-changed : changes d ≡ true → restarts d ≡ false → {y : Module} → y ≡ record { table = q .table; t = q .t; messages = q .messages; queues = q .queues; partitions = set (q .partitions) (x .slot) p } → After m (x .request) (x .current) y b

@@ -317,8 +317,8 @@ impl Executive {
                 let port = channels::port_at(table, x.own, a, held, traffic);
                 let d = services::call(was, context, port, x.call, request);
                 reply = decisions::reply_of(d);
-                let put = decisions::written_at(d);
-                let pass = decisions::passed_at(d);
+                let put = decisions::message_at(d);
+                let pass = decisions::transfer_at(d);
                 if decisions::does_change(d) {
                     let q = partition::after(was, d);
                     m.partitions[slot] = q;

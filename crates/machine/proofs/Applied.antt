@@ -17,7 +17,7 @@ use Rattle.machine.specs.declared.Port.{Port}
 use Rattle.machine.specs.declared.Request.{Request}
 use Rattle.machine.specs.Limits.{channelLimit, callLimit}
 use Rattle.machine.specs.Partition.{partitionAfter}
-use Rattle.machine.specs.Decisions.{changes, restarts, writtenAt, messageOf, passedAt, transferOf}
+use Rattle.machine.specs.Questions.{changes, restarts, messageAt, messageOf, transferAt, transferOf}
 use Rattle.machine.specs.Module.{part, withPart, withMessage}
 use Rattle.machine.specs.Channels.{passed}
 use Rattle.machine.specs.Services.{Service, services, noService, serviceOf, callDecision, called}
@@ -92,7 +92,7 @@ module _ (m : Module) (k : ℕ) where
   after-restarted (Written i x) r = absurd (true≢false (sym r))
   after-restarted (Passed i a v) r = absurd (true≢false (sym r))
 
-  pub after-written : (d : Decision) → writtenAt d < channelLimit → moduleAfter m k d ≡ withMessage (writtenAt d) (messageOf d) m
+  pub after-written : (d : Decision) → messageAt d < channelLimit → moduleAfter m k d ≡ withMessage (messageAt d) (messageOf d) m
   after-written (Refused n) h = absurd (omega arith)
   after-written (Unchanged v e) h = absurd (omega arith)
   after-written Ticked h = absurd (omega arith)
@@ -102,7 +102,7 @@ module _ (m : Module) (k : ℕ) where
   after-written (Written i x) h = refl
   after-written (Passed i a v) h = absurd (omega arith)
 
-  pub after-passed : (d : Decision) → passedAt d < channelLimit → moduleAfter m k d ≡ passed k (passedAt d) (transferOf d) m
+  pub after-passed : (d : Decision) → transferAt d < channelLimit → moduleAfter m k d ≡ passed k (transferAt d) (transferOf d) m
   after-passed (Refused n) h = absurd (omega arith)
   after-passed (Unchanged v e) h = absurd (omega arith)
   after-passed Ticked h = absurd (omega arith)
@@ -113,7 +113,7 @@ module _ (m : Module) (k : ℕ) where
   after-passed (Passed i a v) h = refl
 
   -- a place past the channels holds nothing
-  pub after-same : length (m .messages) ≡ channelLimit → (d : Decision) → NoTick d → changes d ≡ false → channelLimit ≤ writtenAt d → channelLimit ≤ passedAt d → moduleAfter m k d ≡ m
+  pub after-same : length (m .messages) ≡ channelLimit → (d : Decision) → NoTick d → changes d ≡ false → channelLimit ≤ messageAt d → channelLimit ≤ transferAt d → moduleAfter m k d ≡ m
   after-same long (Refused n) t c h g = refl
   after-same long (Unchanged v e) t c h g = refl
   after-same long Ticked t c h g = absurd t

@@ -1,13 +1,11 @@
 -- What an event decides: replies, checks in the order written, and the checks that several calls share.
 use Prim.Native.Nat.{ℕ}
-use mathlib.Core.Bool.{Bool, true, false, cond, not, _&&_, _||_}
+use mathlib.Core.Bool.{Bool, false, cond, not, _&&_, _||_}
 use mathlib.Core.List.{List, [], _∷_, _++_}
 use lib.Dec.{eqb, ltb}
 use Rattle.machine.specs.declared.Process.{Process}
 use Rattle.machine.specs.declared.Partition.{Partition}
 use Rattle.machine.specs.declared.Message.{Message}
-use Rattle.machine.specs.declared.Transfer.{Transfer}
-use Rattle.machine.specs.declared.Transfer.the-variants.{Taken}
 use Rattle.machine.specs.declared.Context.{Context}
 use Rattle.machine.specs.declared.Reply.{Reply}
 use Rattle.machine.specs.declared.Change.{Change}
@@ -18,7 +16,6 @@ use Rattle.machine.specs.declared.Wait.{Wait}
 use Rattle.machine.specs.declared.Time.{Time}
 use Rattle.machine.specs.declared.Time.the-variants.{At}
 use Rattle.machine.specs.declared.Field.{Field}
-use Rattle.machine.specs.Limits.{channelLimit}
 use Rattle.machine.specs.Fields.{isNumber, isTimeout, timeOf}
 use Rattle.machine.specs.Process.{later, waitingFor}
 use Rattle.machine.specs.Partition.{idleMode, normalMode, locked, process}
@@ -53,72 +50,6 @@ replyOf (Changed a b value) = valued value (At 0)
 replyOf (Restarted mode) = coded 0
 replyOf (Written i x) = coded 0
 replyOf (Passed i a value) = valued value (At 0)
-
--- it changes the caller's partition
-abbrev pub changes : Decision → Bool
-changes (Refused code) = false
-changes (Unchanged value extra) = false
-changes Ticked = false
-changes (Blocked id x) = true
-changes (Changed a b value) = true
-changes (Restarted mode) = true
-changes (Written i x) = false
-changes (Passed i a value) = false
-
--- modes 0, 1, 2
-abbrev pub restarts : Decision → Bool
-restarts (Refused code) = false
-restarts (Unchanged value extra) = false
-restarts Ticked = false
-restarts (Blocked id x) = false
-restarts (Changed a b value) = false
-restarts (Restarted mode) = true
-restarts (Written i x) = false
-restarts (Passed i a value) = false
-
--- the place of the channel on which it leaves a message; past the last for none
-abbrev pub writtenAt : Decision → ℕ
-writtenAt (Refused code) = channelLimit
-writtenAt (Unchanged value extra) = channelLimit
-writtenAt Ticked = channelLimit
-writtenAt (Blocked id x) = channelLimit
-writtenAt (Changed a b value) = channelLimit
-writtenAt (Restarted mode) = channelLimit
-writtenAt (Written i x) = i
-writtenAt (Passed i a value) = channelLimit
-
--- the message that it leaves there
-abbrev pub messageOf : Decision → Message
-messageOf (Refused code) = noMessage
-messageOf (Unchanged value extra) = noMessage
-messageOf Ticked = noMessage
-messageOf (Blocked id x) = noMessage
-messageOf (Changed a b value) = noMessage
-messageOf (Restarted mode) = noMessage
-messageOf (Written i x) = x
-messageOf (Passed i a value) = noMessage
-
--- the place of the channel on which it makes a transfer; past the last for none
-abbrev pub passedAt : Decision → ℕ
-passedAt (Refused code) = channelLimit
-passedAt (Unchanged value extra) = channelLimit
-passedAt Ticked = channelLimit
-passedAt (Blocked id x) = channelLimit
-passedAt (Changed a b value) = channelLimit
-passedAt (Restarted mode) = channelLimit
-passedAt (Written i x) = channelLimit
-passedAt (Passed i a value) = i
-
--- the transfer that it makes there
-abbrev pub transferOf : Decision → Transfer
-transferOf (Refused code) = Taken
-transferOf (Unchanged value extra) = Taken
-transferOf Ticked = Taken
-transferOf (Blocked id x) = Taken
-transferOf (Changed a b value) = Taken
-transferOf (Restarted mode) = Taken
-transferOf (Written i x) = Taken
-transferOf (Passed i a value) = a
 
 -- code 0 and one change
 abbrev pub changed : Change → Decision

@@ -5,6 +5,7 @@ pub mod Messages
 pub mod Process
 pub mod Partition
 pub mod Decisions
+pub mod Questions
 pub mod Calls
 pub mod Objects
 pub mod Buffers

@@ -1,12 +1,12 @@
 use borrow.Author.Needs.{needs}
-use Rattle.decisions.proofs.passed_at.Statement.{statement}
-use Rattle.decisions.proofs.passed_at.Tie as tie
+use Rattle.decisions.proofs.transfer_at.Statement.{statement}
+use Rattle.decisions.proofs.transfer_at.Tie as tie
 
 returns-8 : tie.Need-returns-8
 returns-8 c = rw (c .before .d .given .1)
 
-pub passed-at-spec : {M : Type 1} → statement M
-passed-at-spec =
+pub transfer-at-spec : {M : Type 1} → statement M
+transfer-at-spec =
     tie.close
     (tie.spec
     (λ c. search needs)

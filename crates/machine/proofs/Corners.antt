@@ -18,7 +18,7 @@ use Rattle.machine.specs.declared.Time.the-variants.{Never, At}
 use Rattle.machine.specs.Limits.{processLimit, semaphoreLimit, eventLimit, bufferLimit, messageLimit, blackboardLimit, nameLimit, priorityLimit, valueLimit, durationLimit}
 use Rattle.machine.specs.Process.{blankProcess, ready, withCurrent}
 use Rattle.machine.specs.Partition.{process, semaphore, event, buffer, blackboard, byId, noSemaphore, noEvent, noBuffer, noBlackboard, running, withProcesses, noted, withModeAndLock}
-use Rattle.machine.specs.Windows.{Release, NextFlagged}
+use Rattle.machine.specs.Theorems.Starts.{Release, NextFlagged}
 use Rattle.machine.specs.Decisions as D
 use Rattle.machine.specs.Calls as C
 use Rattle.machine.specs.Objects as Ob

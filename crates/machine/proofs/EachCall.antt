@@ -66,7 +66,8 @@ use Rattle.machine.proofs.WindowLeft.{Covered, current-known, covered-o
 use Rattle.machine.proofs.Plain.{lossless, all-plain, arrived-plain, later-uncapped, each-plain, next-deadline-plain, next-plain, refilled-all, release-deadline-plain, release-point-plain, tick-plain}
 use Rattle.machine.specs.declared.Message.{Message}
 use Rattle.machine.specs.declared.Queue.{Queue}
-use Rattle.machine.specs.Windows.{Uncovered, Release, windows}
+use Rattle.machine.specs.Windows.{windows}
+use Rattle.machine.specs.Theorems.Starts.{Uncovered, Release}
 use Rattle.machine.specs.declared.Table.{Table}
 use Rattle.machine.proofs.Starts.{release-earliest, release-one}
 use Rattle.machine.proofs.Dispatch.{ticks-decided}

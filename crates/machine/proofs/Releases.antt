@@ -6,7 +6,8 @@ use Rattle.machine.specs.declared.Module.{Module}
 use Rattle.machine.specs.declared.Process.{Process}
 use Rattle.machine.specs.declared.Time.the-variants.{At}
 use Rattle.machine.specs.Theorems.Valid.{SoundModule}
-use Rattle.machine.specs.Windows.{releasePoint, Release}
+use Rattle.machine.specs.Windows.{releasePoint}
+use Rattle.machine.specs.Theorems.Starts.{Release}
 use Rattle.machine.specs.Theorems.Events.{Calling}
 use Rattle.machine.specs.Theorems.Releases.{Releases}
 use Rattle.machine.proofs.Calling.{calling-sound, calling-low}

@@ -16,7 +16,8 @@ use Rattle.machine.specs.declared.Window.{Window}
 use Rattle.machine.specs.Limits.{timeLimit, greatestTime}
 use Rattle.machine.specs.Table.{hasFlagged}
 use Rattle.machine.specs.Theorems.Valid.{Between, AtMost, SoundWindow, SoundWindows, SoundTable}
-use Rattle.machine.specs.Windows.{noWindow, windows, ownedBy, flaggedFor, startsFrom, firstStart, aheadOf, nextStart, releaseAfter, releasePoint, WindowAt, NextFlagged, Release}
+use Rattle.machine.specs.Windows.{noWindow, windows, ownedBy, flaggedFor, startsFrom, firstStart, aheadOf, nextStart, releaseAfter, releasePoint}
+use Rattle.machine.specs.Theorems.Starts.{WindowAt, NextFlagged, Release}
 use Rattle.machine.proofs.Either.{either}
 use Rattle.machine.proofs.Tests.{by-test, and-left, and-right, not-both}
 

@@ -8,7 +8,8 @@ use Rattle.machine.specs.declared.Event.{Event as EventT}
 use Rattle.machine.specs.declared.Lookup.{Lookup}
 use Rattle.machine.specs.declared.Module.{Module}
 use Rattle.machine.specs.Calls as C
-use Rattle.machine.specs.Windows.{windows, lookup, StartAt, Uncovered}
+use Rattle.machine.specs.Windows.{windows, lookup}
+use Rattle.machine.specs.Theorems.Starts.{StartAt, Uncovered}
 use Rattle.machine.specs.Module.{emptyTable, emptyModule, window, current, ticksLeft}
 use Rattle.machine.specs.Step.{step}
 use Rattle.machine.specs.Runs.{after}

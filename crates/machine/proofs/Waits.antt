@@ -20,7 +20,8 @@ use Rattle.machine.specs.Module.{current}
 use Rattle.machine.specs.Theorems.Plain.{plainBetween}
 use Rattle.machine.specs.Runs.{after}
 use Rattle.machine.specs.Theorems.Valid.{Between, SoundTable, SoundModule, Reached}
-use Rattle.machine.specs.Windows.{noWindow, windows, covers, ownedBy, startsFrom, nextStart, lookup, Uncovered, startsAt, waitingOf, WaitingTime}
+use Rattle.machine.specs.Windows.{noWindow, windows, covers, ownedBy, startsFrom, nextStart, lookup, waitingOf}
+use Rattle.machine.specs.Theorems.Starts.{Uncovered, startsAt, WaitingTime}
 use Rattle.machine.specs.Theorems.Waits.{waitingNow, WaitsExample, Waits}
 use Rattle.machine.specs.Theorems.Examples as E
 use Rattle.machine.specs.Line as X

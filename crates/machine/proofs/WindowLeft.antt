@@ -13,7 +13,8 @@ use Rattle.machine.specs.declared.Lookup.{Lookup}
 use Rattle.machine.specs.declared.Table.{Table}
 use Rattle.machine.specs.declared.Window.{Window}
 use Rattle.machine.specs.Theorems.Valid.{Between, SoundWindow, SoundWindows, SoundTable}
-use Rattle.machine.specs.Windows.{noWindow, windows, covers, anyWindow, nextStart, covering, lookup, StartAt, Uncovered, WindowLeft}
+use Rattle.machine.specs.Windows.{noWindow, windows, covers, anyWindow, nextStart, covering, lookup}
+use Rattle.machine.specs.Theorems.Starts.{StartAt, Uncovered, WindowLeft}
 use Rattle.machine.proofs.Either.{either}
 use Rattle.machine.proofs.Starts.{each-window, ends-before, one-start, frame-some, at-place, next-bounds, next-starts, next-least, next-nearer}
 use Rattle.machine.proofs.Tests.{and-left, and-right, not-both}

@@ -1,4 +1,5 @@
 -- What is claimed of the machine. Nothing of the machine rests on it.
+pub mod Starts
 pub mod Examples
 pub mod LeftRight
 pub mod Valid

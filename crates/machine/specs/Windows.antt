@@ -1,8 +1,8 @@
 -- The windows of a table: the next start of a window, the current partition with the ticks left, the release point and the waiting time.
-use Prim.Native.Nat.{ℕ, _+_, _-_, _%_, _≤_, _<_}
+use Prim.Native.Nat.{ℕ, _+_, _-_, _%_}
 use mathlib.Core.Bool.{Bool, true, false, cond, not, _&&_, _||_}
 use mathlib.Core.List.{List, [], _∷_}
-use lib.ListN.{length, getD, take}
+use lib.ListN.{take}
 use lib.Dec.{leb, ltb, eqb}
 use Rattle.machine.specs.declared.Field.{Field}
 use Rattle.machine.specs.Limits.{timeLimit}
@@ -13,8 +13,6 @@ use Rattle.machine.specs.declared.Time.the-variants.{Never, At}
 use Rattle.machine.specs.declared.Window.{Window}
 use Rattle.machine.specs.declared.Table.{Table}
 use Rattle.machine.specs.declared.Lookup.{Lookup}
-use mathlib.Core.Logic.{_⊎_}
-use mathlib.Core.Path.{_≡_}
 use lib.IntN.{ℤ}
 use Rattle.machine.specs.declared.Waiting.{Waiting}
 
@@ -75,33 +73,6 @@ covering (w ∷ ws) x gap = cond (covers w x) (record { partition = w .partition
 unfoldable pub lookup : Table → ℕ → Lookup
 lookup T t = cond (eqb (T .frame) 0) (record { partition = 0; left = 0 }) (covering (windows T) (t % T .frame) (nextStart T t anyWindow))
 
--- a window starts at place x of the frame
-pub record StartAt (T : Table) (x : ℕ) : Type 0 where
-  pub at : ℕ
-  pub inside : at < length (windows T)
-  pub starts : getD (windows T) at noWindow .start ≡ x
-
--- none of the windows covers place x of the frame
-abbrev pub Uncovered : List Window → ℕ → Type 0
-Uncovered ws x = (i : ℕ) → i < length ws → covers (getD ws i noWindow) x ≡ false
-
--- what the lookup gives at t, without a search, with n ticks left
-pub record WindowLeft (T : Table) (t n : ℕ) : Type 0 where
-  -- 1 ≤ n ≤ M
-  pub some : 1 ≤ n
-  pub few : n ≤ T .frame
-  -- in a window: its partition, and its end minus t mod M
-  pub window : (i : ℕ) → let w = getD (windows T) i noWindow in
-      let x = t % T .frame in
-      i < length (windows T) → covers w x ≡ true → (lookup T t .partition ≡ w .partition) × (x + n ≡ w .start + w .duration)
-  -- without one: no partition, and until a window starts
-  pub gap : Uncovered (windows T) (t % T .frame) → (lookup T t .partition ≡ 0) × StartAt T ((t + n) % T .frame)
-  -- for j < n the lookup at t + j gives the same partition and n − j; no window starts in between, so that adjacent ones are not joined
-  pub lasts : (j : ℕ) → j < n → lookup T (t + j) ≡ record { partition = lookup T t .partition; left = n - j }
-  pub between : (j : ℕ) → 1 ≤ j → j < n → StartAt T ((t + j) % T .frame) → ⊥
-  -- at t + n a window starts, or none covers it
-  pub ends : StartAt T ((t + n) % T .frame) ⊎ Uncovered (windows T) ((t + n) % T .frame)
-
 -- ---------------------------------------------------------------- the release point
 -- the earliest start of a window with flag 1, of that partition, strictly after t
 unfoldable pub releaseAfter : Table → ℕ → ℕ → ℕ
@@ -111,24 +82,6 @@ releaseAfter T t k = t + nextStart T t (flaggedFor k)
 unfoldable pub releasePoint : Table → ℕ → ℕ → ℕ
 releasePoint T t k = capped (releaseAfter T t k)
 
--- a window of partition k with this flag starts at place x of the frame
-pub record WindowAt (T : Table) (k : ℕ) (flag : Bool) (x : ℕ) : Type 0 where
-  pub at : ℕ
-  pub inside : at < length (windows T)
-  pub owner : getD (windows T) at noWindow .partition ≡ k
-  pub flagIs : getD (windows T) at noWindow .flag ≡ flag
-  pub starts : getD (windows T) at noWindow .start ≡ x
-
--- in the frame s is the nearest start of a window of partition k with flag 1 after place x
-abbrev pub NextFlagged : Table → ℕ → ℕ → ℕ → Type 0
-NextFlagged T k x s = WindowAt T k true s × (x < s) × ((y : ℕ) → WindowAt T k true y → x < y → s ≤ y)
-
--- r is the earliest start of a window with flag 1, of that partition, strictly after t
-pub record Release (T : Table) (k t r : ℕ) : Type 0 where
-  pub starts : WindowAt T k true (r % T .frame)
-  pub after : t < r
-  pub earliest : (s : ℕ) → WindowAt T k true (s % T .frame) → t < s → r ≤ s
-
 -- ---------------------------------------------------------------- the waiting time
 -- 13, with n 0, for t or partition out of range (in the empty record there is no partition)
 abbrev pub waitingRefused : Table → Field → Field → Bool
@@ -137,15 +90,3 @@ waitingRefused T t k = not (between 0 timeLimit t) || not (between 1 (T .size) k
 -- The waiting time, given t and a partition: exactly the least n in 1..M such that a window of it, of either flag, starts at (t + n) mod M.
 unfoldable pub waitingOf : Table → ℤ → ℤ → Waiting
 waitingOf T t k = cond (waitingRefused T (field t) (field k)) (record { code = 13; n = 0 }) (record { code = 0; n = nextStart T (numberOf (field t)) (ownedBy (numberOf (field k))) })
-
--- a window of partition k starts at x
-unfoldable pub startsAt : ℕ → ℕ → List Window → Bool
-startsAt k x [] = false
-startsAt k x (w ∷ ws) = (eqb (w .partition) k && eqb (w .start) x) || startsAt k x ws
-
--- n is the least of 1..M such that a window of partition k starts at (t + n) mod M
-pub record WaitingTime (T : Table) (k t n : ℕ) : Type 0 where
-  pub some : 1 ≤ n
-  pub few : n ≤ T .frame
-  pub starts : startsAt k ((t + n) % T .frame) (windows T) ≡ true
-  pub least : (j : ℕ) → 1 ≤ j → j < n → startsAt k ((t + j) % T .frame) (windows T) ≡ false

@@ -32,7 +32,7 @@ use Rattle.machine.specs.Theorems.Events.{own, callBy, Gives, Refuses, P
 use Rattle.machine.specs.Theorems.Starred.{given, awaitsNormal, awaitsNext, awaitsRelease}
 use Rattle.machine.specs.Theorems.TicksLeft.{EndsIn}
 use Rattle.machine.specs.declared.Message.{Message}
-use Rattle.machine.specs.Windows.{Release}
+use Rattle.machine.specs.Theorems.Starts.{Release}
 use Rattle.machine.specs.declared.Table.{Table}
 
 -- ---------------------------------------------------------------- an event's numbers

@@ -11,7 +11,8 @@ use Rattle.machine.specs.declared.Time.the-variants.{At}
 use Rattle.machine.specs.Partition.{process}
 use Rattle.machine.specs.Step.{step}
 use Rattle.machine.specs.Theorems.Valid.{Between}
-use Rattle.machine.specs.Windows.{windows, noWindow, releasePoint, WindowAt, NextFlagged, Release}
+use Rattle.machine.specs.Windows.{windows, noWindow, releasePoint}
+use Rattle.machine.specs.Theorems.Starts.{WindowAt, NextFlagged, Release}
 use Rattle.machine.specs.Theorems.Events.{own, callBy}
 use Rattle.machine.specs.Theorems.Starred.{ReleasesAt}
 

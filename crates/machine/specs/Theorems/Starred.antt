@@ -21,7 +21,7 @@ use Rattle.machine.specs.Ids.{members}
 use Rattle.machine.specs.Process.{object, carried, ready, withCurrent}
 use Rattle.machine.specs.Partition.{process, semaphore, event, buffer, blackboard, waiters, running, nothingCreated, noted, withProcesses}
 use Rattle.machine.specs.Messages.{held}
-use Rattle.machine.specs.Windows.{Release, NextFlagged}
+use Rattle.machine.specs.Theorems.Starts.{Release, NextFlagged}
 use Rattle.machine.specs.Module.{part, message, queue, channel, current}
 use Rattle.machine.specs.Step.{step}
 use Rattle.machine.specs.Theorems.Valid.{Between, SoundPeriod, SoundCapacity, Reached, contains, plainLater}

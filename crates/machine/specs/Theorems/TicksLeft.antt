@@ -11,7 +11,8 @@ use lib.ListN.{length, getD}
 use Rattle.machine.specs.declared.Event.{Event as EventT}
 use Rattle.machine.specs.declared.Module.{Module}
 use Rattle.machine.specs.declared.Table.{Table}
-use Rattle.machine.specs.Windows.{noWindow, windows, covers, lookup, StartAt, WindowLeft}
+use Rattle.machine.specs.Windows.{noWindow, windows, covers, lookup}
+use Rattle.machine.specs.Theorems.Starts.{StartAt, WindowLeft}
 use Rattle.machine.specs.Module.{window, current, ticksLeft}
 use Rattle.machine.specs.Step.{step}
 use Rattle.machine.specs.Runs.{keep, after}

@@ -9,7 +9,8 @@ use Rattle.machine.specs.declared.Event.{Event as EventT}
 use Rattle.machine.specs.declared.Module.{Module}
 use Rattle.machine.specs.declared.Table.{Table}
 use Rattle.machine.specs.Limits.{timeLimit}
-use Rattle.machine.specs.Windows.{windows, waitingOf, startsAt, WaitingTime}
+use Rattle.machine.specs.Windows.{windows, waitingOf}
+use Rattle.machine.specs.Theorems.Starts.{startsAt, WaitingTime}
 use Rattle.machine.specs.Module.{current}
 use Rattle.machine.specs.Table.{readTable}
 use Rattle.machine.specs.Runs.{after}

@@ -20,6 +20,7 @@ use Rattle.machine.proofs.Tests.{Passed, codesIn, not-both, and-left, a
 use Rattle.machine.proofs.Either.{either}
 use Rattle.machine.proofs.Account.{plain-is}
 use Rattle.machine.proofs.EachCall.{each-event, each-call}
+use Rattle.machine.specs.Limits.{callLimit}
 
 -- every check is passed, and what then holds
 pub checks-passed : (m : Module) (e : EventT) (l : List (Bool × ℕ)) {A : Type 0} → codesIn (leb 1) l ≡ true → Checks m e l A → codeAt m e ≡ 0 → Passed l × A
@@ -55,7 +56,7 @@ accepted m h e k n some by z =
     let eight : not (eqb k (current m)) ≡ false = rw (z, formed, from, no) at (sym (g .eight)) in
     let now = not-false (eqb k (current m)) eight in
     let nine : (eqb (own m k .mode) 0 || (eqb (own m k .mode) 3 && eqb (running (own m k)) 0)) ≡ false = rw (z, formed, from, no, now) at (sym (g .nine)) in
-    let fields = or-right (cond (plainNumber 0 (e .partition)) (not (plainNumber 0 (e .call))) (plainNumber 0 (e .call))) _ (or-right (not (plainBetween 0 34 (e .call))) _ (or-right (not (plainBetween 0 P (e .partition))) _ (or-right (eqb P 0) _ formed))) in
+    let fields = or-right (cond (plainNumber 0 (e .partition)) (not (plainNumber 0 (e .call))) (plainNumber 0 (e .call))) _ (or-right (not (plainBetween 0 callLimit (e .call))) _ (or-right (not (plainBetween 0 P (e .partition))) _ (or-right (eqb P 0) _ formed))) in
     let alike : stray (used n) (e .a) (e .b) (e .c) (e .e) ≡ false = rw call at fields in
     let a1 = ltb (used n) 1 && not (plainNumber 0 (e .a)) in
     let b1 = ltb (used n) 2 && not (plainNumber 0 (e .b)) in
@@ -89,7 +90,7 @@ by-partition-of m h e k n some by z =
     let formed : malformedAt P e ≡ false = rw z at (sym (each-event m h e .thirteen)) in
     let rest = or-right (eqb P 0) _ formed in
     let high : not (plainBetween 0 P (pos k)) ≡ false = rw from at (or-left (not (plainBetween 0 P (e .partition))) _ rest) in
-    let one = or-left (cond (plainNumber 0 (e .partition)) (not (plainNumber 0 (e .call))) (plainNumber 0 (e .call))) _ (or-right (not (plainBetween 0 34 (e .call))) _ (or-right (not (plainBetween 0 P (e .partition))) _ rest)) in
+    let one = or-left (cond (plainNumber 0 (e .partition)) (not (plainNumber 0 (e .call))) (plainNumber 0 (e .call))) _ (or-right (not (plainBetween 0 callLimit (e .call))) _ (or-right (not (plainBetween 0 P (e .partition))) _ rest)) in
     let same : cond (eqb k 0) (not (eqb n 0)) (eqb n 0) ≡ false = rw (from, call) at one in (
       either (eqb k 0)
           (λ t. let y = eqb-true n 0 (not-false _ (rw t at same)) in absurd (omega arith))

@@ -900,7 +900,7 @@ module _ (m : Module) (e : EventT) (few : m .table .size ≤ 8) where
   unfolding strayField
   malformed-is =
       rw (lossless (e .partition) .between 0 P (omega arith), lossless (e .call) .between 0 callLimit (omega arith), lossless (e .partition) .isNumber 0 (omega arith), lossless (e .call) .isNumber 0 (omega arith), lossless (e .a) .isNumber 0 (omega arith), lossless (e .b) .isNumber 0 (omega arith), lossless (e .c) .isNumber 0 (omega arith), lossless (e .e) .isNumber 0 (omega arith))
-      (either (plainBetween 0 34 (e .call)) (λ o. rw (o, number-in 0 34 (e .call) (omega arith) o, fields-are (idOf (e .call)))) (λ o. rw o))
+      (either (plainBetween 0 callLimit (e .call)) (λ o. rw (o, number-in 0 callLimit (e .call) (omega arith) o, fields-are (idOf (e .call)))) (λ o. rw o))
 
   ticked-is : ValidModule m → malformedAt P e ≡ false → plainNumber 0 (e .partition) ≡ true → m .t < 99999999 → Gives m e 0 0 (At 0) (plainTicked m)
   unfolding step

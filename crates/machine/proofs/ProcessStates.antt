@@ -18,7 +18,7 @@ use Rattle.machine.specs.declared.Time.the-variants.{Never}
 use Rattle.machine.specs.Process.{ready, object, waitsForNothing}
 use Rattle.machine.specs.Partition.{normalMode, withSoonest, tickPartition, process, running, waiters, waitsOn, stored, noted}
 use Rattle.machine.specs.Module.{current}
-use Rattle.machine.specs.Limits.{timeLimit}
+use Rattle.machine.specs.Limits.{timeLimit, callLimit}
 use Rattle.machine.specs.Fields.{requestOf, numberOf}
 use Rattle.machine.specs.Ticks.{tickModule}
 use Rattle.machine.specs.Step.{moduleAfter, step}
@@ -64,7 +64,7 @@ module _ (m : Module) (h : Reached m) (e : EventT) (low : step m e .answer .code
       let g = each-event m h e in
       let bad = sym (g .thirteen) ∙ ne-eqb (step m e .answer .code) 13 (λ z. omega arith) in
       let P = m .table .size in
-      let one : cond (plainNumber 0 (e .partition)) (not (plainNumber 0 (e .call))) (plainNumber 0 (e .call)) ≡ false = or-left _ _ (or-right (not (plainBetween 0 34 (e .call))) _ (or-right (not (plainBetween 0 P (e .partition))) _ (or-right (eqb P 0) _ bad))) in
+      let one : cond (plainNumber 0 (e .partition)) (not (plainNumber 0 (e .call))) (plainNumber 0 (e .call)) ≡ false = or-left _ _ (or-right (not (plainBetween 0 callLimit (e .call))) _ (or-right (not (plainBetween 0 P (e .partition))) _ (or-right (eqb P 0) _ bad))) in
       let from : eqb k 0 ≡ false = either (eqb k 0) (λ z. let w : not (eqb n 0) ≡ false = rw (by, call, z) at one in not-both _ (rw (ne-eqb n 0 some)) w) (λ z. z) in
       let eight = sym (g .eight) ∙ ne-eqb (step m e .answer .code) 8 (λ z. omega arith) in
       let nine = sym (g .nine) ∙ ne-eqb (step m e .answer .code) 9 (λ z. omega arith) in

@@ -73,7 +73,7 @@ places-of false false e true false y h =
     let l = h refl refl in
     record { thirteen = above-seven (replyOf y .code) 13 l refl; ten = above-seven (replyOf y .code) 10 l refl; eight = above-seven (replyOf y .code) 8 l refl; nine = above-seven (replyOf y .code) 9 l refl }
 
--- an event that is not malformed and whose partition is not 0 names a call 1 to 34
+-- an event that is not malformed and whose partition is not 0 names a call
 named-call : (size : ℕ) (p c : Field) → between 0 size p ≡ true → between 0 callLimit c ≡ true → eqb (numberOf p) 0 ≡ false → cond (isNumber 0 p) (not (isNumber 0 c)) (isNumber 0 c) ≡ false → (1 ≤ numberOf c) × (numberOf c ≤ callLimit)
 named-call size (Number k) (Number n) hp hc z o =
     let d = eqb-false n 0 (rw z at o) in

@@ -1,4 +1,4 @@
--- Calls 1 to 34 by number: for each how many of the fields a, b, c, e it uses, and what it decides.
+-- Every call by its number: for each how many of the fields a, b, c, e it uses, and what it decides.
 use Prim.Native.Nat.{ℕ, _-_}
 use mathlib.Core.Bool.{cond}
 use mathlib.Core.List.{List, [], _∷_}

@@ -80,7 +80,7 @@ pub laws : {n : ℕ} {s : Service} → (NoStart n → (c : Context) (u : ℕ) (x
 laws unseen lawful = record { lawful = lawful; unseen = unseen }
 
 -- what is shown of a wait that call n begins
-pub record Waits (n : ℕ) (c : Context) (x : Port) (r : Request) (p : Partition) (w : Wait) (kind j m : ℕ) : Type 0 where
+pub record BeginsWait (n : ℕ) (c : Context) (x : Port) (r : Request) (p : Partition) (w : Wait) (kind j m : ℕ) : Type 0 where
   pub class : classOf w ≡ Class.onto kind j m
   pub known : Between 1 (settingOf (c .frame) (c .time) p .counts kind) j × (m ≤ durationLimit)
   pub fair : Valid (c .frame) (c .time) p → SoundContext c p → NotThere x n p (object w)
@@ -110,7 +110,7 @@ module _ {n : ℕ} {c : Context} {x : Port} {r : Request} {p : Partition} where
   pub waits : (before : List (Bool × ℕ)) (beside : Bool) (after : List (Bool × ℕ)) (a : Field) (b : Bool) (success : Decision) (w : Wait) (kind j m : ℕ)
       → codesIn bodyRefusal (waitChecks before (startMode p) (beside && isTimeout a) after) ≡ true
       → (Passed before → beside ≡ true → b ≡ true → Lawful n c x r p success)
-      → (Passed before → beside ≡ true → b ≡ false → Waits n c x r p w kind j m)
+      → (Passed before → beside ≡ true → b ≡ false → BeginsWait n c x r p w kind j m)
       → Lawful n c x r p (awaiting c before beside after a b success w p)
   unfolding awaiting queued blocked Passed
   waits before beside after a b success w kind j m codes done wait = checks _ _ codes (λ h.

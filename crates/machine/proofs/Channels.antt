@@ -51,7 +51,7 @@ use Rattle.machine.specs.Theorems.Events.{own}
 use Rattle.machine.specs.Theorems.Valid.{Between, contains, ListedIn, Valid, SoundContext, SoundDecision, SoundMove, SoundEnd, SoundModule, Reached, plainTick}
 use Rattle.machine.specs.Theorems.Plain.{plainNumber, plainBetween, plainMoved}
 use Rattle.machine.specs.Theorems.Queues.{queueNumber, ChannelEnds}
-use Rattle.machine.specs.Theorems.Account.{isCall, codeAt, restartsBy, erases, messageIn, Flow, channelFlow, isSend, isReceive, sends, sending, keeps, givesUp, Balances, Account}
+use Rattle.machine.specs.Theorems.Account.{isCall, codeAt, restartsBy, erases, messageIn, Flow, channelFlow, isSend, isReceive, waitsToSend, sending, keeps, givesUp, Balances, Account}
 use Rattle.machine.proofs.Tests.{by-test, by-codes, Passed, not-both, and-left, and-right, or-left, or-right}
 use Rattle.machine.proofs.Fields.{in-limits}
 use Rattle.machine.proofs.Bounds.{not-so, same-or-not, named-replicate, getD-replicate-any}
@@ -521,8 +521,8 @@ module _ (m : Module) (s : SoundModule m) (ends : ChannelEnds m) (i : ℕ) (ther
           let table-is : then .table .size ≡ T .size = ap (λ (U : Table). U .size) (refilled-table k channelLimit erased) in
           let listed : ListedIn (own then from) = v .eachPartition (from - 1) (omega (arith, from-inside, table-is)) .lists in
           let queue-is : waiters senders (own then from) ≡ drop size-is l = refilled-senders k erased erased-valid i f channelLimit (f .few) ∙ ap (λ (u : Partition). drop size-is (waiters senders u)) same in
-          let exact : (y : ℕ) → contains y (drop size-is l) ≡ sends flow then y = λ y. ap (contains y) (sym queue-is) ∙ waiters-exact (own then from) listed senders some y in
-          let keeps-is : (y : ℕ) → sends flow then y ≡ true → keeps flow then y ≡ keeps flow m y = λ y h. ap (λ (u : Wait). carriedIn (classOf u)) (refilled-waits k erased erased-valid i f channelLimit y (eqb-true _ senders h)) ∙ ap (λ (u : Partition). carried (process y u)) same in
+          let exact : (y : ℕ) → contains y (drop size-is l) ≡ waitsToSend flow then y = λ y. ap (contains y) (sym queue-is) ∙ waiters-exact (own then from) listed senders some y in
+          let keeps-is : (y : ℕ) → waitsToSend flow then y ≡ true → keeps flow then y ≡ keeps flow m y = λ y h. ap (λ (u : Wait). carriedIn (classOf u)) (refilled-waits k erased erased-valid i f channelLimit y (eqb-true _ senders h)) ∙ ap (λ (u : Partition). carried (process y u)) same in
           Fl.restart-even flow m e es then size-is (restarts-by to is) (rw (not-tick, call-by from 5 (λ a b. omega (arith, one)), other-restarts from (λ z. apart-ends (sym z ∙ is)))) (waiters-distinct w (source-valid .lists) senders)
           (ap held (refilled-queue k erased erased-valid i f channelLimit (f .few)) ∙ held-queueOf _ ∙ ap (λ (u : Partition). map (λ id. carried (process id u)) (take size-is (waiters senders u))) same)
           queue-is
@@ -543,9 +543,9 @@ module _ (m : Module) (s : SoundModule m) (ends : ChannelEnds m) (i : ℕ) (ther
           ∙ refilled-part-other k erased erased-valid channelLimit (k - 1) here (λ j f z. let b = s .table .eachChannel j (f .there) in b .apart (let w = q .some in omega (arith, b .source .0, f .into)))
           ∙ getD-set-same (m .partitions) (k - 1) (noted (nothingCreated mode)) noPartition (omega (arith, here, s .partitionsSize, s .table .size .1)) in
           let none : sending flow then ≡ [] = ap (waiters senders) at ∙ nobody senders in
-          let off : (id : ℕ) → sends flow then id ≡ false = λ id. ap (λ (u : Partition). waitsOn senders u id) at ∙ no-process id in
+          let off : (id : ℕ) → waitsToSend flow then id ≡ false = λ id. ap (λ (u : Partition). waitsOn senders u id) at ∙ no-process id in
           Fl.quiet-even flow m e es then 0 0 (other-restarts to (λ z. apart-ends (sym is ∙ z))) (rw no-receive) (ap held (queue-stays (λ z. apart-ends (sym is ∙ sym z))))
-          (none ∙ sym (kept-no (sends flow then) (sending flow m) (λ id _. off id)))
+          (none ∙ sym (kept-no (waitsToSend flow then) (sending flow m) (λ id _. off id)))
           (λ id _ t. not-both _ t (off id))
           (λ id _ _. rw (restarts-by from is) (or-true-last (isTick e) (isCall from 5 e)))
           quiet-sent quiet-received

@@ -75,7 +75,7 @@ record Holds (T : Table) (m : Module) : Type 0 where
 
 -- ---------------------------------------------------------------- one event
 -- a channel's end at which a caller begins to wait
-record Waits (x : Port) (end : Channel → ℕ) (j : ℕ) : Type 0 where
+record BeginsAt (x : Port) (end : Channel → ℕ) (j : ℕ) : Type 0 where
   place : j ≡ x .place + 1
   there : x .exists ≡ true
   kind : queuing (x .channel) ≡ true
@@ -127,7 +127,7 @@ module _ (m : Module) (s : SoundModule m) (h : Holds (m .table) m) where
       blocked = withPart (k - 1) (stored id y now) m
 
       -- the end of the channel at which it waits
-      end-is : (e : Channel → ℕ) (j : ℕ) → Waits x e j → EndOf T e j (k - 1)
+      end-is : (e : Channel → ℕ) (j : ℕ) → BeginsAt x e j → EndOf T e j (k - 1)
       end-is e j w =
           let l = in-limits 1 (T .channelCount) (r .a) (w .there) in
           let i = numberOf (r .a) - 1 in
@@ -143,7 +143,7 @@ module _ (m : Module) (s : SoundModule m) (h : Holds (m .table) m) where
       joins : (o : ℕ) (some : o ≡ 0 → ⊥) (e : List ℕ) → waiters o now ≡ e → eqb (object (y .wait)) o ≡ false → waiters o (noted (stored id y now)) ≡ e
       joins o some e is off = same-queue o (stored id y now) (noted (stored id y now)) refl (λ _. refl) ∙ joins-last o some now (s .eachPartition (k - 1) here .lists) id b y (q .isReady) ∙ rw off (append-nil (waiters o now)) ∙ is
 
-      only-blocked : (kind : ℕ) (e : Channel → ℕ) → 1 ≤ kind → ((j : ℕ) → j ≤ 255 → object (y .wait) ≡ queueNumber kind j → Waits x e j) → Only kind e T m → Only kind e T blocked
+      only-blocked : (kind : ℕ) (e : Channel → ℕ) → 1 ≤ kind → ((j : ℕ) → j ≤ 255 → object (y .wait) ≡ queueNumber kind j → BeginsAt x e j) → Only kind e T m → Only kind e T blocked
       only-blocked kind e some meets only i j l few =
           let o = queueNumber kind j in
           at-set (λ i p. (waiters o p ≡ []) ⊎ EndOf T e j i) (m .partitions) (k - 1) (noted (stored id y now)) noPartition (omega (arith, here, s .partitionsSize, s .table .size .1)) i

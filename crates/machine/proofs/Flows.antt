@@ -17,7 +17,7 @@ use Rattle.machine.specs.Runs.{next, after}
 use Rattle.machine.specs.Step.{step}
 use Rattle.machine.specs.Theorems.Events.{own}
 use Rattle.machine.specs.Theorems.Valid.{contains, Distinct}
-use Rattle.machine.specs.Theorems.Account.{codeAt, restartsBy, messageIn, Flow, isSend, isReceive, sends, sending, keeps, receives, receiving, placeIn, dropped, givesUp, letInAt, lost, lostAt, sentAt, allSent, receivedAt, allReceived, Balances}
+use Rattle.machine.specs.Theorems.Account.{codeAt, restartsBy, messageIn, Flow, isSend, isReceive, waitsToSend, sending, keeps, waitsToReceive, receiving, placeIn, dropped, givesUp, letInAt, lost, lostAt, sentAt, allSent, receivedAt, allReceived, Balances}
 use Rattle.machine.proofs.Tests.{not-both, and-left, and-right}
 use Rattle.machine.proofs.Either.{either}
 use Rattle.machine.proofs.Lists.{kept-snoc}
@@ -131,7 +131,7 @@ module _ (f : Flow) where
 
     abbrev lostBy : Module → ℕ → ℕ → Bool
     lostBy q code id =
-        cond (sends f q id) (lost f q es id)
+        cond (waitsToSend f q id) (lost f q es id)
         (cond (givesUp f e code) true
         (dropped f q es (letInAt f m e code q id)))
 
@@ -147,7 +147,7 @@ module _ (f : Flow) where
     abbrev pub receivedBy : Module → ℕ → ℕ → List ℕ
     receivedBy q code value =
         cond (isReceive f e && eqb code 0) (value ∷ [])
-        (cond (isSend f e && eqb code 0) (map (λ id. process id (own q (f .to)) .message) (kept (λ id. not (receives f q id)) (receiving f m))) [])
+        (cond (isSend f e && eqb code 0) (map (λ id. process id (own q (f .to)) .message) (kept (λ id. not (waitsToReceive f q id)) (receiving f m))) [])
 
     pub record Even (q : Module) (code value : ℕ) : Type 0 where
       pub is : heldBy q code ++ (keptBy q code ++ sentBy q code) ≡ receivedBy q code value ++ (heldLeft q es ++ keptLeft q es)
@@ -162,24 +162,24 @@ module _ (f : Flow) where
     same-dropped q code r g n = rw (r, g)
 
     -- those who go on waiting to send
-    stays-lost : (q : Module) (code id : ℕ) → sends f q id ≡ true → lostBy q code id ≡ lost f q es id
+    stays-lost : (q : Module) (code id : ℕ) → waitsToSend f q id ≡ true → lostBy q code id ≡ lost f q es id
     stays-lost q code id h = rw h
 
     -- ------------------------------------------------------------ nothing is sent and nothing received: who leaves the queue gives up
     module _ (q : Module) (code value : ℕ) (on : restartsBy (f .to) e code ≡ false) (none : (isReceive f e && eqb code 0) ≡ false)
-        (held : f .holds q ≡ f .holds m) (w : sending f q ≡ kept (sends f q) (sending f m))
-        (same : (id : ℕ) → contains id (sending f m) ≡ true → sends f q id ≡ true → keeps f q id ≡ keeps f m id)
-        (leaves : (id : ℕ) → contains id (sending f m) ≡ true → sends f q id ≡ false → givesUp f e code ≡ true) where
+        (held : f .holds q ≡ f .holds m) (w : sending f q ≡ kept (waitsToSend f q) (sending f m))
+        (same : (id : ℕ) → contains id (sending f m) ≡ true → waitsToSend f q id ≡ true → keeps f q id ≡ keeps f m id)
+        (leaves : (id : ℕ) → contains id (sending f m) ≡ true → waitsToSend f q id ≡ false → givesUp f e code ≡ true) where
       quiet-kept : keptBy q code ≡ keptLeft q es
       quiet-kept =
           let l = sending f m in
-          ap (map (keeps f m)) (kept-same (λ id. not (lostBy q code id)) (λ id. not (lost f q es id) && sends f q id) l (λ id c. either (sends f q id)
+          ap (map (keeps f m)) (kept-same (λ id. not (lostBy q code id)) (λ id. not (lost f q es id) && waitsToSend f q id) l (λ id c. either (waitsToSend f q id)
           (λ s. rw s (sym (and-true (not (lost f q es id)))))
           (λ s. rw (s, leaves id c s) (sym (and-false (not (lost f q es id)))))))
-          ∙ map-same (keeps f m) (keeps f q) (kept (λ id. not (lost f q es id) && sends f q id) l) (λ id c.
-          let h = sym (contains-kept (λ id. not (lost f q es id) && sends f q id) id l) ∙ c in
-          sym (same id (and-right (not (lost f q es id) && sends f q id) _ h) (and-right (not (lost f q es id)) _ (and-left (not (lost f q es id) && sends f q id) _ h))))
-          ∙ ap (map (keeps f q)) (sym (kept-kept (λ id. not (lost f q es id)) (sends f q) l) ∙ ap (kept (λ id. not (lost f q es id))) (sym w))
+          ∙ map-same (keeps f m) (keeps f q) (kept (λ id. not (lost f q es id) && waitsToSend f q id) l) (λ id c.
+          let h = sym (contains-kept (λ id. not (lost f q es id) && waitsToSend f q id) id l) ∙ c in
+          sym (same id (and-right (not (lost f q es id) && waitsToSend f q id) _ h) (and-right (not (lost f q es id)) _ (and-left (not (lost f q es id) && waitsToSend f q id) _ h))))
+          ∙ ap (map (keeps f q)) (sym (kept-kept (λ id. not (lost f q es id)) (waitsToSend f q) l) ∙ ap (kept (λ id. not (lost f q es id))) (sym w))
 
       pub quiet-even : sentBy q code ≡ [] → receivedBy q code value ≡ [] → Even q code value
       quiet-even s r = even-of q code value (heldLeft q es) (keptLeft q es) [] [] (heldLeft q es) (keptLeft q es)
@@ -229,7 +229,7 @@ module _ (f : Flow) where
 
       -- where somebody waits to receive, and so nothing is held: it is handed over
       pub handed-even : f .holds m ≡ [] → f .holds q ≡ [] → sending f m ≡ [] → sending f q ≡ []
-          → map (λ id. process id (own q (f .to)) .message) (kept (λ id. not (receives f q id)) (receiving f m)) ≡ x ∷ [] → Even q 0 0
+          → map (λ id. process id (own q (f .to)) .message) (kept (λ id. not (waitsToReceive f q id)) (receiving f m)) ≡ x ∷ [] → Even q 0 0
       handed-even none then free after one = even-of q 0 0 [] [] (x ∷ []) (x ∷ []) [] []
           (ap (left (droppedBy q 0) 0) none) (none-kept _ _ (sending f m) free)
           (rw (to, word, none, then))
@@ -237,7 +237,7 @@ module _ (f : Flow) where
           (ap (left (dropped f q es) 0) then) (none-kept _ _ (sending f q) after) refl
 
       -- where there is no room: the sender joins those who wait to send
-      module _ (id : ℕ) (queue : sending f q ≡ sending f m ++ (id ∷ [])) (still : (y : ℕ) → contains y (sending f m) ≡ true → sends f q y ≡ true)
+      module _ (id : ℕ) (queue : sending f q ≡ sending f m ++ (id ∷ [])) (still : (y : ℕ) → contains y (sending f m) ≡ true → waitsToSend f q y ≡ true)
           (same : (y : ℕ) → contains y (sending f m) ≡ true → keeps f q y ≡ keeps f m y) (own-is : keeps f q id ≡ x) (run : id ≡ running (own m (f .from))) where
         abbrev before : List ℕ
         before = map (keeps f q) (kept (λ y. not (lost f q es y)) (sending f m))
@@ -292,8 +292,8 @@ module _ (f : Flow) where
           refl
 
       -- where somebody does: the first one's message is let in at the end, and the others go on waiting
-      module _ (id : ℕ) (l : List ℕ) (queue : sending f m ≡ id ∷ l) (then : sending f q ≡ l) (gone : sends f q id ≡ false) (stays-on : givesUp f e 0 ≡ false)
-          (still : (y : ℕ) → contains y l ≡ true → sends f q y ≡ true) (same : (y : ℕ) → contains y l ≡ true → keeps f q y ≡ keeps f m y) (let-in : f .holds q ≡ rest ++ (keeps f m id ∷ [])) where
+      module _ (id : ℕ) (l : List ℕ) (queue : sending f m ≡ id ∷ l) (then : sending f q ≡ l) (gone : waitsToSend f q id ≡ false) (stays-on : givesUp f e 0 ≡ false)
+          (still : (y : ℕ) → contains y l ≡ true → waitsToSend f q y ≡ true) (same : (y : ℕ) → contains y l ≡ true → keeps f q y ≡ keeps f m y) (let-in : f .holds q ≡ rest ++ (keeps f m id ∷ [])) where
         abbrev message : ℕ
         message = keeps f m id
 
@@ -331,7 +331,7 @@ module _ (f : Flow) where
     -- ------------------------------------------------------------ a restart of the destination: what is held goes, the first n senders are let in
     module _ (q : Module) (n : ℕ) (on : restartsBy (f .to) e 0 ≡ true) (off : givesUp f e 0 ≡ false) (once : Distinct (sending f m))
         (held : f .holds q ≡ map (keeps f m) (take n (sending f m))) (then : sending f q ≡ drop n (sending f m))
-        (gone : (y : ℕ) → contains y (take n (sending f m)) ≡ true → sends f q y ≡ false) (still : (y : ℕ) → contains y (drop n (sending f m)) ≡ true → sends f q y ≡ true)
+        (gone : (y : ℕ) → contains y (take n (sending f m)) ≡ true → waitsToSend f q y ≡ false) (still : (y : ℕ) → contains y (drop n (sending f m)) ≡ true → waitsToSend f q y ≡ true)
         (same : (y : ℕ) → contains y (drop n (sending f m)) ≡ true → keeps f q y ≡ keeps f m y) where
       abbrev l : List ℕ
       l = sending f m

@@ -48,7 +48,7 @@ pub mod Replays
 pub mod Applied
 pub mod Starts
 pub mod WindowLeft
-pub mod Waits
+pub mod WaitingTimes
 pub mod Releases
 pub mod Queues
 pub mod Available

@@ -10,7 +10,7 @@ pub mod Releases
 pub mod Queues
 pub mod Locks
 pub mod TicksLeft
-pub mod Waits
+pub mod WaitingTimes
 pub mod Account
 pub mod EachCall
 pub mod Entering

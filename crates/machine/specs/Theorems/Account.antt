@@ -96,8 +96,8 @@ abbrev pub isReceive : Flow → Event → Bool
 isReceive f e = isCall (f .to) (f .receive) e && plainNumber (f .number) (e .a)
 
 -- process id waits to send; those who do, and what each keeps; process id waits to receive; those who do
-abbrev pub sends : Flow → Module → ℕ → Bool
-sends f m id = waitsOn (f .senders) (own m (f .from)) id
+abbrev pub waitsToSend : Flow → Module → ℕ → Bool
+waitsToSend f m id = waitsOn (f .senders) (own m (f .from)) id
 
 abbrev pub sending : Flow → Module → List ℕ
 sending f m = waiters (f .senders) (own m (f .from))
@@ -105,8 +105,8 @@ sending f m = waiters (f .senders) (own m (f .from))
 abbrev pub keeps : Flow → Module → ℕ → ℕ
 keeps f m id = carried (process id (own m (f .from)))
 
-abbrev pub receives : Flow → Module → ℕ → Bool
-receives f m id = waitsOn (f .receivers) (own m (f .to)) id
+abbrev pub waitsToReceive : Flow → Module → ℕ → Bool
+waitsToReceive f m id = waitsOn (f .receivers) (own m (f .to)) id
 
 abbrev pub receiving : Flow → Module → List ℕ
 receiving f m = waiters (f .receivers) (own m (f .to))
@@ -138,7 +138,7 @@ letInAt f m e code q id = cond (restartsBy (f .to) e code) (placeIn (sending f m
 unfoldable pub lost : Flow → Module → List Event → ℕ → Bool
 lost f m [] id = false
 lost f m (e ∷ es) id =
-    cond (sends f (next m e) id) (lost f (next m e) es id)
+    cond (waitsToSend f (next m e) id) (lost f (next m e) es id)
     (cond (givesUp f e (codeAt m e)) true
     (dropped f (next m e) es (letInAt f m e (codeAt m e) (next m e) id)))
 
@@ -166,7 +166,7 @@ allSent f m (e ∷ es) = sentAt f m e es ++ allSent f (next m e) es
 abbrev pub handedAt : Flow → Module → Event → List ℕ
 handedAt f m e =
     cond (isSend f e && eqb (codeAt m e) 0)
-    (map (λ id. process id (own (next m e) (f .to)) .message) (kept (λ id. not (receives f (next m e) id)) (receiving f m)))
+    (map (λ id. process id (own (next m e) (f .to)) .message) (kept (λ id. not (waitsToReceive f (next m e) id)) (receiving f m)))
     []
 
 -- received: the value of a receive answered 0, and what is handed over to waiters

@@ -22,18 +22,18 @@ use Rattle.machine.specs.Theorems.Valid.{contains, Reached}
 
 -- ---------------------------------------------------------------- queues
 -- in the queue of w are the processes that wait on its object, and no others
-abbrev pub Waits : Partition → ℕ → Wait → Wait → Type 0
-Waits p id object′ w = (contains id (waiters (object object′) p) ≡ true → process id p .wait ≡ w) × (process id p .wait ≡ w → contains id (waiters (object object′) p) ≡ true)
+abbrev pub QueuedFor : Partition → ℕ → Wait → Wait → Type 0
+QueuedFor p id object′ w = (contains id (waiters (object object′) p) ≡ true → process id p .wait ≡ w) × (process id p .wait ≡ w → contains id (waiters (object object′) p) ≡ true)
 
 -- of each kind, for the objects numbered up to 16; a waiting sender's message is kept with its wait
 pub record WhoWaits (p : Partition) (id j : ℕ) : Type 0 where
-  pub semaphore : Waits p id (Semaphore j) (Semaphore j)
-  pub event : Waits p id (Event j) (Event j)
-  pub sending : Waits p id (Sending j 0) (Sending j (carried (process id p)))
-  pub receiving : Waits p id (Receiving j) (Receiving j)
-  pub blackboard : Waits p id (Blackboard j) (Blackboard j)
-  pub source : Waits p id (Source j 0) (Source j (carried (process id p)))
-  pub destination : Waits p id (Destination j) (Destination j)
+  pub semaphore : QueuedFor p id (Semaphore j) (Semaphore j)
+  pub event : QueuedFor p id (Event j) (Event j)
+  pub sending : QueuedFor p id (Sending j 0) (Sending j (carried (process id p)))
+  pub receiving : QueuedFor p id (Receiving j) (Receiving j)
+  pub blackboard : QueuedFor p id (Blackboard j) (Blackboard j)
+  pub source : QueuedFor p id (Source j 0) (Source j (carried (process id p)))
+  pub destination : QueuedFor p id (Destination j) (Destination j)
 
 -- a message that is kept with a wait
 pub record Carries : Type 0 where

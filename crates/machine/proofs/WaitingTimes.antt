@@ -22,7 +22,7 @@ use Rattle.machine.specs.Runs.{after}
 use Rattle.machine.specs.Theorems.Valid.{Between, SoundTable, SoundModule, Reached}
 use Rattle.machine.specs.Windows.{noWindow, windows, covers, ownedBy, startsFrom, nextStart, lookup, waitingOf}
 use Rattle.machine.specs.Theorems.Starts.{Uncovered, startsAt, WaitingTime}
-use Rattle.machine.specs.Theorems.Waits.{waitingNow, WaitsExample, Waits}
+use Rattle.machine.specs.Theorems.WaitingTimes.{waitingNow, WaitingExample, WaitingTimes}
 use Rattle.machine.specs.Theorems.Examples as E
 use Rattle.machine.specs.Line as X
 use Rattle.machine.specs.Module as M
@@ -38,7 +38,7 @@ use Rattle.machine.proofs.TicksLeft.{after-table}
 use Rattle.machine.proofs.WindowLeft.{Covered, UncoveredBy, covered-or-none, covers-in, window-left, stays-out}
 
 -- computed from the bytes of the table
-example : WaitsExample
+example : WaitingExample
 unfolding E.bytes E.text E.twoWindows X.inRange X.column X.markAfter X.columns X.numberText X.fieldText X.lineText X.sameBytes X.spelled X.candidate X.readField X.readNumbers X.readLine X.lines R.hasFlagged R.flaggedFrom R.tableFrom R.tableOf M.emptyTable M.emptyModule M.freshModule Wi.firstStart Wi.nextStart Wi.waitingOf
 example = record { first = refl; second = refl }
 
@@ -170,8 +170,8 @@ module _ (m : Module) (h : Reached m) (k : ℕ) (own : Between 1 (m .table .size
 
 -- ---------------------------------------------------------------- the whole
 -- Law. The waiting time.
-pub waits : Waits
-waits = record {
+pub waiting-times : WaitingTimes
+waiting-times = record {
   given = λ m h t k low own.
       let s = sound-of m h k own .table in
       rw (waiting-is (m .table) s t k low own) (refl, waiting-least (m .table) s k t own);

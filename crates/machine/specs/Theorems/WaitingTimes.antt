@@ -23,13 +23,13 @@ abbrev pub waitingNow : Module → ℕ → ℕ
 waitingNow m k = waitingOf (m .table) (pos (m .t)) (pos k) .n
 
 -- the table of releases inside a frame: partition 1 has windows from 0, from 3 without flag 1 and from 5, partition 2 from 4, M is 10
-pub record WaitsExample : Type 0 where
+pub record WaitingExample : Type 0 where
   pub first : let T = readTable (text twoWindows) .state .table in
       map (λ (t : ℕ). waitingOf T (pos t) (pos 1) .n) (0 ∷ 2 ∷ 3 ∷ 5 ∷ 9 ∷ 10 ∷ []) ≡ 3 ∷ 1 ∷ 2 ∷ 5 ∷ 1 ∷ 3 ∷ []
   pub second : let T = readTable (text twoWindows) .state .table in
       map (λ (t : ℕ). waitingOf T (pos t) (pos 2) .n) (0 ∷ 3 ∷ 4 ∷ 5 ∷ 14 ∷ []) ≡ 4 ∷ 1 ∷ 10 ∷ 9 ∷ 10 ∷ []
 
-pub record Waits : Type 0 where
+pub record WaitingTimes : Type 0 where
   -- t in 0..99,999,999 and a partition in 1..P: code 0 and the least n in 1..M such that a window of it starts at (t + n) mod M
   pub given : (m : Module) → Reached m → (t k : ℕ) → let w = waitingOf (m .table) (pos t) (pos k) in
       t ≤ timeLimit → Between 1 (m .table .size) k → (w .code ≡ 0) × WaitingTime (m .table) k t (w .n)
@@ -49,4 +49,4 @@ pub record Waits : Type 0 where
   -- and n ticks later a window of the partition starts, and it is current
   pub comes : (m : Module) → Reached m → (k : ℕ) → Between 1 (m .table .size) k → (es : List EventT) → let q = after m es in
       q .t ≡ m .t + waitingNow m k → (startsAt k (q .t % m .table .frame) (windows (m .table)) ≡ true) × (current q ≡ k)
-  pub example : WaitsExample
+  pub example : WaitingExample

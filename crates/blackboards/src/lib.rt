@@ -1,4 +1,4 @@
-// Blackboards of a partition: calls 26 to 29. Beside each call: how many of the fields a, b, c, e it uses.
+// Blackboards of a partition: calls 26 to 29.
 ghost use mathlib.Core.Path.{_≡_};
 ghost use lib.ListN.{take};
 ghost use Rattle.machine.specs.Partition.{emptyBlackboard, blackboard};

@@ -1,4 +1,4 @@
-// Buffers of a partition: calls 23 to 25. Beside each call: how many of the fields a, b, c, e it uses.
+// Buffers of a partition: calls 23 to 25.
 ghost use mathlib.Core.Path.{_≡_};
 ghost use mathlib.Core.Bool.{_&&_};
 ghost use lib.ListN.{take};

@@ -1,4 +1,4 @@
-// Calls 1 to 13 and 32 to 34: what each decides. Beside each call: how many of the fields a, b, c, e it uses.
+// Calls 1 to 13 and 32 to 34: what each decides.
 ghost use mathlib.Core.Path.{_≡_};
 ghost use mathlib.Core.Bool.{cond, not, _&&_, _||_};
 ghost use lib.Dec.{eqb};

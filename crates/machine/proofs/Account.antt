@@ -1,8 +1,8 @@
 -- The account of a buffer, for every list of events from a fresh module. Assumes nothing.
 use Prim.Native.Nat.{ℕ, zero, _+_, _-_, _≤_, _<_}
 use mathlib.Core.Path.{_≡_, refl, ap, sym, _∙_}
-use mathlib.Core.Bool.{Bool, true, false, cond, not, _&&_, _||_, and-true, and-false, or-true}
-use mathlib.Core.List.{List, [], _∷_, _++_, map, append-nil, append-assoc}
+use mathlib.Core.Bool.{true, false, not, _&&_, and-false, or-true}
+use mathlib.Core.List.{List, [], _∷_, append-nil}
 use mathlib.Core.Logic.{_⊎_, inl, inr, ⊎-elim}
 use native.Mathlib.Omega.{arith}
 use lib.ListN.{length, getD, set, drop}
@@ -13,7 +13,7 @@ use borrow.Author.Tests.{eq-eqb, ne-eqb, eqb-true, leb-true, ltb-true, ltb-false
 use Rattle.machine.specs.declared.Process.{Process}
 use Rattle.machine.specs.declared.Buffer.{Buffer}
 use Rattle.machine.specs.declared.Transfer.{Transfer}
-use Rattle.machine.specs.declared.Transfer.the-variants.{Put, HandedTo, Taken, LetIn}
+use Rattle.machine.specs.declared.Transfer.the-variants.{Put, Taken, LetIn}
 use Rattle.machine.specs.declared.Change.the-variants.{Moved}
 use Rattle.machine.specs.declared.Partition.{Partition}
 use Rattle.machine.specs.declared.Event.{Event as EventT}
@@ -35,11 +35,10 @@ use Rattle.machine.specs.declared.Table.{Table}
 use Rattle.machine.specs.declared.Field.{Field}
 use Rattle.machine.specs.declared.Field.the-variants.{Number, MinusOne, Other}
 use Rattle.machine.specs.Limits.{callLimit, durationLimit, bufferLimit}
-use Rattle.machine.specs.Ids.{kept, keptIf}
 use Rattle.machine.specs.Fields.{field, requestOf, isNumber, between, isMessage, numberOf, timeOf}
-use Rattle.machine.specs.Messages.{held, first, sent, received, moved, endsWait}
+use Rattle.machine.specs.Messages.{held, first, sent, received, moved}
 use Rattle.machine.specs.Process.{classOf, carriedIn, carried, object, served, handed, waitingFor, later}
-use Rattle.machine.specs.Partition.{noBuffer, process, buffer, emptyBuffer, storedBuffer, movedIn, endedBy, normalMode, running, waitsOn, waiters, stored, applied, nothingCreated, tickPartition, noted}
+use Rattle.machine.specs.Partition.{noBuffer, process, buffer, emptyBuffer, storedBuffer, movedIn, normalMode, running, waiters, stored, applied, tickPartition, noted}
 use Rattle.machine.specs.Runs.{next, after}
 use Rattle.machine.specs.Theorems.LeftRight.{isTick, isZero}
 use Rattle.machine.specs.Decisions.{replyOf, changed, blocked, queued, awaiting}
@@ -50,14 +49,14 @@ use Rattle.machine.specs.Ticks.{tickModule}
 use Rattle.machine.specs.Places.{malformed, oneZero, ticks}
 use Rattle.machine.specs.Step.{contextOf, decision, moduleAfter, step}
 use Rattle.machine.specs.Theorems.Events.{own, callBy}
-use Rattle.machine.specs.Theorems.Valid.{Between, contains, SoundMove, ListedIn, Valid, SoundContext, SoundDecision, SoundModule, Reached, plainTick}
+use Rattle.machine.specs.Theorems.Valid.{Between, SoundMove, ListedIn, Valid, SoundContext, SoundDecision, SoundModule, Reached, plainTick}
 use Rattle.machine.specs.Theorems.Plain.{plainNumber, plainBetween, plainMoved}
 use Rattle.machine.specs.Theorems.Queues.{queueNumber, NoneWaits}
 use Rattle.machine.specs.Theorems.Account.{isCall, codeAt, restartsBy, erases, erased, messageIn, Flow, bufferFlow, isSend, isReceive, sending, givesUp, Balances}
 use Rattle.machine.proofs.Tests.{by-test, by-codes, Passed, not-both, and-left, and-right, or-left, or-right}
 use Rattle.machine.proofs.Fields.{in-limits}
-use Rattle.machine.proofs.Lists.{kept-snoc, cons-not}
-use Rattle.machine.proofs.Sound.{ready-off, carried-sound}
+use Rattle.machine.proofs.Lists.{cons-not}
+use Rattle.machine.proofs.Sound.{carried-sound}
 use Rattle.machine.proofs.Bounds.{not-so, same-or-not, within-in, named-same, buffer-in}
 use Rattle.machine.proofs.Either.{either}
 use Rattle.machine.proofs.Messages.{queue-first}
@@ -66,19 +65,18 @@ use Rattle.machine.proofs.Flows as Fl
 use Rattle.machine.proofs.Passing.{joined-same, joined-still, joined-queue, gone-queue, gone-first, gone-same, gone-still, handed-one}
 use Rattle.machine.proofs.Fairness.{part-none, unknown-unwaited}
 use Rattle.machine.proofs.Available.{none-waits}
-use Rattle.machine.proofs.Tracking.{contains-kept, kept-same, kept-kept, kept-all, kept-no}
 use Rattle.machine.proofs.Orders.{Part, part-whole, part-waits, part-trans, queue-of, same-queue, tick-part, change-part, stored-part, buffer-queue, joins-last, Orderly}
-use Rattle.machine.proofs.Queues.{first-created, others-apart, first-served}
+use Rattle.machine.proofs.Queues.{first-created}
 use Rattle.machine.proofs.EveryCall.{call-order}
 use Rattle.machine.proofs.Dispatch.{placeCode, Calls, by-event}
 use Rattle.machine.proofs.Bodies.{OnQueue, Bodily, bodyRefusal}
-use Rattle.machine.proofs.Kept.{Caller, tick-valid, change-valid, normal-caller, in-normal, waiters-exact}
-use Rattle.machine.proofs.Keeping.{stored-listed, stored-rest, process-stored, process-other}
+use Rattle.machine.proofs.Kept.{Caller, tick-valid, change-valid, normal-caller, in-normal}
+use Rattle.machine.proofs.Keeping.{stored-listed, stored-rest, process-stored}
 use Rattle.machine.proofs.Refusals.{call-in-range}
 use Rattle.machine.proofs.Plain.{lossless, empty-refused}
 use Rattle.machine.proofs.Answers.{decided-table}
 use Rattle.machine.proofs.Calling.{field-number, number-is, number-of}
-use Rattle.machine.proofs.Reached.{on-queue, plain-part, tick-module-plain, place, context-sound, made, made-sound, made-body, port-sound, reached-valid, valid-sound}
+use Rattle.machine.proofs.Reached.{on-queue, plain-part, tick-module-plain, place, context-sound, made, made-sound, made-body, reached-valid, valid-sound}
 use Rattle.machine.proofs.Calmness.{Leaves, leaves-same, OfSenders, Stays, stays-same, tick-stays, changed-stays, blocked-stays, Calm, on-queue as waits-there}
 use Rattle.machine.proofs.Senders.{passed-leaves, restart-leaves}
 use Rattle.machine.proofs.EveryCall.{call-calm}

@@ -1,6 +1,6 @@
--- The bodies of calls answer 0, 7 or a code 1 to 5, a message is left by its channel's source alone, and a transfer is made at the ends of a queuing
--- channel alone, and the preemption lock is reached by calls 1, 6, 32 and 33 alone: for every record and every event.
--- Assumes nothing.
+-- What the body of a call may decide: it answers 0, 7 or a code 1 to 5, a message is left by its channel's source alone, a transfer is made at the
+-- ends of a queuing channel alone, and the preemption lock is reached by calls 1, 6, 32 and 33 alone: for every record and every event. Assumes
+-- nothing.
 use Prim.Native.Nat.{ℕ, _≤_, _<_}
 use mathlib.Core.Path.{_≡_, refl}
 use mathlib.Core.Bool.{Bool, true, false, _&&_, _||_}

@@ -36,23 +36,23 @@ use Rattle.machine.specs.Fields.{field, requestOf, isNumber, between, is
 use Rattle.machine.specs.Ids.{kept}
 use Rattle.machine.specs.Messages.{noQueue, held, queueOf, first, sent, received, moved, endsWait}
 use Rattle.machine.specs.Process.{blankProcess, classOf, carriedIn, carried, object, served, handed, waitingFor, later}
-use Rattle.machine.specs.Partition.{process, waitsOn, waiters, firstWaiter, stored, changedAll, endedBy, applied, running, normalMode, nothingCreated, tickPartition, noted, freshPartition}
-use Rattle.machine.specs.Runs.{next, after}
+use Rattle.machine.specs.Partition.{process, waitsOn, waiters, firstWaiter, stored, applied, running, nothingCreated, tickPartition, noted, freshPartition}
+use Rattle.machine.specs.Runs.{next}
 use Rattle.machine.specs.Theorems.LeftRight.{isTick, isZero}
-use Rattle.machine.specs.Decisions.{checked, replyOf, changed, blocked, queued, awaiting}
+use Rattle.machine.specs.Decisions.{replyOf, changed, blocked, queued, awaiting}
 use Rattle.machine.specs.Calls.{setMode}
-use Rattle.machine.specs.Channels.{queuing, queuingAt, leadsInto, apart, otherEnd, otherQueue, portOf, channelChecks, send, receive, passed, erasedTo}
+use Rattle.machine.specs.Channels.{queuing, queuingAt, apart, otherQueue, portOf, channelChecks, send, receive, passed, erasedTo}
 use Rattle.machine.specs.Services.{services, callDecision}
-use Rattle.machine.specs.Module.{noPartition, emptyTable, emptyModule, freshModule, channel, part, queue, withPart, withMessage, withQueue, withTime}
+use Rattle.machine.specs.Module.{noPartition, emptyTable, emptyModule, freshModule, channel, part, queue, withPart, withQueue, withTime}
 use Rattle.machine.specs.Ticks.{partitionCount, tickModule}
 use Rattle.machine.specs.Table.{readTable}
-use Rattle.machine.specs.Step.{contextOf, decision, restarted, moduleAfter, step}
+use Rattle.machine.specs.Step.{contextOf, restarted, moduleAfter, step}
 use Rattle.machine.specs.Theorems.Events.{own}
-use Rattle.machine.specs.Theorems.Valid.{Between, contains, ListedIn, Valid, SoundContext, SoundDecision, SoundMove, SoundEnd, SoundModule, Reached, plainTick}
+use Rattle.machine.specs.Theorems.Valid.{Between, contains, ListedIn, Valid, SoundContext, SoundDecision, SoundMove, SoundModule, Reached, plainTick}
 use Rattle.machine.specs.Theorems.Plain.{plainNumber, plainBetween, plainMoved}
 use Rattle.machine.specs.Theorems.Queues.{queueNumber, ChannelEnds}
-use Rattle.machine.specs.Theorems.Account.{isCall, codeAt, restartsBy, erases, messageIn, Flow, channelFlow, isSend, isReceive, waitsToSend, sending, keeps, givesUp, Balances, Account}
-use Rattle.machine.proofs.Tests.{by-test, by-codes, Passed, not-both, and-left, and-right, or-left, or-right}
+use Rattle.machine.specs.Theorems.Account.{isCall, restartsBy, messageIn, Flow, channelFlow, isSend, isReceive, waitsToSend, sending, keeps, givesUp, Balances, Account}
+use Rattle.machine.proofs.Tests.{by-test, by-codes, Passed, not-both, and-left, and-right}
 use Rattle.machine.proofs.Fields.{in-limits}
 use Rattle.machine.proofs.Bounds.{not-so, same-or-not, named-replicate, getD-replicate-any}
 use Rattle.machine.proofs.Either.{either}
@@ -66,14 +66,13 @@ use Rattle.machine.proofs.Bodies.{Sends, Receives, OnQueue, Bodily, bod
 use Rattle.machine.proofs.Refusals.{call-in-range}
 use Rattle.machine.proofs.Plain.{lossless}
 use Rattle.machine.proofs.Calling.{field-number, number-of}
-use Rattle.machine.proofs.Reached.{at-set, plain-part, tick-module-plain, place, context-sound, made, made-sound, made-body, port-sound, reached-valid, valid-sound, part-sound, erased-sound, Fills, fills, Channelled, on-queue, queuing-plain, refilled-table, refilled-sound}
+use Rattle.machine.proofs.Reached.{plain-part, tick-module-plain, place, context-sound, made, made-sound, made-body, reached-valid, part-sound, erased-sound, Fills, on-queue, queuing-plain, refilled-table, refilled-sound}
 use Rattle.machine.proofs.Tables.{table-read}
 use Rattle.machine.proofs.Answers.{step-table}
 use Rattle.machine.proofs.Orders.{Part, part-whole, part-waits, part-trans, queue-of, same-queue, tick-part, change-part, joins-last, Orderly}
 use Rattle.machine.proofs.EveryCall.{call-order}
 use Rattle.machine.proofs.Queues.{first-created}
-use Rattle.machine.proofs.Fairness.{part-none, none-first}
-use Rattle.machine.proofs.Calmness.{Leaves, leaves-same, OfSenders, Stays, stays-same, tick-stays, changed-stays, blocked-stays, Calm, on-queue as waits-there}
+use Rattle.machine.proofs.Calmness.{Leaves, leaves-same, OfSenders, Stays, tick-stays, changed-stays, blocked-stays, Calm, on-queue as waits-there}
 use Rattle.machine.proofs.Senders.{passed-leaves, restart-leaves}
 use Rattle.machine.proofs.EveryCall.{call-calm}
 use Rattle.machine.proofs.Restarts.{refilled-queue, refilled-queue-other, refilled-senders, refilled-waits, refilled-part-other, apart-in}
@@ -82,7 +81,7 @@ use Rattle.machine.proofs.Ends.{channel-ends}
 use Rattle.machine.proofs.Tracking.{kept-no}
 use Rattle.machine.proofs.Passing.{joined-same, joined-still, joined-queue, gone-queue, gone-first, gone-same, gone-still, handed-one}
 use Rattle.machine.proofs.Flows as Fl
-use Rattle.machine.proofs.Account.{tick-is, call-of, number-test, plain-is, no-zero, message-is, empty-of, first-rest, reached-after, buffer-account}
+use Rattle.machine.proofs.Account.{tick-is, number-test, plain-is, no-zero, message-is, empty-of, first-rest, buffer-account}
 
 of-channels : OfSenders 6
 of-channels = record { low = omega arith; receivers = λ z. omega arith; readers = λ z. omega arith; ends = λ z. omega arith }

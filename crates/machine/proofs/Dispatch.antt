@@ -2,7 +2,6 @@
 use Prim.Native.Nat.{ℕ, _-_, _<_}
 use mathlib.Core.Path.{_≡_, refl}
 use mathlib.Core.Bool.{Bool, true, false, _&&_}
-use mathlib.Core.List.{[]}
 use lib.Dec.{leb}
 use borrow.Author.Tests.{eqb-true, eqb-false, leb-false, lt-leb, not-false}
 use Rattle.machine.specs.declared.Message.{Message}

@@ -1,8 +1,8 @@
 -- Who waits at the ends of queuing channels, on every reached record. Assumes nothing.
 use Prim.Native.Nat.{ℕ, zero, suc, _+_, _-_, _≤_, _<_}
 use mathlib.Core.Path.{_≡_, refl, ap, sym, _∙_, subst}
-use mathlib.Core.Bool.{Bool, true, false, not, _&&_, and-false}
-use mathlib.Core.List.{List, [], _∷_, _++_, map, append-nil}
+use mathlib.Core.Bool.{true, false, not, _&&_, and-false}
+use mathlib.Core.List.{List, [], _∷_, map, append-nil}
 use mathlib.Core.Logic.{_⊎_, inl, inr, ⊎-elim}
 use native.Mathlib.Omega.{arith}
 use lib.ListN.{length, getD, set, take, drop, getD-replicate}
@@ -17,17 +17,15 @@ use Rattle.machine.specs.declared.Queue.{Queue}
 use Rattle.machine.specs.declared.Port.{Port}
 use Rattle.machine.specs.declared.Traffic.{Traffic}
 use Rattle.machine.specs.declared.Transfer.{Transfer}
-use Rattle.machine.specs.declared.Transfer.the-variants.{Put, HandedTo, Taken, LetIn}
+use Rattle.machine.specs.declared.Transfer.the-variants.{LetIn}
 use Rattle.machine.specs.declared.Decision.{Decision}
 use Rattle.machine.specs.declared.Decision.the-variants.{Refused, Unchanged, Ticked, Blocked, Changed, Restarted, Written, Passed}
 use Rattle.machine.specs.declared.Request.{Request}
-use Rattle.machine.specs.declared.Event.{Event as EventT}
 use Rattle.machine.specs.declared.Module.{Module}
 use Rattle.machine.specs.declared.Wait.{Wait}
-use Rattle.machine.specs.declared.Wait.the-variants.{Source, Destination}
 use Rattle.machine.specs.Limits.{modeLimit, channelLimit, messageLimit, partitionLimit}
 use Rattle.machine.specs.Fields.{requestOf, numberOf}
-use Rattle.machine.specs.Messages.{noQueue, queueOf, sent, received, moved, endsWait}
+use Rattle.machine.specs.Messages.{noQueue, sent, received, moved, endsWait}
 use Rattle.machine.specs.Process.{Class, classOf, objectIn, object, onObject, carried}
 use Rattle.machine.specs.Partition.{process, waiters, firstWaiter, stored, normalMode, nothingCreated, noted, freshPartition}
 use Rattle.machine.specs.Ids.{kept}
@@ -38,7 +36,7 @@ use Rattle.machine.specs.Table.{readTable}
 use Rattle.machine.specs.Step.{contextOf, decision, restarted, moduleAfter, step}
 use Rattle.machine.specs.Theorems.Valid.{Between, contains, KnownWait, settingOf, SoundDecision, SoundModule, SoundMove, SoundEnd, Reached}
 use Rattle.machine.specs.Theorems.Queues.{queueNumber, EndOf, ChannelEnds}
-use Rattle.machine.proofs.Tests.{by-test, and-left, not-both}
+use Rattle.machine.proofs.Tests.{by-test, not-both}
 use Rattle.machine.proofs.Bounds.{same-or-not}
 use Rattle.machine.proofs.Either.{either}
 use Rattle.machine.proofs.Fields.{in-limits}
@@ -46,10 +44,10 @@ use Rattle.machine.proofs.Dispatch.{Calls, by-event}
 use Rattle.machine.proofs.Bodies.{Sends, Receives, OnQueue, Bodily}
 use Rattle.machine.proofs.Messages.{let-in-length}
 use Rattle.machine.proofs.Kept.{Caller, normal-caller, nothing-valid, waiters-created, waiters-exact}
-use Rattle.machine.proofs.Reached.{at-set, place, context-sound, made, made-sound, made-body, port-sound, valid-sound, reached-valid, part-sound, erased-sound, Fills, fills, Channelled, on-queue, transfer-sound, queuing-plain, empty-step}
+use Rattle.machine.proofs.Reached.{at-set, place, context-sound, made, made-sound, made-body, valid-sound, reached-valid, part-sound, erased-sound, Fills, fills, Channelled, on-queue, transfer-sound, queuing-plain, empty-step}
 use Rattle.machine.proofs.Answers.{decided-table}
 use Rattle.machine.proofs.Tables.{table-read}
-use Rattle.machine.proofs.Orders.{Part, same-queue, joins-last, NotBlocked, Orderly}
+use Rattle.machine.proofs.Orders.{Part, same-queue, joins-last, Orderly}
 use Rattle.machine.proofs.EveryCall.{call-order}
 use Rattle.machine.proofs.Queues.{Parts, tick-parts, decided-parts}
 use Rattle.machine.proofs.Fairness.{AtEnd, Fair, part-none, none-first, counts-low}

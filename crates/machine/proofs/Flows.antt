@@ -1,27 +1,26 @@
 -- The account of messages that pass, from one event to the next: for each way in which an event can act on what is held and on who waits to send.
 -- Nothing here knows buffers or channels. Assumes nothing.
-use Prim.Native.Nat.{ℕ, zero, suc, _+_, _-_, _≤_, _<_}
+use Prim.Native.Nat.{ℕ, zero, suc, _+_, _-_}
 use mathlib.Core.Path.{_≡_, refl, ap, ap₂, sym, _∙_}
 use mathlib.Core.Bool.{Bool, true, false, cond, not, _&&_, _||_, and-true, and-false, or-true}
 use mathlib.Core.List.{List, [], _∷_, _++_, map, append-nil, append-assoc}
 use native.Mathlib.Omega.{arith}
 use lib.ListN.{length, take, drop, length-append}
 use lib.Dec.{eqb, ltb}
-use borrow.Author.Tests.{eq-eqb, ne-eqb, lt-ltb, le-ltb}
+use borrow.Author.Tests.{eq-eqb, ne-eqb, lt-ltb}
 use Rattle.machine.specs.declared.Event.{Event as EventT}
 use Rattle.machine.specs.declared.Module.{Module}
 use Rattle.machine.specs.Ids.{kept, keptIf}
-use Rattle.machine.specs.Process.{carried}
-use Rattle.machine.specs.Partition.{process, running, waiters}
+use Rattle.machine.specs.Partition.{process, running}
 use Rattle.machine.specs.Runs.{next, after}
 use Rattle.machine.specs.Step.{step}
 use Rattle.machine.specs.Theorems.Events.{own}
 use Rattle.machine.specs.Theorems.Valid.{contains, Distinct}
-use Rattle.machine.specs.Theorems.Account.{codeAt, restartsBy, messageIn, Flow, isSend, isReceive, waitsToSend, sending, keeps, waitsToReceive, receiving, placeIn, dropped, givesUp, letInAt, lost, lostAt, sentAt, allSent, receivedAt, allReceived, Balances}
+use Rattle.machine.specs.Theorems.Account.{restartsBy, messageIn, Flow, isSend, isReceive, waitsToSend, sending, keeps, waitsToReceive, receiving, placeIn, dropped, givesUp, letInAt, lost, lostAt, sentAt, allSent, receivedAt, allReceived, Balances}
 use Rattle.machine.proofs.Tests.{not-both, and-left, and-right}
 use Rattle.machine.proofs.Either.{either}
 use Rattle.machine.proofs.Lists.{kept-snoc}
-use Rattle.machine.proofs.Tracking.{contains-kept, kept-same, kept-kept, kept-all, kept-no}
+use Rattle.machine.proofs.Tracking.{contains-kept, kept-same, kept-kept, kept-all}
 
 -- ---------------------------------------------------------------- lists
 pub map-same : (f g : ℕ → ℕ) (l : List ℕ) → ((x : ℕ) → contains x l ≡ true → f x ≡ g x) → map f l ≡ map g l

@@ -2,7 +2,7 @@
 use Prim.Native.Nat.{ℕ, zero, suc, _+_, _-_, _<_, _≤_}
 use mathlib.Core.Path.{_≡_, refl, sym, ap, ap₂, _∙_, subst}
 use mathlib.Core.Bool.{Bool, true, false, cond, not, _&&_, _||_, true≢false}
-use mathlib.Core.List.{List, [], _∷_, map}
+use mathlib.Core.List.{[], _∷_, map}
 use mathlib.Core.Logic.{_⊎_, ⊎-elim}
 use native.Mathlib.Omega.{arith}
 use lib.Dec.{eqb, ltb, leb}
@@ -17,8 +17,7 @@ use Rattle.machine.specs.declared.Channel.{Channel}
 use Rattle.machine.specs.declared.Traffic.{Traffic}
 use Rattle.machine.specs.declared.Transfer.{Transfer}
 use Rattle.machine.specs.declared.Wait.the-variants.{Source, Destination}
-use Rattle.machine.specs.declared.Field.{Field}
-use Rattle.machine.specs.declared.Field.the-variants.{Number, MinusOne, Other}
+use Rattle.machine.specs.declared.Field.the-variants.{Number, Other}
 use Rattle.machine.specs.declared.Event.{Event}
 use Rattle.machine.specs.declared.Request.{Request}
 use Rattle.machine.specs.declared.EventRecord.{EventRecord}
@@ -36,8 +35,8 @@ use Rattle.machine.specs.Ticks as Ti
 use Rattle.machine.specs.Channels as Ch
 use Rattle.machine.specs.Places as Pl
 use Rattle.machine.specs.Step as St
-use Rattle.machine.specs.Runs.{next, answeredEvent, after, keep}
-use Rattle.machine.specs.Theorems.LeftRight.{isZero, memberOf, isTick, common, shown, commonAnswers, Within, Closed, EqualIn, LeftRight}
+use Rattle.machine.specs.Runs.{next, answeredEvent, after}
+use Rattle.machine.specs.Theorems.LeftRight.{isZero, memberOf, common, shown, Within, Closed, EqualIn, LeftRight}
 use Rattle.machine.proofs.TwoRuns.{Unwinding, two-runs}
 use Rattle.machine.proofs.Tests.{by-tests, by-checks₂, and-left, and-right, or-left, or-right, not-both}
 use Rattle.machine.proofs.Fields.{in-limits, between-zero}

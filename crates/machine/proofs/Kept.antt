@@ -1,5 +1,4 @@
--- The tick and every change keep a partition valid, what a call decides is sound, and a partition with nothing created is valid. Assumes
--- nothing.
+-- The tick, every sound change and every sound decision keep a partition valid, and one with nothing created is valid. Assumes nothing.
 use Prim.Native.Nat.{ℕ, zero, suc, _+_, _-_, _%_, _≤_, _<_, max}
 use mathlib.Core.Path.{_≡_, refl, ap, sym, _∙_}
 use mathlib.Core.Bool.{Bool, true, false, not, _||_, or-true}

@@ -4,19 +4,18 @@ use Prim.Native.Nat.{ℕ}
 use mathlib.Core.Path.{_≡_, refl, ap, sym, _∙_}
 use mathlib.Core.Bool.{Bool, true, false, not, or-true}
 use mathlib.Core.List.{List, [], _∷_, _++_, map}
-use native.Mathlib.Omega.{arith}
 use lib.Dec.{eqb}
 use borrow.Author.Tests.{eq-eqb, ne-eqb}
 use Rattle.machine.specs.declared.Process.{Process}
 use Rattle.machine.specs.declared.Partition.{Partition}
 use Rattle.machine.specs.Ids.{kept}
-use Rattle.machine.specs.Process.{object, carried, served, handed}
+use Rattle.machine.specs.Process.{object, served, handed}
 use Rattle.machine.specs.Partition.{process, waitsOn, waiters, stored}
-use Rattle.machine.specs.Theorems.Valid.{Between, contains, ListedIn}
+use Rattle.machine.specs.Theorems.Valid.{contains, ListedIn}
 use Rattle.machine.proofs.Tracking.{kept-no}
 use Rattle.machine.proofs.Sound.{ready-off}
 use Rattle.machine.proofs.Keeping.{process-stored, process-other}
-use Rattle.machine.proofs.Kept.{Caller, waiters-exact}
+use Rattle.machine.proofs.Kept.{Caller}
 use Rattle.machine.proofs.Orders.{joins-last}
 use Rattle.machine.proofs.Queues.{first-created, others-apart, served-queue}
 use Rattle.machine.proofs.Calmness.{on-queue}

@@ -1,12 +1,12 @@
 -- Every answer line of a replay can be written, and has 61 bytes. Assumes nothing.
-use Prim.Native.Nat.{ℕ, zero, suc, _+_, _*_, _≤_, _<_}
-use mathlib.Core.Path.{_≡_, refl, sym, ap, _∙_}
-use mathlib.Core.Bool.{Bool, true, false, cond, _&&_}
-use mathlib.Core.List.{List, [], _∷_, _++_}
-use mathlib.Core.Logic.{_⊎_, inl, inr}
+use Prim.Native.Nat.{ℕ, _*_, _≤_}
+use mathlib.Core.Path.{_≡_, refl, ap, _∙_}
+use mathlib.Core.Bool.{true}
+use mathlib.Core.List.{List, [], _∷_}
+use mathlib.Core.Logic.{inl, inr}
 use native.Mathlib.Omega.{arith}
 use lib.ListN.{length, length-append}
-use lib.IntN.{ℤ, pos, negsuc}
+use lib.IntN.{ℤ, pos}
 use lib.Dec.{leb}
 use borrow.Author.Tests.{le-leb}
 use Rattle.machine.specs.declared.Module.{Module}
@@ -15,12 +15,12 @@ use Rattle.machine.specs.declared.Line.{Line}
 use Rattle.machine.specs.declared.Line.the-variants.{Six, Bad}
 use Rattle.machine.specs.declared.Time.{Time}
 use Rattle.machine.specs.declared.Time.the-variants.{Never, At}
-use Rattle.machine.specs.Limits.{numberLimit, lineLength, partitionLimit, processLimit, timeLimit}
+use Rattle.machine.specs.Limits.{numberLimit, lineLength, partitionLimit}
 use Rattle.machine.specs.Line.{inRange, allInRange, lineText}
 use Rattle.machine.specs.Step.{step}
 use Rattle.machine.specs.Module.{current, emptyTable, emptyModule}
 use Rattle.machine.specs.Windows.{lookup}
-use Rattle.machine.specs.Runs.{replies, final}
+use Rattle.machine.specs.Runs.{replies}
 use Rattle.machine.specs.Replay.{eventOf, timeNumber, answerNumbers, lineAnswer, lineNext, texts}
 use Rattle.machine.specs.Theorems.Valid.{NotAfter, AnswerInRange, ValidModule}
 use Rattle.machine.proofs.TextLine.{line-length}

@@ -3,8 +3,8 @@
 use Prim.Native.Nat.{ℕ, zero, suc, _+_, _-_, _≤_, _<_}
 use mathlib.Core.Path.{_≡_, refl, ap, ap₂, sym, _∙_}
 use mathlib.Core.Bool.{Bool, true, false, not, _&&_, or-true}
-use mathlib.Core.List.{List, [], _∷_, _++_, map}
-use mathlib.Core.Logic.{_⊎_, inl, inr, ⊎-elim}
+use mathlib.Core.List.{List, [], _∷_, map}
+use mathlib.Core.Logic.{_⊎_, inl, ⊎-elim}
 use native.Mathlib.Omega.{arith}
 use lib.ListN.{length, getD, set, take, drop, length-set}
 use lib.Seq.{getD-set-same, getD-set-other}
@@ -15,22 +15,20 @@ use Rattle.machine.specs.declared.Partition.{Partition}
 use Rattle.machine.specs.declared.Queue.{Queue}
 use Rattle.machine.specs.declared.Channel.{Channel}
 use Rattle.machine.specs.declared.Table.{Table}
-use Rattle.machine.specs.declared.Message.{Message}
 use Rattle.machine.specs.declared.Module.{Module}
 use Rattle.machine.specs.declared.Wait.the-variants.{Source}
-use Rattle.machine.specs.Limits.{channelLimit}
 use Rattle.machine.specs.Ids.{kept}
 use Rattle.machine.specs.Messages.{noQueue, queueOf}
 use Rattle.machine.specs.Process.{object, carried, served}
 use Rattle.machine.specs.Partition.{process, waitsOn, waiters, changedAll, noted}
-use Rattle.machine.specs.Module.{noPartition, channel, part, queue, withPart}
-use Rattle.machine.specs.Channels.{queuing, queuingAt, leadsInto, admitted, refilledAt, refilledTo}
-use Rattle.machine.specs.Theorems.Valid.{Between, contains, Distinct, ListedIn, Valid, SoundModule}
+use Rattle.machine.specs.Module.{noPartition, channel, part, queue}
+use Rattle.machine.specs.Channels.{queuing, queuingAt, leadsInto, admitted, refilledTo}
+use Rattle.machine.specs.Theorems.Valid.{contains, Distinct, Valid, SoundModule}
 use Rattle.machine.proofs.Tests.{by-test, not-both}
 use Rattle.machine.proofs.Bounds.{same-or-not}
 use Rattle.machine.proofs.Either.{either}
 use Rattle.machine.proofs.Tracking.{kept-all}
-use Rattle.machine.proofs.Keeping.{AllCreated, changed-process}
+use Rattle.machine.proofs.Keeping.{changed-process}
 use Rattle.machine.proofs.Kept.{waiters-distinct, take-in, firsts-created, firsts-distinct, let-in-valid}
 use Rattle.machine.proofs.Reached.{at-set, Fills, fills, refilled-table, refilled-sound, refilled-keeps}
 use Rattle.machine.proofs.Orders.{part-waits, queue-of, all-part, same-queue}

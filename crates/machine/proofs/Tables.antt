@@ -1,15 +1,14 @@
 -- What table reading gives: of a sound table the fresh module, or the empty record with 11 or 12. Assumes nothing.
 use Prim.Native.Nat.{ℕ, zero, suc, _+_, _-_, _≤_, _<_}
-use mathlib.Core.Path.{_≡_, refl, sym, ap, ap₂, _∙_}
-use mathlib.Core.Bool.{Bool, true, false, cond, not, _&&_, _||_, true≢false}
-use mathlib.Core.List.{List, [], _∷_, _++_, map}
-use mathlib.Core.Logic.{_⊎_, ⊎-elim, inl, inr}
+use mathlib.Core.Path.{_≡_, refl, ap, _∙_}
+use mathlib.Core.Bool.{Bool, true, false, cond, not, _&&_}
+use mathlib.Core.List.{List, [], _∷_, _++_}
 use native.Mathlib.Omega.{arith}
 use native.Mathlib.Numerals.{add-one}
-use lib.ListN.{length, getD, set, take, replicate, length-set, length-replicate}
+use lib.ListN.{length, getD, set, take, length-set}
 use lib.Seq.{getD-set-same, getD-set-other, take-suc-set}
 use lib.Dec.{leb, ltb, eqb}
-use borrow.Author.Tests.{eqb-true, eqb-false, leb-true, ltb-true, ltb-false, not-true, not-false}
+use borrow.Author.Tests.{eqb-true, eqb-false, leb-true, ltb-true, ltb-false, not-true}
 use Rattle.machine.specs.declared.Window.{Window}
 use Rattle.machine.specs.declared.Channel.{Channel}
 use Rattle.machine.specs.declared.Table.{Table}
@@ -23,11 +22,11 @@ use Rattle.machine.specs.declared.Field.{Field}
 use Rattle.machine.specs.declared.Field.the-variants.{Number, MinusOne, Other}
 use Rattle.machine.specs.Limits.{frameLimit, partitionLimit, windowLimit, channelLimit, sizeLimit, durationLimit}
 use Rattle.machine.specs.Fields.{rowOf, between, isNumber, numberOf}
-use Rattle.machine.specs.Windows.{windows, noWindow}
+use Rattle.machine.specs.Windows.{windows}
 use Rattle.machine.specs.Module.{channel, noChannel, emptyModule, freshModule}
 use Rattle.machine.specs.Table as T
 use Rattle.machine.specs.Theorems.Valid.{Between, SoundWindow, SoundWindows, SoundChannel, SoundTable}
-use Rattle.machine.proofs.Tests.{by-test, and-left, and-right, not-both}
+use Rattle.machine.proofs.Tests.{by-test, and-left, and-right}
 use Rattle.machine.proofs.Fields.{in-limits}
 
 -- the end of the last of these windows

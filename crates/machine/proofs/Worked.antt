@@ -1,8 +1,5 @@
 -- The worked example of document 01 and its continuation, and the examples of releases inside a frame, of the preemption lock and of ticks left, computed from the bytes of the input. Assumes nothing.
-use Prim.Native.Nat.{ℕ}
-use mathlib.Core.Path.{_≡_, refl}
-use mathlib.Core.Bool.{Bool, true, false}
-use mathlib.Core.List.{List, [], _∷_, _++_}
+use mathlib.Core.Path.{refl}
 use Rattle.machine.specs.Theorems.Examples as E
 use Rattle.machine.specs.Theorems.Starred.{Worked}
 use Rattle.machine.specs.Line as X

@@ -1,12 +1,12 @@
 -- The tick of a module.
 use Prim.Native.Nat.{ℕ, _+_, zero, suc}
-use mathlib.Core.Bool.{Bool, cond, _&&_}
-use lib.Dec.{leb, eqb}
+use mathlib.Core.Bool.{Bool, cond}
+use lib.Dec.{leb}
 use Rattle.machine.specs.Limits.{partitionLimit}
 use Rattle.machine.specs.Partition.{tickPartition}
 use Rattle.machine.specs.declared.Table.{Table}
 use Rattle.machine.specs.declared.Module.{Module}
-use Rattle.machine.specs.Module.{part, current, withPart, withTime}
+use Rattle.machine.specs.Module.{part, withPart, withTime}
 
 -- a wake time or a deadline of partition number i + 1 may have come
 abbrev pub dueAt : ℕ → Module → Bool

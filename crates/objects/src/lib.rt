@@ -1,4 +1,4 @@
-// Semaphores and events of a partition: calls 14 to 20. Beside each call: how many of the fields a, b, c, e it uses.
+// Semaphores and events of a partition: calls 14 to 20.
 ghost use mathlib.Core.Path.{_≡_};
 ghost use Prim.Native.Nat.{_-_};
 ghost use mathlib.Core.Bool.{cond, _&&_};

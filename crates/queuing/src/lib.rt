@@ -1,5 +1,4 @@
-// Queuing channels: what a call sees of their traffic, calls 30 and 31, and queues that a restart fills anew. Beside each call: how many of
-// the fields a, b, c, e it uses.
+// Queuing channels: what a call sees of their traffic, calls 30 and 31, and queues that a restart fills anew.
 ghost use mathlib.Core.Path.{_≡_};
 ghost use Prim.Native.Nat.{_-_};
 ghost use mathlib.Core.Bool.{cond, _&&_};

@@ -1,4 +1,4 @@
-// Calls 1 to 34 by number: what each decides.
+// Every call by its number: what each decides.
 ghost use mathlib.Core.Path.{_≡_};
 ghost use Rattle.machine.specs.Services.{called};
 use machine::Context;

@@ -79,7 +79,8 @@ sameBytes [] (b ∷ bs) = false
 sameBytes (a ∷ l) [] = false
 sameBytes (a ∷ l) (b ∷ bs) = eqb a b && sameBytes l bs
 
--- the number that bytes spell after the number so far, each taken as a digit
+-- the number that bytes spell after the number so far, each taken as a digit; a byte below the digit 0, as a space, counts as 0, since a difference
+-- is never below 0. What it spells is only tried: its own text is compared with the columns
 unfoldable pub spelled : List ℕ → ℕ → ℕ
 spelled [] v = v
 spelled (b ∷ bs) v = spelled bs (v * base + (b - zeroDigit))

@@ -7,7 +7,8 @@ ghost use Rattle.machine.specs.Limits.{partitionLimit, channelLimit};
 ghost use Rattle.machine.specs.Fields.{numberOf};
 ghost use Rattle.machine.specs.Decisions.{codeOf};
 ghost use Rattle.machine.specs.Partition.{within};
-ghost use Rattle.machine.specs.Module.{channel};
+ghost use Rattle.machine.specs.Module.{noChannel, channel};
+ghost use Rattle.machine.specs.declared.Table.{Table as TableT};
 ghost use Rattle.machine.specs.Channels.{queuing, seenAt, portAt, apart, channelChecks, write, read, keptTo};
 use machine::Channel;
 use machine::Context;
@@ -37,18 +38,25 @@ pub fn place_of(a: Field) -> u32
     n - 1
 }
 
-pub fn channel_at(table: Table, i: usize) -> Channel
-    ensures { λ c. ⌜ c ≡ channel table i ⌝ }
+// What stands for a channel where there is none.
+pub fn no_channel() -> Channel
+    ensures { λ c. ⌜ c ≡ noChannel ⌝ }
 {
-    if i < Module::CHANNELS {
-        return table.channels[i];
-    }
     Channel {
         source: 0,
         destination: 0,
         refresh: 0,
         size: 0,
     }
+}
+
+pub fn channel_at(table: Table, i: usize) -> Channel
+    ensures { λ c. ⌜ c ≡ channel table i ⌝ }
+{
+    if i < Module::CHANNELS {
+        return table.channels[i];
+    }
+    no_channel()
 }
 
 // The message is seen at the destination alone.
@@ -61,18 +69,17 @@ fn seen_at(k: u32, c: Channel, x: Message) -> Message
     decisions::no_message()
 }
 
-// What partition k sees of the channel that a names, on which x lies, with this traffic.
-pub fn port_at(table: Table, k: u32, a: Field, x: Message, traffic: Traffic) -> Port
-    ensures { λ y. ⌜ y ≡ portAt table k a x traffic ⌝ }
+// What partition k sees of the channel that a names, which is this one of so many, on which x lies, with this traffic.
+pub fn port_at(count: u8, here: Channel, k: u32, a: Field, x: Message, traffic: Traffic) -> Port
+    ensures { λ y. ⌜ ((T : TableT) → T .channelCount ≡ count → here ≡ channel T (numberOf a - 1) → y ≡ portAt T k a x traffic) ⌝ }
 {
     let place = place_of(a);
-    let channel = channel_at(table, place as usize);
     Port {
         own: k,
         place,
-        exists: fields::is_between(a, 1, table.channelCount as u32),
-        channel,
-        message: seen_at(k, channel, x),
+        exists: fields::is_between(a, 1, count as u32),
+        channel: here,
+        message: seen_at(k, here, x),
         traffic,
     }
 }

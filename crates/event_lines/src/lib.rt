@@ -19,7 +19,7 @@ use machine::Numbers;
 use machine::Time;
 
 // The lines of a block, at most.
-const BLOCK: usize = 1024;
+pub const BLOCK: usize = 1024;
 
 // The numbers of an event, and of its answer.
 const SIX: usize = 6;

@@ -29,6 +29,7 @@ use Rattle.machine.specs.declared.Answer.{Answer}
 use Rattle.machine.specs.declared.Decision.{Decision}
 use Rattle.machine.specs.declared.Decision.the-variants.{Refused, Ticked}
 use Rattle.machine.specs.declared.Event.{Event}
+use Rattle.machine.specs.declared.Lookup.{Lookup}
 use Rattle.machine.specs.declared.Message.{Message}
 use Rattle.machine.specs.declared.Module.{Module}
 use Rattle.machine.specs.declared.Partition.{Partition}
@@ -49,9 +50,10 @@ use Rattle.machine.proofs.EveryCall.{release-unseen}
 use Rattle.machine.proofs.Folds.{tick-to-none}
 use Rattle.machine.proofs.Tests.{by-test, codesIn, Passed, code-refuses, code-passes, and-left, and-right, or-left, or-right}
 use Rattle.places.specs.Placed.{placedAt}
+use Rattle.places.specs.declared.Placed.{Placed}
 use Rattle.queuing.proofs.Laws.{placed}
 use Rattle.executive.specs.Executive.{turned, answerOf}
-use Rattle.executive.specs.Lists.{callChecks, tickCount, slotOf, callSlot, takesStartRule, releaseFor, shownSlot, planOf}
+use Rattle.executive.specs.Lists.{callChecks, tickCount, slotOf, callSlot, takesStartRule, releaseFor, shownSlot, planned, planOf}
 use Rattle.executive.specs.declared.Plan.{Plan}
 
 -- ---------------------------------------------------------------- lists of checks
@@ -206,17 +208,23 @@ module _ (T : Table) (long : length (T .channels) ≡ channelLimit) (k i : ℕ) 
           by-test (λ (j : ℕ). n ≡ j - 1 → ⊥) (eqb (c .source) k) (λ _ y. omega (arith, b .0, b .1)) (λ _ y. omega (arith, a .0, a .1)) at
 
 -- record and reply after an event are the machine's, and the record has its places; the window was looked up as it is then
-pub record After (m : Module) (r : Request) (now : ℕ) (q : Module) (b : Reply) : Type 0 where
+pub record After (m : Module) (r : Request) (now t : ℕ) (q : Module) (b : Reply) : Type 0 where
   pub state : q ≡ moduleAfter m (own r) (decision m r)
   pub reply : b ≡ replyOf (decision m r)
   pub long : length (q .partitions) ≡ partitionLimit
   pub held : Held q
   pub window : now ≡ current q
+  pub clock : q .t ≡ t
 
 -- the answer is read off the record after the event
-answered-is : (m : Module) (r : Request) (now : ℕ) (y : Module) (b : Reply) → After m r now y b → (n : ℕ) (a : Answer) → n ≡ cond (sees r now) (runningIn now y) 0 → a ≡ answerOf b (y .t) now n
+answered-is : (m : Module) (r : Request) (now t : ℕ) (y : Module) (b : Reply) → After m r now t y b → (n : ℕ) (a : Answer) → n ≡ cond (sees r now) (runningIn now y) 0 → a ≡ answerOf b (y .t) now n
     → record { executive = record { inner = y }; answer = a } ≡ turned (stepped m r (decision m r))
-answered-is m r now y b done n a shows says = rw (says, shows, done .window) (λ i. turned (record { state = done .state i; answer = answerTo r (done .reply i) (done .state i) }))
+answered-is m r now t y b done n a shows says = rw (says, shows, done .window) (λ i. turned (record { state = done .state i; answer = answerTo r (done .reply i) (done .state i) }))
+
+-- it is found in parts: the request, its place, and the window at the time after it
+pub plan-made : (T : Table) (t : ℕ) (e : Event) {r : Request} {first : Placed} {v : Lookup} {x : Plan} → r ≡ requestOf e → first ≡ placedAt T t r → v ≡ lookup T (first .time) → x ≡ planned T r (own r) first v → x ≡ planOf T t e
+unfolding planOf
+plan-made T t e {r} {first} {v} {x} is at seen made = made ∙ rw (seen, at, is)
 
 -- what is found of the event e before its partition is looked at; T is the table, which no event changes
 pub record Planned (m : Module) (e : Event) (T : Table) (x : Plan) : Type 0 where
@@ -259,6 +267,9 @@ module _ {m : Module} {e : Event} {T : Table} {x : Plan} (f : Planned m e T x) w
   place-is : x .place ≡ numberOf (r .a) - 1
   unfolding planOf
   place-is = rw here
+
+  pub place-named : x .place ≡ numberOf (x .request .a) - 1
+  place-named = place-is ∙ ap (λ (v : Request). numberOf (v .a) - 1) (sym request-is)
 
   code-is : x .code ≡ code
   unfolding planOf
@@ -329,7 +340,7 @@ module _ {m : Module} {e : Event} {T : Table} {x : Plan} (f : Planned m e T x) w
     still none stays = ticked ∙ rw (ticks-is, none, time-is, stays) (tick-to-none m)
 
     -- no call: a tick, or refused
-    pub not-called : partitionLimit ≤ x .slot → {y : Module} {b : Reply} → y ≡ q → b ≡ coded (x .code) → After m (x .request) (x .current) y b
+    pub not-called : partitionLimit ≤ x .slot → {y : Module} {b : Reply} → y ≡ q → b ≡ coded (x .code) → After m (x .request) (x .current) (x .time) y b
     not-called far {y} {b} g h = either (eqb (x .code) 0)
         (λ z. either (eqb k 0)
         (λ o. taken (eqb-true (x .code) 0 z) o)
@@ -340,14 +351,14 @@ module _ {m : Module} {e : Event} {T : Table} {x : Plan} (f : Planned m e T x) w
         absurd (omega (arith, u, v))))
         (λ z. refused (eqb-false (x .code) 0 z))
       where
-        refused : (x .code ≡ 0 → ⊥) → After m (x .request) (x .current) y b
+        refused : (x .code ≡ 0 → ⊥) → After m (x .request) (x .current) (x .time) y b
         refused z =
             let d = place-refused m r (f .long) now seen (x .code) code-is z in
             let t : time ≡ m .t = time-refused (m .table) (m .t) now r (λ c. z (code-is ∙ c)) in
             let w : y ≡ m = g ∙ still (rw (ne-eqb (x .code) 0 z)) t in
-            record { state = rw (request-is, d) w; reply = rw (request-is, d) h; long = rw w (f .long); held = rw w (f .held); window = rw (current-is, w) (ap (λ (t : ℕ). lookup (m .table) t .partition) t) }
+            record { state = rw (request-is, d) w; reply = rw (request-is, d) h; long = rw w (f .long); held = rw w (f .held); window = rw (current-is, w) (ap (λ (t : ℕ). lookup (m .table) t .partition) t); clock = ap (λ (z : Module). z .t) w ∙ sym (time-is ∙ t) }
 
-        taken : x .code ≡ 0 → ticks r ≡ true → After m (x .request) (x .current) y b
+        taken : x .code ≡ 0 → ticks r ≡ true → After m (x .request) (x .current) (x .time) y b
         taken z o =
             let d : decision m r ≡ Ticked = place-passed m r (f .long) now seen (x .code) code-is z ∙ rw o in
             let t : time ≡ m .t + 1 = time-taken (m .table) (m .t) now r (sym code-is ∙ z) o in
@@ -358,6 +369,7 @@ module _ {m : Module} {e : Event} {T : Table} {x : Plan} (f : Planned m e T x) w
               long = rw w (tick-keeps (λ (v : Module). length (v .partitions) ≡ partitionLimit) (λ i p v l. length-set (v .partitions) i (noted p) ∙ l) (partitionCount (m .table)) (withTime (m .t + 1) m) (f .long));
               held = rw w (tick-keeps Held (λ i p v l. l) (partitionCount (m .table)) (withTime (m .t + 1) m) (f .held));
               window = rw (current-is, w) (ap (λ (t : ℕ). lookup (m .table) t .partition) t ∙ tick-keeps (λ (v : Module). lookup (m .table) (m .t + 1) .partition ≡ current v) (λ i p v l. l) (partitionCount (m .table)) (withTime (m .t + 1) m) refl);
+              clock = ap (λ (z : Module). z .t) w ∙ tick-keeps (λ (v : Module). v .t ≡ m .t + 1) (λ i p v l. l) (partitionCount (m .table)) (withTime (m .t + 1) m) refl ∙ sym (time-is ∙ t);
             }
 
     -- a call
@@ -388,17 +400,17 @@ module _ {m : Module} {e : Event} {T : Table} {x : Plan} (f : Planned m e T x) w
         window-is y a b = let w = called-same in rw (a, b, w) (current-is ∙ seen (calls inside .some))
 
         module _ {b : Reply} (says : b ≡ replyOf d) where
-          stores : {y : Module} → y ≡ moduleAfter m k d → length (y .partitions) ≡ partitionLimit → Held y → y .table ≡ q .table → y .t ≡ q .t → After m (x .request) (x .current) y b
-          stores {y} g l l′ a t = record { state = rw (request-is) (g ∙ ap (moduleAfter m k) made-is); reply = rw (request-is) (says ∙ ap replyOf made-is); long = l; held = l′; window = window-is y a t }
+          stores : {y : Module} → y ≡ moduleAfter m k d → length (y .partitions) ≡ partitionLimit → Held y → y .table ≡ q .table → y .t ≡ q .t → After m (x .request) (x .current) (x .time) y b
+          stores {y} g l l′ a t = record { state = rw (request-is) (g ∙ ap (moduleAfter m k) made-is); reply = rw (request-is) (says ∙ ap replyOf made-is); long = l; held = l′; window = window-is y a t; clock = t ∙ ap (λ (z : Module). z .t) called-same ∙ sym (time-is ∙ time-called (m .table) (m .t) now r (calls inside .some)) }
 
-          pub call-same : changes d ≡ false → channelLimit ≤ messageAt d → channelLimit ≤ transferAt d → {y : Module} → y ≡ q → After m (x .request) (x .current) y b
+          pub call-same : changes d ≡ false → channelLimit ≤ messageAt d → channelLimit ≤ transferAt d → {y : Module} → y ≡ q → After m (x .request) (x .current) (x .time) y b
           call-same c h h′ {y} g =
               let w = called-same in
               let n = called-no-tick (contextOf m k) (portOf m k r) (numberOf (r .call)) r (part m (k - 1)) in
               let u : NoTick d = subst NoTick (sym made-called) (n .is) in
               stores (g ∙ w ∙ sym (after-same m k (f .held .0) d u c h h′)) (rw (g, w) (f .long)) (rw (g, w) (f .held)) (ap (λ (z : Module). z .table) g) (ap (λ (z : Module). z .t) g)
 
-          pub call-written : messageAt d < channelLimit → {a : Message} → a ≡ messageOf d → {y : Module} → y ≡ withMessage (messageAt d) a q → After m (x .request) (x .current) y b
+          pub call-written : messageAt d < channelLimit → {a : Message} → a ≡ messageOf d → {y : Module} → y ≡ withMessage (messageAt d) a q → After m (x .request) (x .current) (x .time) y b
           call-written h {a} e {y} g =
               let w = called-same in
               stores (g ∙ rw (e, w) (sym (after-written m k d h))) (rw (g, w) (f .long)) (rw (g, w) (length-set (m .messages) (messageAt d) a ∙ f .held .0, f .held .1)) (ap (λ (z : Module). z .table) g) (ap (λ (z : Module). z .t) g)
@@ -409,7 +421,7 @@ module _ {m : Module} {e : Event} {T : Table} {x : Plan} (f : Planned m e T x) w
             moves = moved-is ∙ ap (moved a) (getD-any (q .queues) (transferAt d) pastQueue noQueue (let w = called-same in let z : length (q .queues) ≡ channelLimit = rw w (f .held .1) in omega arith))
 
             pub call-passed : end < partitionLimit → {p : Partition} → p ≡ noted (endedBy a (part q end))
-                → {y : Module} → y ≡ record { table = q .table; t = q .t; messages = q .messages; queues = set (q .queues) (transferAt d) l; partitions = set (q .partitions) end p } → After m (x .request) (x .current) y b
+                → {y : Module} → y ≡ record { table = q .table; t = q .t; messages = q .messages; queues = set (q .queues) (transferAt d) l; partitions = set (q .partitions) end p } → After m (x .request) (x .current) (x .time) y b
             call-passed inside {p} e {y} g =
                 let w = called-same in
                 let on : endsWait a ≡ true = either (endsWait a) (λ t. t) (λ t. let z : end ≡ partitionLimit = ends ∙ rw t in absurd (omega arith)) in
@@ -417,7 +429,7 @@ module _ {m : Module} {e : Event} {T : Table} {x : Plan} (f : Planned m e T x) w
                 let done : passed k (transferAt d) (transferOf d) m ≡ withPart (otherEnd k (channel (m .table) (transferAt d)) - 1) (endedBy a (part m (otherEnd k (channel (m .table) (transferAt d)) - 1))) (withQueue (transferAt d) (moved a (queue m (transferAt d))) m) = rw (← is, on) in
                 stores (g ∙ rw (e, moves, w, at) (sym (after-passed m k d h ∙ done))) (rw (g, w) (length-set (m .partitions) end p ∙ f .long)) (rw (g, w) (f .held .0, length-set (m .queues) (transferAt d) l ∙ f .held .1)) (ap (λ (z : Module). z .table) g) (ap (λ (z : Module). z .t) g)
 
-            pub call-moved : partitionLimit ≤ end → {y : Module} → y ≡ record { table = q .table; t = q .t; messages = q .messages; queues = set (q .queues) (transferAt d) l; partitions = q .partitions } → After m (x .request) (x .current) y b
+            pub call-moved : partitionLimit ≤ end → {y : Module} → y ≡ record { table = q .table; t = q .t; messages = q .messages; queues = set (q .queues) (transferAt d) l; partitions = q .partitions } → After m (x .request) (x .current) (x .time) y b
             call-moved far {y} g =
                 let w = called-same in
                 let u = withQueue (transferAt d) (moved a (queue m (transferAt d))) m in
@@ -429,13 +441,13 @@ module _ {m : Module} {e : Event} {T : Table} {x : Plan} (f : Planned m e T x) w
                 stores (g ∙ rw (moves, w) (sym (after-passed m k d h ∙ done))) (rw (g, w) (f .long)) (rw (g, w) (f .held .0, length-set (m .queues) (transferAt d) l ∙ f .held .1)) (ap (λ (z : Module). z .table) g) (ap (λ (z : Module). z .t) g)
 
           module _ {p : Partition} (after : p ≡ noted (partitionAfter d (part q (x .slot)))) where
-            pub call-changed : changes d ≡ true → restarts d ≡ false → {y : Module} → y ≡ record { table = q .table; t = q .t; messages = q .messages; queues = q .queues; partitions = set (q .partitions) (x .slot) p } → After m (x .request) (x .current) y b
+            pub call-changed : changes d ≡ true → restarts d ≡ false → {y : Module} → y ≡ record { table = q .table; t = q .t; messages = q .messages; queues = q .queues; partitions = set (q .partitions) (x .slot) p } → After m (x .request) (x .current) (x .time) y b
             call-changed c n {y} g =
                 let w = called-same in
                 stores (g ∙ rw (after, w, calls inside .slot) (sym (after-changed m k d c n))) (rw (g, w) (length-set (m .partitions) (x .slot) p ∙ f .long)) (rw (g, w) (f .held)) (ap (λ (z : Module). z .table) g) (ap (λ (z : Module). z .t) g)
 
             pub call-restarted : restarts d ≡ true → {l : List Message} → l ≡ keptTo T (x .own) channelLimit (q .messages)
-                → {y : Module} → y ≡ refilledTo (x .own) channelLimit (record { table = q .table; t = q .t; messages = l; queues = q .queues; partitions = set (q .partitions) (x .slot) p }) → After m (x .request) (x .current) y b
+                → {y : Module} → y ≡ refilledTo (x .own) channelLimit (record { table = q .table; t = q .t; messages = l; queues = q .queues; partitions = set (q .partitions) (x .slot) p }) → After m (x .request) (x .current) (x .time) y b
             call-restarted n {l} kept {y} g =
                 let w = called-same in
                 let u : Module = record { table = q .table; t = q .t; messages = l; queues = q .queues; partitions = set (q .partitions) (x .slot) p } in
@@ -452,7 +464,7 @@ module _ {m : Module} {e : Event} {T : Table} {x : Plan} (f : Planned m e T x) w
       (λ z. let w : x .shown ≡ partitionLimit = shown-is ∙ rw z in absurd (omega arith))
 
   -- y is the record after the event, and n the running process of the current partition, where it has one
-  module _ {y : Module} {b : Reply} (done : After m (x .request) (x .current) y b) where
+  module _ {y : Module} {b : Reply} (done : After m (x .request) (x .current) (x .time) y b) where
     none-past : partitionLimit ≤ x .spot → runningIn (x .current) y ≡ 0
     unfolding running
     none-past h = by-test (λ (n : ℕ). n ≡ 0) (eqb (x .current) 0) (λ _. refl)
@@ -480,7 +492,7 @@ module _ {m : Module} {e : Event} {T : Table} {x : Plan} (f : Planned m e T x) w
     -- the answer is read off the record after the event
     pub event-answered : {n : ℕ} → n ≡ cond (sees (x .request) (x .current)) (runningIn (x .current) y) 0 → {a : Answer} → a ≡ answerOf b (y .t) (x .current) n → record { executive = record { inner = y }; answer = a } ≡ turned (step m e)
     unfolding step
-    event-answered {n} shows {a} says = answered-is m (x .request) (x .current) y b done n a shows says ∙ ap (λ (v : Request). turned (stepped m v (decision m v))) request-is
+    event-answered {n} shows {a} says = answered-is m (x .request) (x .current) (x .time) y b done n a shows says ∙ ap (λ (v : Request). turned (stepped m v (decision m v))) request-is
 
 -- ---------------------------------------------------------------- the waiting time
 -- the two numbers are passed on by their bits

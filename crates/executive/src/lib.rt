@@ -3,22 +3,26 @@ ghost use mathlib.Core.Path.{_≡_};
 ghost use Prim.Native.Nat.{_+_, _≤_};
 ghost use lib.ListN.{length};
 ghost use lib.Seq.{sets};
+ghost use Rattle.machine.specs.Fields.{numberOf};
 ghost use Rattle.machine.specs.Step.{sees, step};
 ghost use Rattle.machine.specs.Replay.{timeNumber, answerNumbers, unread};
 ghost use Rattle.machine.specs.Table.{readTable};
 ghost use Rattle.machine.specs.Windows.{waitingOf};
+ghost use Rattle.machine.specs.declared.Table.{Table as TableT};
 ghost use Rattle.executive.specs.Executive.{turned, opened, noAnswer, answerOf};
-ghost use Rattle.executive.specs.Lists.{six, eventAt, placeCode, tickCount, slotOf, callSlot, takesStartRule, releaseFor, shownSlot, planOf, afterList, answeredList, lastAnswer, eventsIn};
+ghost use Rattle.executive.specs.Lists.{six, eventAt, placeCode, tickCount, slotOf, callSlot, takesStartRule, releaseFor, shownSlot, planned, afterList, answeredList, lastAnswer, eventsIn};
 use channels::Messages;
 use machine::Answer;
 use machine::Context;
 use machine::Event;
+use machine::Lookup;
 use machine::Module;
 use machine::Reply;
 use machine::Request;
 use machine::Table;
 use machine::Time;
 use machine::Waiting;
+use places::Placed;
 
 pub struct Executive {
     inner: Module,
@@ -77,8 +81,9 @@ fn call_code(n: u8, k: u32, current: u8) -> u8
     }
 }
 
-fn tick_count(table: Table, code: u8, k: u32) -> usize
-    ensures { λ n. ⌜ n ≡ tickCount table code k ⌝ }
+// Of a table of this size.
+fn tick_count(size: u8, code: u8, k: u32) -> usize
+    ensures { λ n. ⌜ ((T : TableT) → T .size ≡ size → n ≡ tickCount T code k) ⌝ }
 {
     if code != 0 {
         return 0;
@@ -86,7 +91,7 @@ fn tick_count(table: Table, code: u8, k: u32) -> usize
     if k != 0 {
         return 0;
     }
-    ticks::count(table)
+    ticks::count(size)
 }
 
 // Where partition k lies, past the last for none.
@@ -148,17 +153,15 @@ fn shown_slot(r: Request, k: u8) -> usize
     Module::PARTITIONS
 }
 
-fn plan_of(table: Table, t: u32, event: Event) -> Plan
-    ensures { λ x. ⌜ x ≡ planOf table t event ⌝ }
+// Of a request so placed, over a table of this size, with the window at the time after it.
+fn plan_of(size: u8, request: Request, first: Placed, window: Lookup) -> Plan
+    ensures { λ x. ⌜ ((T : TableT) → T .size ≡ size → x ≡ planned T request (numberOf (request .partition)) first window) ⌝ }
 {
-    let request = fields::request_of(event);
     let partition = request.partition;
     let own = fields::number_of(partition);
     let call = request.call;
     let a = request.a;
-    let first = places::place_event(table, t, request);
-    let now = windows::lookup_at(table, first.time);
-    let code = call_code(first.code, own, now.partition);
+    let code = call_code(first.code, own, window.partition);
     Plan {
         request,
         own,
@@ -166,12 +169,12 @@ fn plan_of(table: Table, t: u32, event: Event) -> Plan
         place: channels::place_of(a) as usize,
         code,
         time: first.time,
-        current: now.partition,
-        left: now.left,
-        ticks: tick_count(table, code, own),
-        spot: slot_of(now.partition as u32),
+        current: window.partition,
+        left: window.left,
+        ticks: tick_count(size, code, own),
+        spot: slot_of(window.partition as u32),
         slot: call_slot(code, own),
-        shown: shown_slot(request, now.partition),
+        shown: shown_slot(request, window.partition),
     }
 }
 
@@ -266,10 +269,16 @@ impl Executive {
         let mut runs = [UNKNOWN; Module::PARTITIONS];
         let mut last = no_answer();
         let n = list.len() / SIX;
+        let mut window = windows::lookup_at(table, m.t);
         let mut i: usize = 0;
         while i < n {
             let at = i * SIX;
-            let x = plan_of(table, m.t, event_at(list, at));
+            let asked = fields::request_of(event_at(list, at));
+            let first = places::place_event(table.size, m.t, asked);
+            if first.time != m.t {
+                window = windows::lookup_at(table, first.time);
+            }
+            let x = plan_of(table.size, asked, first, window);
             m.t = x.time;
             let mut j: usize = 0;
             while j < x.ticks {
@@ -290,13 +299,15 @@ impl Executive {
             }
             let place = x.place;
             let mut held = decisions::no_message();
+            let mut channel = channels::no_channel();
             if place < Module::CHANNELS {
                 held = m.messages[place];
+                channel = table.channels[place];
             }
-            let seen = queuing::seen_slot(table, x.own, place);
+            let seen = queuing::seen_slot(table.channelCount, channel, x.own, place);
             let mut traffic = queuing::no_traffic();
             if seen < Module::PARTITIONS {
-                let object = queuing::other_object(table, x.own, place);
+                let object = queuing::other_object(channel, x.own, place);
                 let q = m.queues[place];
                 let p = m.partitions[seen];
                 traffic = queuing::traffic_of(q, object, p);
@@ -314,7 +325,7 @@ impl Executive {
                     release: release_for(table, m.t, x.own, x.call),
                     caller: runs[slot],
                 };
-                let port = channels::port_at(table, x.own, a, held, traffic);
+                let port = channels::port_at(table.channelCount, channel, x.own, a, held, traffic);
                 let d = services::call(was, context, port, x.call, request);
                 reply = decisions::reply_of(d);
                 let put = decisions::message_at(d);

@@ -3,13 +3,13 @@ ghost use mathlib.Core.Path.{_≡_};
 ghost use mathlib.Core.Bool.{not, _&&_};
 ghost use lib.Dec.{ltb};
 ghost use Rattle.machine.specs.Fields.{isNumber};
+ghost use Rattle.machine.specs.declared.Table.{Table};
 ghost use Rattle.machine.specs.Services.{serviceOf};
 ghost use Rattle.machine.specs.Places.{strayField, oneZero, malformed};
 ghost use Rattle.places.specs.Placed.{placedAt};
 use machine::Field;
 use machine::Module;
 use machine::Request;
-use machine::Table;
 
 // An event before its partition is looked at: 13, 10 or 0, and the time after it.
 pub struct Placed {
@@ -109,17 +109,17 @@ fn has_one_zero(r: Request) -> bool
     }
 }
 
-// 13.
-fn is_malformed(table: Table, r: Request) -> bool
-    ensures { λ b. ⌜ b ≡ malformed table r ⌝ }
+// 13, over a table of this many partitions.
+fn is_malformed(size: u8, r: Request) -> bool
+    ensures { λ b. ⌜ ((T : Table) → T .size ≡ size → b ≡ malformed T r) ⌝ }
 {
     let partition = r.partition;
     let call = r.call;
-    let size = table.size as u32;
-    if size == 0 {
+    let limit = size as u32;
+    if limit == 0 {
         return true;
     }
-    if !fields::is_between(partition, 0, size) {
+    if !fields::is_between(partition, 0, limit) {
         return true;
     }
     if !fields::is_between(call, 0, Module::CALL) {
@@ -131,11 +131,11 @@ fn is_malformed(table: Table, r: Request) -> bool
     has_stray(fields_of(fields::number_of(call)), r)
 }
 
-// 13, and for a tick 10; a tick that is taken lets t rise by one.
-pub fn place_event(table: Table, t: u32, r: Request) -> Placed
-    ensures { λ x. ⌜ x ≡ placedAt table t r ⌝ }
+// 13, and for a tick 10, over a table of this many partitions, which is all that is seen of it; a tick that is taken lets t rise by one.
+pub fn place_event(size: u8, t: u32, r: Request) -> Placed
+    ensures { λ x. ⌜ ((T : Table) → T .size ≡ size → x ≡ placedAt T t r) ⌝ }
 {
-    if is_malformed(table, r) {
+    if is_malformed(size, r) {
         return Placed { code: 13, time: t };
     }
     let partition = r.partition;

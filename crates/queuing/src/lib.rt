@@ -9,6 +9,7 @@ ghost use Rattle.machine.specs.Messages.{endsWait};
 ghost use Rattle.machine.specs.Decisions.{codeOf, waitChecks};
 ghost use Rattle.machine.specs.Module.{channel};
 ghost use Rattle.machine.specs.Channels.{queuingAt, seesTraffic, otherEnd, otherQueue, noTraffic, trafficOf, queuingPort, send, receive, leadsInto, refilledAt, refilledTo};
+ghost use Rattle.machine.specs.declared.Table.{Table as TableT};
 ghost use Rattle.queuing.specs.Ports.{numberAt};
 use machine::Channel;
 use machine::Context;
@@ -34,12 +35,15 @@ fn is_queuing_at(table: Table, i: usize) -> bool
     channels::is_queuing(channels::channel_at(table, i))
 }
 
-// Whether partition k sees the traffic of the channel at this place.
-fn sees_traffic(table: Table, k: u32, place: usize) -> bool
-    ensures { λ b. ⌜ b ≡ seesTraffic table k place ⌝ }
+// Whether partition k sees the traffic of the channel at this place, which is this one of so many.
+fn sees_traffic(count: u8, c: Channel, k: u32, place: usize) -> bool
+    ensures { λ b. ⌜ ((T : TableT) → T .channelCount ≡ count → c ≡ channel T place → b ≡ seesTraffic T k place) ⌝ }
 {
-    if is_queuing_at(table, place) {
-        return !channels::is_apart(channels::channel_at(table, place), k);
+    if count as usize <= place {
+        return false;
+    }
+    if channels::is_queuing(c) {
+        return !channels::is_apart(c, k);
     }
     false
 }
@@ -53,26 +57,34 @@ fn other_end(c: Channel, k: u32) -> u8
     c.source
 }
 
-// Where the partition at the other end of the channel at this place lies.
-fn other_slot(table: Table, k: u32, place: usize) -> usize
-    ensures { λ r. ⌜ r ≡ otherEnd k (channel table place) - 1 ⌝ }
+// Where the partition at the other end of a channel lies.
+fn end_slot(c: Channel, k: u32) -> usize
+    ensures { λ r. ⌜ r ≡ otherEnd k c - 1 ⌝ }
 {
-    let n = other_end(channels::channel_at(table, place), k);
+    let n = other_end(c, k);
     if n == 0 {
         return 0;
     }
     (n - 1) as usize
 }
 
-// Where the partition at the other end lies, if partition k sees the traffic of the channel at this place; past the last if not.
-pub fn seen_slot(table: Table, k: u32, place: usize) -> usize
-    ensures { λ r. ⌜ r ≡ cond (seesTraffic table k place) (otherEnd k (channel table place) - 1) partitionLimit ⌝ }
+// Where the partition at the other end of the channel at this place lies.
+fn other_slot(table: Table, k: u32, place: usize) -> usize
+    ensures { λ r. ⌜ r ≡ otherEnd k (channel table place) - 1 ⌝ }
+{
+    end_slot(channels::channel_at(table, place), k)
+}
+
+// Where the partition at the other end lies, if partition k sees the traffic of the channel at this place, which is this one of so many;
+// past the last if not.
+pub fn seen_slot(count: u8, c: Channel, k: u32, place: usize) -> usize
+    ensures { λ r. ⌜ ((T : TableT) → T .channelCount ≡ count → c ≡ channel T place → r ≡ cond (seesTraffic T k place) (otherEnd k (channel T place) - 1) partitionLimit) ⌝ }
 {
     if k == 0 {
         return Module::PARTITIONS;
     }
-    if sees_traffic(table, k, place) {
-        return other_slot(table, k, place);
+    if sees_traffic(count, c, k, place) {
+        return end_slot(c, k);
     }
     Module::PARTITIONS
 }
@@ -97,14 +109,13 @@ fn number_at(place: usize) -> u8
     0
 }
 
-// The object that those wait for who wait there; 0 past the last channel.
-pub fn other_object(table: Table, k: u32, place: usize) -> u16
-    ensures { λ r. ⌜ r ≡ cond (ltb place channelLimit) (otherQueue k place (channel table place)) 0 ⌝ }
+// The object that those wait for who wait there, where this is the channel at the place; 0 past the last channel.
+pub fn other_object(c: Channel, k: u32, place: usize) -> u16
+    ensures { λ r. ⌜ r ≡ cond (ltb place channelLimit) (otherQueue k place c) 0 ⌝ }
 {
     if Module::CHANNELS <= place {
         return 0;
     }
-    let c = channels::channel_at(table, place);
     let n = number_at(place);
     if c.source as u32 == k {
         return process::object_of(Wait::Destination(n));

@@ -8,6 +8,7 @@ ghost use Rattle.stream.specs.Stream.{fedAll, closed};
 ghost use Rattle.io.specs.Counts.{Counts};
 ghost use Rattle.standard_io.specs.StandardIo.{gotOf, Quiet, endAfter, afterShown, byteCount, TookRead, ReadOnce, isGoing, isFailure, ReadToEnd, inputEnd, afterLast, LastTurn, AfterInput, GotFrom, ReadWhole, Wrote};
 use executive::Executive;
+use machine::Module;
 use libc::STDERR_FILENO;
 use libc::STDIN_FILENO;
 use libc::STDOUT_FILENO;
@@ -156,12 +157,21 @@ fn is_going(end: End) -> bool
     }
 }
 
+// The bytes of a block of lines: a read that gives as many cuts no line, and what it gives is run as one block.
+const CHUNK: usize = event_lines::BLOCK * Module::LINE;
+
+fn chunk_buffer() -> [u8; CHUNK]
+    ensures { λ r. ⌜ 62464 ≡ length r ⌝ }
+{
+    [0; CHUNK]
+}
+
 // Reads to the end. A proved loop has to end, and nothing says that the input does: the turns are counted down from a
 // number that no run uses up.
 fn read_all(prints: bool) -> Turn
     ensures { λ r. ⌜ ReadToEnd prints r ⌝ }
 {
-    let mut input = io::large_buffer();
+    let mut input = chunk_buffer();
     let mut out = io::large_buffer();
     let mut t = Turn {
         stream: Stream::begin(),

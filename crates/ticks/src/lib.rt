@@ -3,14 +3,14 @@ ghost use mathlib.Core.Path.{_≡_};
 ghost use Prim.Native.Nat.{_≤_};
 ghost use Rattle.machine.specs.Limits.{partitionLimit};
 ghost use Rattle.machine.specs.Ticks.{partitionCount};
+ghost use Rattle.machine.specs.declared.Table.{Table};
 use machine::Module;
-use machine::Table;
 
-// How many partitions a table has, the array's length at most.
-pub fn count(table: Table) -> usize
-    ensures { λ n. ⌜ (n ≡ partitionCount table) × (n ≤ partitionLimit) ⌝ }
+// How many partitions a table of this size has, the array's length at most.
+pub fn count(size: u8) -> usize
+    ensures { λ n. ⌜ ((T : Table) → T .size ≡ size → n ≡ partitionCount T) × (n ≤ partitionLimit) ⌝ }
 {
-    let n = table.size as usize;
+    let n = size as usize;
     if n <= Module::PARTITIONS {
         n
     } else {

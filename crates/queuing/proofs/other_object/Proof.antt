@@ -8,17 +8,16 @@ returns : tie.Need-returns
 returns c = rw (le-ltb _ _ (c .if1 .taken))
 
 returns-2 : tie.Need-returns-2
-returns-2 c = rw (lt-ltb _ _ (c .before .before .before .before .before .if1 .left), ← c .before .before .before .before .channel-at .ensures, eq-eqb _ _ (c .before .if2 .taken), ← numbered _ _ (c .before .before .before .number-at .ensures) (c .before .before .before .before .before .if1 .left)) (c .object-of .ensures)
+returns-2 c = rw (lt-ltb _ _ (c .before .before .before .before .if1 .left), eq-eqb _ _ (c .before .if2 .taken), ← numbered _ _ (c .before .before .before .number-at .ensures) (c .before .before .before .before .if1 .left)) (c .object-of .ensures)
 
 returns-3 : tie.Need-returns-3
-returns-3 c = rw (lt-ltb _ _ (c .before .before .before .before .before .if1 .left), ← c .before .before .before .before .channel-at .ensures, ne-eqb _ _ (c .before .if2 .left), ← numbered _ _ (c .before .before .before .number-at .ensures) (c .before .before .before .before .before .if1 .left)) (c .object-of2 .ensures)
+returns-3 c = rw (lt-ltb _ _ (c .before .before .before .before .if1 .left), ne-eqb _ _ (c .before .if2 .left), ← numbered _ _ (c .before .before .before .number-at .ensures) (c .before .before .before .before .if1 .left)) (c .object-of2 .ensures)
 
 pub other-object-spec : {M : Type 1} → statement M
 other-object-spec =
     tie.close
     (tie.spec
     returns
-    (λ _ _. tt)
     (λ _ _. tt)
     (λ c. search needs)
     (λ _ _. tt)

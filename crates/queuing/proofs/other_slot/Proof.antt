@@ -1,22 +1,8 @@
-use native.Mathlib.Omega.{arith}
-use mathlib.Core.Path.{_≡_}
-use borrow.Author.Needs.{needs}
 use Rattle.queuing.proofs.other_slot.Statement.{statement}
 use Rattle.queuing.proofs.other_slot.Tie as tie
 
 returns : tie.Need-returns
-returns c = rw (← c .before .before .channel-at .ensures, ← c .before .other-end .ensures) (omega arith)
-
-returns-2 : tie.Need-returns-2
-returns-2 c = rw (← c .before .before .channel-at .ensures, ← c .before .other-end .ensures)
+returns c = rw (← c .before .channel-at .ensures) (c .end-slot .ensures)
 
 pub other-slot-spec : {M : Type 1} → statement M
-other-slot-spec =
-    tie.close
-    (tie.spec
-    (λ _ _. tt)
-    (λ _ _. tt)
-    returns
-    (λ c. search needs)
-    (λ c. search needs)
-    returns-2)
+other-slot-spec = tie.close (tie.spec (λ _ _. tt) (λ _ _. tt) returns)

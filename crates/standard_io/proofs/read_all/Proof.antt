@@ -16,13 +16,13 @@ loop-holds : tie.Need-loop-holds Inv-loop μ-loop
 loop-holds c = reading-begins _ _ _ _ _ (c .begin .ensures)
 
 slice-aggregate-read-once : tie.Need-slice-aggregate-read-once Inv-loop μ-loop
-slice-aggregate-read-once c = c .before .before .before .before .before .before .large-buffer .ensures ∙ sym (c .before .before .before .loop .inv .size-in)
+slice-aggregate-read-once c = c .before .before .before .before .before .before .chunk-buffer .ensures ∙ sym (c .before .before .before .loop .inv .size-in)
 
 slice-aggregate-read-once-2 : tie.Need-slice-aggregate-read-once-2 Inv-loop μ-loop
-slice-aggregate-read-once-2 c = c .before .before .before .before .before .before .large-buffer2 .ensures ∙ sym (c .before .before .before .before .loop .inv .size-out)
+slice-aggregate-read-once-2 c = c .before .before .before .before .before .before .large-buffer .ensures ∙ sym (c .before .before .before .before .loop .inv .size-out)
 
 read-once-requires : tie.Need-read-once-requires Inv-loop μ-loop
-read-once-requires c κs = omega (arith, c .before .before .before .before .before .before .large-buffer2 .ensures, c .before .before .before .before .loop .inv .size-out)
+read-once-requires c κs = omega (arith, c .before .before .before .before .before .before .large-buffer .ensures, c .before .before .before .before .loop .inv .size-out)
 
 sub-turns : tie.Need-sub-turns Inv-loop μ-loop
 sub-turns c = omega (arith, c .before .before .before .before .before .before .before .before .loop-test .taken)

@@ -19,11 +19,11 @@ use Rattle.machine.specs.Messages.{noQueue, moved, endsWait}
 use Rattle.machine.specs.Fields.{requestOf, numberOf}
 use Rattle.machine.specs.Limits.{partitionLimit, channelLimit}
 use Rattle.machine.specs.Module.{noPartition, channel, part, message, queue, current, ticksLeft, runningIn, withPart, withMessage, withQueue, withTime}
-use Rattle.machine.specs.Partition.{within, running, noted, endedBy, partitionAfter}
+use Rattle.machine.specs.Partition.{within, running, endedBy, partitionAfter}
 use Rattle.machine.specs.Places.{noCaller, ticks, eventChecks, firstChecks}
 use Rattle.machine.specs.Services.{called}
 use Rattle.machine.specs.Step.{contextOf, decision, moduleAfter, sees, answerTo, stepped, step}
-use Rattle.machine.specs.Ticks.{dueAt, tickAt, tickTo, partitionCount, tickModule}
+use Rattle.machine.specs.Ticks.{tickAt, tickTo, partitionCount, tickModule}
 use Rattle.machine.specs.Windows.{lookup, releasePoint, waitingOf}
 use Rattle.machine.specs.declared.Answer.{Answer}
 use Rattle.machine.specs.declared.Decision.{Decision}
@@ -158,7 +158,7 @@ kept-long T k (suc n) l = by-test (λ (v : List Message). length v ≡ length l)
 tick-keeps : (P : Module → Type 0) → ((i : ℕ) (p : Partition) (q : Module) → P q → P (withPart i p q)) → (n : ℕ) (m : Module) → P m → P (tickTo n m)
 unfolding tickTo tickAt
 tick-keeps P f zero m h = h
-tick-keeps P f (suc n) m h = by-test P (dueAt n (tickTo n m)) (λ _. f n _ (tickTo n m) (tick-keeps P f n m h)) (λ _. tick-keeps P f n m h)
+tick-keeps P f (suc n) m h = f n _ (tickTo n m) (tick-keeps P f n m h)
 
 -- the record has a place for the message and for the queue of each channel
 abbrev pub Held : Module → Type 0
@@ -366,7 +366,7 @@ module _ {m : Module} {e : Event} {T : Table} {x : Plan} (f : Planned m e T x) w
             record {
               state = rw (request-is, d) w;
               reply = rw (request-is, d) (h ∙ ap coded z);
-              long = rw w (tick-keeps (λ (v : Module). length (v .partitions) ≡ partitionLimit) (λ i p v l. length-set (v .partitions) i (noted p) ∙ l) (partitionCount (m .table)) (withTime (m .t + 1) m) (f .long));
+              long = rw w (tick-keeps (λ (v : Module). length (v .partitions) ≡ partitionLimit) (λ i p v l. length-set (v .partitions) i p ∙ l) (partitionCount (m .table)) (withTime (m .t + 1) m) (f .long));
               held = rw w (tick-keeps Held (λ i p v l. l) (partitionCount (m .table)) (withTime (m .t + 1) m) (f .held));
               window = rw (current-is, w) (ap (λ (t : ℕ). lookup (m .table) t .partition) t ∙ tick-keeps (λ (v : Module). lookup (m .table) (m .t + 1) .partition ≡ current v) (λ i p v l. l) (partitionCount (m .table)) (withTime (m .t + 1) m) refl);
               clock = ap (λ (z : Module). z .t) w ∙ tick-keeps (λ (v : Module). v .t ≡ m .t + 1) (λ i p v l. l) (partitionCount (m .table)) (withTime (m .t + 1) m) refl ∙ sym (time-is ∙ t);
@@ -420,7 +420,7 @@ module _ {m : Module} {e : Event} {T : Table} {x : Plan} (f : Planned m e T x) w
             moves : l ≡ moved a (queue q (transferAt d))
             moves = moved-is ∙ ap (moved a) (getD-any (q .queues) (transferAt d) pastQueue noQueue (let w = called-same in let z : length (q .queues) ≡ channelLimit = rw w (f .held .1) in omega arith))
 
-            pub call-passed : end < partitionLimit → {p : Partition} → p ≡ noted (endedBy a (part q end))
+            pub call-passed : end < partitionLimit → {p : Partition} → p ≡ endedBy a (part q end)
                 → {y : Module} → y ≡ record { table = q .table; t = q .t; messages = q .messages; queues = set (q .queues) (transferAt d) l; partitions = set (q .partitions) end p } → After m (x .request) (x .current) (x .time) y b
             call-passed inside {p} e {y} g =
                 let w = called-same in
@@ -440,7 +440,7 @@ module _ {m : Module} {e : Event} {T : Table} {x : Plan} (f : Planned m e T x) w
                 (λ _. refl)) in
                 stores (g ∙ rw (moves, w) (sym (after-passed m k d h ∙ done))) (rw (g, w) (f .long)) (rw (g, w) (f .held .0, length-set (m .queues) (transferAt d) l ∙ f .held .1)) (ap (λ (z : Module). z .table) g) (ap (λ (z : Module). z .t) g)
 
-          module _ {p : Partition} (after : p ≡ noted (partitionAfter d (part q (x .slot)))) where
+          module _ {p : Partition} (after : p ≡ partitionAfter d (part q (x .slot))) where
             pub call-changed : changes d ≡ true → restarts d ≡ false → {y : Module} → y ≡ record { table = q .table; t = q .t; messages = q .messages; queues = q .queues; partitions = set (q .partitions) (x .slot) p } → After m (x .request) (x .current) (x .time) y b
             call-changed c n {y} g =
                 let w = called-same in

@@ -1,4 +1,4 @@
--- The running processes looked up so far, and a list of events done in place. Assumes nothing.
+-- The running processes looked up so far, when something of a partition is due, and a list of events done in place. Assumes nothing.
 use Prim.Native.Nat.{ℕ, zero, suc, _+_, _-_, _*_, _/_, _≤_, _<_}
 use mathlib.Core.List.{List, [], _∷_, _++_, append-assoc, append-nil}
 use mathlib.Core.Path.{_≡_, refl, sym, ap, _∙_}
@@ -13,7 +13,7 @@ use borrow.Author.Tests.{eqb-true, eqb-false}
 use Rattle.machine.specs.Runs.{next, after, answers}
 use Rattle.machine.specs.Limits.{partitionLimit}
 use Rattle.machine.specs.Module.{noPartition, part}
-use Rattle.machine.specs.Partition.{running}
+use Rattle.machine.specs.Partition.{running, tickPartition}
 use Rattle.machine.specs.Replay.{answerNumbers}
 use Rattle.machine.specs.Step.{step}
 use Rattle.machine.specs.declared.Answer.{Answer}
@@ -22,8 +22,10 @@ use Rattle.machine.specs.declared.Module.{Module}
 use Rattle.machine.specs.declared.Partition.{Partition}
 use Rattle.machine.proofs.Answers.{step-table}
 use Rattle.machine.proofs.Either.{either}
+use Rattle.partition.specs.Soonest.{soonestOf}
+use Rattle.partition.proofs.Soonest.{tick-same}
 use Rattle.executive.specs.Executive.{turned, noAnswer}
-use Rattle.executive.specs.Lists.{notLooked, Follows, six, eventAt, firstEvents, eventNumbers, numbersIn, eventsIn, afterList, answeredList, lastAnswer}
+use Rattle.executive.specs.Lists.{notLooked, Follows, Early, six, eventAt, firstEvents, eventNumbers, numbersIn, eventsIn, afterList, answeredList, lastAnswer}
 use Rattle.executive.specs.declared.Turn.{Turn}
 use Rattle.executive.proofs.Laws.{Held}
 
@@ -84,6 +86,28 @@ known-put {m} {l} f long {i} {j} known h p {n} r {y} {k} g s = record {
 
 pub known-same : {m : Module} {l : List ℕ} {i : ℕ} → Known m l i → {y : Module} {k : List ℕ} → y .partitions ≡ m .partitions → k ≡ l → Known y k i
 known-same f g s = record { is = λ b. rw (s, g) (f .is b) }
+
+-- ---------------------------------------------------------------- when something of a partition is due
+-- 0 is such a number of every partition
+pub begins-early : (m : Module) → Early m (replicate partitionLimit 0)
+begins-early m = record { long = refl; each = λ i h. rw (getD-replicate {A = ℕ} partitionLimit i 0 0 h) (omega arith) }
+
+module _ {m : Module} {l : List ℕ} (f : Early m l) where
+  pub early-same : {y : Module} {k : List ℕ} → y .partitions ≡ m .partitions → k ≡ l → Early y k
+  early-same g h = rw h (record { long = f .long; each = λ j k. rw g (f .each j k) })
+
+  -- partition i is stored, and with it a number of it
+  pub early-set : length (m .partitions) ≡ partitionLimit → {i : ℕ} → i < partitionLimit → (p : Partition) {n : ℕ} → n ≤ soonestOf p → {y : Module} {k : List ℕ} → y .partitions ≡ set (m .partitions) i p → k ≡ set l i n → Early y k
+  early-set long {i} h p {n} e {y} {k} g s = rw s (record {
+    long = length-set l i n ∙ f .long;
+    each = λ j b. either (eqb j i)
+        (λ z. rw (eqb-true j i z, g, getD-set-same l i n 0 (rw (f .long) h), getD-set-same (m .partitions) i p noPartition (rw long h)) e)
+        (λ z. rw (g, getD-set-other l i j n 0 (eqb-false j i z), getD-set-other (m .partitions) i j p noPartition (eqb-false j i z)) (f .each j b));
+  })
+
+  -- before it a tick leaves the partition as it is
+  pub early-tick : {i t : ℕ} → i < partitionLimit → t < getD l i 0 → tickPartition t (part m i) ≡ part m i
+  early-tick {i} {t} h b = tick-same t (getD l i 0) (part m i) b (f .each i h)
 
 -- ---------------------------------------------------------------- six numbers of a list
 pub stored-six : (l : List ℤ) (i : ℕ) (a b c d e f : ℤ)

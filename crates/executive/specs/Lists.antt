@@ -1,5 +1,5 @@
 -- What an event does before its partition is looked at, and the lent list of numbers: six of an event, which the six of its answer replace.
-use Prim.Native.Nat.{ℕ, zero, suc, _-_, _+_, _*_, _/_, _<_}
+use Prim.Native.Nat.{ℕ, zero, suc, _-_, _+_, _*_, _/_, _≤_, _<_}
 use mathlib.Core.Bool.{Bool, cond, not, _&&_, _||_}
 use mathlib.Core.List.{List, [], _∷_, _++_}
 use mathlib.Core.Path.{_≡_}
@@ -23,6 +23,7 @@ use Rattle.machine.specs.declared.Lookup.{Lookup}
 use Rattle.machine.specs.declared.Module.{Module}
 use Rattle.machine.specs.declared.Request.{Request}
 use Rattle.machine.specs.declared.Table.{Table}
+use Rattle.partition.specs.Soonest.{soonestOf}
 use Rattle.places.specs.Placed.{placedAt}
 use Rattle.places.specs.declared.Placed.{Placed}
 use Rattle.executive.specs.declared.Plan.{Plan}
@@ -84,6 +85,12 @@ notLooked = 255
 pub record Follows (m : Module) (l : List ℕ) : Type 0 where
   pub long : length l ≡ partitionLimit
   pub each : (i : ℕ) → i < partitionLimit → (getD l i 0 ≡ notLooked → ⊥) → getD l i 0 ≡ running (part m i)
+
+-- ---------------------------------------------------------------- when something of a partition is due
+-- l has for each partition a number that no wake time or deadline of it comes before
+pub record Early (m : Module) (l : List ℕ) : Type 0 where
+  pub long : length l ≡ partitionLimit
+  pub each : (i : ℕ) → i < partitionLimit → getD l i 0 ≤ soonestOf (part m i)
 
 -- ---------------------------------------------------------------- the lent list
 -- the numbers of an event, and of an answer

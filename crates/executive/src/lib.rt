@@ -267,6 +267,8 @@ impl Executive {
         let mut m = self.inner;
         let table = m.table;
         let mut runs = [UNKNOWN; Module::PARTITIONS];
+        // No wake time or deadline of a partition comes before its number.
+        let mut soon = [0u32; Module::PARTITIONS];
         let mut last = no_answer();
         let n = list.len() / SIX;
         let mut window = windows::lookup_at(table, m.t);
@@ -282,10 +284,11 @@ impl Executive {
             m.t = x.time;
             let mut j: usize = 0;
             while j < x.ticks {
-                if m.partitions[j].soonest <= m.t {
+                if soon[j] <= m.t {
                     let p = m.partitions[j];
                     let q = partition::ticked(p, m.t);
                     m.partitions[j] = q;
+                    soon[j] = partition::soonest_of(q);
                     runs[j] = UNKNOWN;
                 }
                 j += 1;
@@ -333,6 +336,7 @@ impl Executive {
                 if decisions::does_change(d) {
                     let q = partition::after(was, d);
                     m.partitions[slot] = q;
+                    soon[slot] = 0;
                     runs[slot] = partition::running_process(q);
                     if decisions::is_restart(d) {
                         let items = m.messages;
@@ -341,6 +345,7 @@ impl Executive {
                         m.messages = kept;
                         m = queuing::refill(m, x.own);
                         let own = m.partitions[slot];
+                        soon = [0; Module::PARTITIONS];
                         runs = [UNKNOWN; Module::PARTITIONS];
                         runs[slot] = partition::running_process(own);
                     }
@@ -356,6 +361,7 @@ impl Executive {
                         let p = m.partitions[end];
                         let q = partition::after_transfer(p, a);
                         m.partitions[end] = q;
+                        soon[end] = 0;
                         runs[end] = partition::running_process(q);
                     }
                 }

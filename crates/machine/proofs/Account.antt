@@ -38,18 +38,18 @@ use Rattle.machine.specs.Limits.{callLimit, durationLimit, bufferLimit}
 use Rattle.machine.specs.Fields.{field, requestOf, isNumber, between, isMessage, numberOf, timeOf}
 use Rattle.machine.specs.Messages.{held, first, sent, received, moved}
 use Rattle.machine.specs.Process.{classOf, carriedIn, carried, object, served, handed, waitingFor, later}
-use Rattle.machine.specs.Partition.{noBuffer, process, buffer, emptyBuffer, storedBuffer, movedIn, normalMode, running, waiters, stored, applied, tickPartition, noted}
+use Rattle.machine.specs.Partition.{noBuffer, process, buffer, emptyBuffer, storedBuffer, movedIn, normalMode, running, waiters, stored, applied, tickPartition}
 use Rattle.machine.specs.Runs.{next, after}
 use Rattle.machine.specs.Theorems.LeftRight.{isTick, isZero}
 use Rattle.machine.specs.Decisions.{replyOf, changed, blocked, queued, awaiting}
 use Rattle.machine.specs.Buffers.{createBuffer, hasRoom, holds, sendBuffer, receiveBuffer}
 use Rattle.machine.specs.Buffers as Bu
-use Rattle.machine.specs.Module.{noPartition, emptyModule, channel, part, withPart, withMessage, withTime}
+use Rattle.machine.specs.Module.{noPartition, emptyModule, channel, part, withPart, withMessage}
 use Rattle.machine.specs.Ticks.{tickModule}
 use Rattle.machine.specs.Places.{malformed, oneZero, ticks}
 use Rattle.machine.specs.Step.{contextOf, decision, moduleAfter, step}
 use Rattle.machine.specs.Theorems.Events.{own, callBy}
-use Rattle.machine.specs.Theorems.Valid.{Between, SoundMove, ListedIn, Valid, SoundContext, SoundDecision, SoundModule, Reached, plainTick}
+use Rattle.machine.specs.Theorems.Valid.{Between, SoundMove, ListedIn, Valid, SoundContext, SoundDecision, SoundModule, Reached}
 use Rattle.machine.specs.Theorems.Plain.{plainNumber, plainBetween, plainMoved}
 use Rattle.machine.specs.Theorems.Queues.{queueNumber, NoneWaits}
 use Rattle.machine.specs.Theorems.Account.{isCall, codeAt, restartsBy, erases, erased, messageIn, Flow, bufferFlow, isSend, isReceive, sending, givesUp, Balances}
@@ -65,7 +65,7 @@ use Rattle.machine.proofs.Flows as Fl
 use Rattle.machine.proofs.Passing.{joined-same, joined-still, joined-queue, gone-queue, gone-first, gone-same, gone-still, handed-one}
 use Rattle.machine.proofs.Fairness.{part-none, unknown-unwaited}
 use Rattle.machine.proofs.Available.{none-waits}
-use Rattle.machine.proofs.Orders.{Part, part-whole, part-waits, part-trans, queue-of, same-queue, tick-part, change-part, stored-part, buffer-queue, joins-last, Orderly}
+use Rattle.machine.proofs.Orders.{Part, part-whole, part-waits, part-trans, queue-of, tick-part, change-part, stored-part, buffer-queue, joins-last, Orderly}
 use Rattle.machine.proofs.Queues.{first-created}
 use Rattle.machine.proofs.EveryCall.{call-order}
 use Rattle.machine.proofs.Dispatch.{placeCode, Calls, by-event}
@@ -76,7 +76,7 @@ use Rattle.machine.proofs.Refusals.{call-in-range}
 use Rattle.machine.proofs.Plain.{lossless, empty-refused}
 use Rattle.machine.proofs.Answers.{decided-table}
 use Rattle.machine.proofs.Calling.{field-number, number-is, number-of}
-use Rattle.machine.proofs.Reached.{on-queue, plain-part, tick-module-plain, place, context-sound, made, made-sound, made-body, reached-valid, valid-sound}
+use Rattle.machine.proofs.Reached.{on-queue, tick-each, place, context-sound, made, made-sound, made-body, reached-valid, valid-sound}
 use Rattle.machine.proofs.Calmness.{Leaves, leaves-same, OfSenders, Stays, stays-same, tick-stays, changed-stays, blocked-stays, Calm, on-queue as waits-there}
 use Rattle.machine.proofs.Senders.{passed-leaves, restart-leaves}
 use Rattle.machine.proofs.EveryCall.{call-calm}
@@ -214,20 +214,17 @@ module _ (k j : ℕ) (m : Module) (s : SoundModule m) (e : EventT) (es : List Ev
 
   -- a tick
   tick-even : isTick e ≡ true → Even k j m e es (tickModule m) 0 0
-  unfolding plainTick
   tick-even t =
       let p = own m k in
       let q = tickPartition (m .t + 1) p in
-      let long : m .table .size ≤ length (m .partitions) = omega (arith, s .partitionsSize, s .table .size .1) in
-      let is : own (tickModule m) k ≡ noted q = rw (tick-module-plain m (inr s)) (plain-part (m .table .size) (withTime (m .t + 1) m) long (k - 1) inside) in
-      let st = tick-stays 3 j of-buffers low (m .t + 1) p (valid .lists) in
+      let is : own (tickModule m) k ≡ q = tick-each m s (k - 1) inside in
       let v = tick-valid (m .table .frame) (m .t) p valid .lists in
       let zero : e .partition ≡ pos 0 = is-zero (e .partition) (and-left (isZero (e .partition)) _ t) in
       let other : eqb 0 k ≡ false = ne-eqb 0 k (λ z. omega arith) in
       let no-send : isSend (bufferFlow k j) e ≡ false = rw (zero, other) in
       let no-receive : isReceive (bufferFlow k j) e ≡ false = rw (zero, other) in
-      stays-quiet k j m e es low (tickModule m) 5 (rw is (record { same = st .same; count = st .count; waits = st .waits })) (rw is v)
-      (rw (is, same-queue (queueNumber 3 j) q (noted q) refl (λ _. refl)) (tick-part (queueNumber 3 j) (λ z. omega arith) (m .t + 1) p (valid .lists)))
+      stays-quiet k j m e es low (tickModule m) 5 (rw is (tick-stays 3 j of-buffers low (m .t + 1) p (valid .lists))) (rw is v)
+      (rw is (tick-part (queueNumber 3 j) (λ z. omega arith) (m .t + 1) p (valid .lists)))
       0 0 (rw (zero, other)) (rw no-receive) (λ _. rw t) (Fl.no-sent (bufferFlow k j) m e es (tickModule m) 0 no-send) (Fl.no-received (bufferFlow k j) m e es (tickModule m) 0 0 no-send no-receive)
     where
       is-zero : (z : ℤ) → isZero z ≡ true → z ≡ pos 0
@@ -242,8 +239,8 @@ module _ (k j : ℕ) (m : Module) (s : SoundModule m) (e : EventT) (es : List Ev
     same-leaves : Leaves 3 j of-buffers low (own m k) (own m k)
     same-leaves = leaves-same 3 j of-buffers low (own m k) (valid .lists)
 
-    other-own : (p : Partition) → getD (set (m .partitions) (i - 1) (noted p)) (k - 1) noPartition ≡ own m k
-    other-own p = let f = c .some in getD-set-other (m .partitions) (i - 1) (k - 1) (noted p) noPartition (λ z. ne (omega arith))
+    other-own : (p : Partition) → getD (set (m .partitions) (i - 1) p) (k - 1) noPartition ≡ own m k
+    other-own p = let f = c .some in getD-set-other (m .partitions) (i - 1) (k - 1) p noPartition (λ z. ne (omega arith))
 
     other-leaves : (d : Decision) → SoundDecision (contextOf m i) (part m (i - 1)) d → Bodily (portOf m i (requestOf e)) (numberOf (requestOf e .call)) d → Leaves 3 j of-buffers low (own m k) (own (moduleAfter m i d) k)
     other-leaves (Refused a) h b = same-leaves
@@ -298,8 +295,8 @@ module _ (j : ℕ) (m : Module) (s : SoundModule m) (e : EventT) (es : List Even
   is-call : (x : ℕ) → isCall k x e ≡ eqb n x
   is-call x = call-of (e .partition) (e .call) k n x partition-is call-is
 
-  put : (q : Partition) → own (withPart (k - 1) q m) k ≡ noted q
-  put q = getD-set-same (m .partitions) (k - 1) (noted q) noPartition (omega (arith, here, s .partitionsSize, s .table .size .1))
+  put : (q : Partition) → own (withPart (k - 1) q m) k ≡ q
+  put q = getD-set-same (m .partitions) (k - 1) q noPartition (omega (arith, here, s .partitionsSize, s .table .size .1))
 
   module _ (known : Between 1 (p .bufferCount) j) (none : NoneWaits p) where
     few : j ≤ 16
@@ -321,8 +318,7 @@ module _ (j : ℕ) (m : Module) (s : SoundModule m) (e : EventT) (es : List Even
     stored-even : (q : Partition) (x : ℕ) → Stays 3 j of-buffers few x p q → ListedIn q → Part (waiters senders p) (waiters senders q)
         → (code value : ℕ) → restartsBy k e code ≡ false → (isReceive flow-is e && eqb code 0) ≡ false → (x ≡ 5 → givesUp flow-is e code ≡ true) → Fl.sentBy flow-is m e es (withPart (k - 1) q m) code ≡ [] → Fl.receivedBy flow-is m e es (withPart (k - 1) q m) code value ≡ [] → Even k j m e es (withPart (k - 1) q m) code value
     stored-even q x st v a =
-        stays-quiet k j m e es few (withPart (k - 1) q m) x (rw (put q) (record { same = st .same; count = st .count; waits = st .waits })) (rw (put q) v)
-        (rw (put q, same-queue senders q (noted q) refl (λ _. refl)) a)
+        stays-quiet k j m e es few (withPart (k - 1) q m) x (rw (put q) st) (rw (put q) v) (rw (put q) a)
 
     -- the caller waits, and not to send
     waits-even : (id : ℕ) (x : Process) → Caller id p → (object (x .wait) ≡ senders → ⊥) → (code value : ℕ) → restartsBy k e code ≡ false → (isReceive flow-is e && eqb code 0) ≡ false → Fl.sentBy flow-is m e es (withPart (k - 1) (stored id x p) m) code ≡ [] → Fl.receivedBy flow-is m e es (withPart (k - 1) (stored id x p) m) code value ≡ [] → Even k j m e es (withPart (k - 1) (stored id x p) m) code value
@@ -393,7 +389,7 @@ module _ (j : ℕ) (m : Module) (s : SoundModule m) (e : EventT) (es : List Even
 
     -- who waits to send then, and what is held
     sending-after : (q : Partition) → sending flow-is (withPart (k - 1) q m) ≡ waiters senders q
-    sending-after q = ap (waiters senders) (put q) ∙ same-queue senders q (noted q) refl (λ _. refl)
+    sending-after q = ap (waiters senders) (put q)
 
     held-after : (q : Partition) (l : List ℕ) → held (buffer j q .queue) ≡ l → flow-is .holds (withPart (k - 1) q m) ≡ l
     held-after q l h = ap (λ (x : Partition). held (buffer j x .queue)) (put q) ∙ h
@@ -636,7 +632,7 @@ created-at m s w j name limit k same some here room is =
     let v = s .eachPartition (w - 1) here in
     let b = emptyBuffer name limit in
     let q = storedBuffer j b old in
-    let at : own (withPart (w - 1) q m) w ≡ noted q = getD-set-same (m .partitions) (w - 1) (noted q) noPartition (omega (arith, here, s .partitionsSize, s .table .size .1)) in
+    let at : own (withPart (w - 1) q m) w ≡ q = getD-set-same (m .partitions) (w - 1) q noPartition (omega (arith, here, s .partitionsSize, s .table .size .1)) in
     let high : j ≤ bufferLimit = omega arith in
     let is-in = buffer-in j b old (within-in bufferLimit j (omega arith) high) in
     let size = v .objects .buffers .numbered .size in
@@ -645,7 +641,7 @@ created-at m s w j name limit k same some here room is =
       inside = here;
       known = rw (at, is-in) (omega arith, omega arith);
       nothing = rw (at, is-in) (ap (λ (x : Buffer). held (x .queue)) (named-same bufferLimit noBuffer j b (old .buffers) (omega arith) high (omega (arith, size))));
-      free = rw at (same-queue (queueNumber 3 j) q (noted q) refl (λ _. refl) ∙ buffer-queue old (v .lists) (queueNumber 3 j) (λ z. omega arith) j b ∙ unknown-unwaited (m .table .frame) (m .t) old v 3 j (omega arith) (omega arith) (omega arith));
+      free = rw at (buffer-queue old (v .lists) (queueNumber 3 j) (λ z. omega arith) j b ∙ unknown-unwaited (m .table .frame) (m .t) old v 3 j (omega arith) (omega arith) (omega arith));
     })
 
 call-create : (c : Context) (x : Port) (r : Request) (p : Partition) → callDecision c x 23 r p ≡ createBuffer (r .a) (r .b) p

@@ -18,10 +18,10 @@ use Rattle.machine.specs.declared.Module.{Module}
 use Rattle.machine.specs.Limits.{partitionLimit}
 use Rattle.machine.specs.Messages.{queueOf, moved, endsWait}
 use Rattle.machine.specs.Process.{carried, served}
-use Rattle.machine.specs.Partition.{within, process, changedAll, endedBy, noted, tickPartition}
+use Rattle.machine.specs.Partition.{within, process, changedAll, endedBy, tickPartition}
 use Rattle.machine.specs.Module.{part, message, queue, channel, withPart, withMessages, withMessage, withQueue, withTime}
 use Rattle.machine.specs.Decisions.{noMessage}
-use Rattle.machine.specs.Ticks.{dueAt, tickAt, tickTo}
+use Rattle.machine.specs.Ticks.{tickAt, tickTo}
 use Rattle.machine.specs.Channels.{queuing, queuingAt, otherEnd, endedAt, passed, leadsInto, keptTo, erasedTo, admitted, refilledAt, refilledTo}
 use Rattle.machine.specs.Theorems.LeftRight.{Closed}
 use Rattle.machine.proofs.Tests.{by-test, by-tests, set-both, not-both, and-left, and-right}
@@ -59,8 +59,8 @@ module _ (T : Table) (S : ℕ → Bool) where
     rows = a .rows;
     inbound = a .inbound;
     queues = a .queues;
-    slots = length-set (m .partitions) i (noted p) ∙ a .slots ∙ sym (length-set (n .partitions) i (noted q));
-    parts = λ j s. set-both (λ (x y : Partition). x ≡ y) (m .partitions) (n .partitions) i j (noted p) (noted q) _ (a .slots) (λ e. ap noted (h (ap (λ (x : ℕ). S (suc x)) (sym e) ∙ s))) (a .parts j s);
+    slots = length-set (m .partitions) i p ∙ a .slots ∙ sym (length-set (n .partitions) i q);
+    parts = λ j s. set-both (λ (x y : Partition). x ≡ y) (m .partitions) (n .partitions) i j p q _ (a .slots) (λ e. h (ap (λ (x : ℕ). S (suc x)) (sym e) ∙ s)) (a .parts j s);
   }
 
   pub message-both : (m n : Module) (i : ℕ) (x y : Message) → Agree T S m n → (S (channel T i .destination) ≡ true → x ≡ y) → Agree T S (withMessage i x m) (withMessage i y n)
@@ -89,8 +89,8 @@ module _ (T : Table) (S : ℕ → Bool) where
     rows = a .rows;
     inbound = a .inbound;
     queues = a .queues;
-    slots = length-set (m .partitions) i (noted p) ∙ a .slots;
-    parts = λ j s. getD-set-other (m .partitions) i j (noted p) _ (λ e. not-both (S (suc j)) s (ap (λ (x : ℕ). S (suc x)) e ∙ f)) ∙ a .parts j s;
+    slots = length-set (m .partitions) i p ∙ a .slots;
+    parts = λ j s. getD-set-other (m .partitions) i j p _ (λ e. not-both (S (suc j)) s (ap (λ (x : ℕ). S (suc x)) e ∙ f)) ∙ a .parts j s;
   }
 
   pub message-free : (m n : Module) (i : ℕ) (x : Message) → Agree T S m n → S (channel T i .destination) ≡ false → Agree T S (withMessage i x m) n
@@ -150,7 +150,7 @@ module _ (T : Table) (S : ℕ → Bool) where
 
   tick-at-free : (i : ℕ) (m : Module) → m .table ≡ T → S (suc i) ≡ false → Agree T S (tickAt i m) m
   unfolding tickAt
-  tick-at-free i m e f = by-test (λ (x : Module). Agree T S x m) (dueAt i m) (λ _. part-free m m i _ (agree-same m e) f) (λ _. agree-same m e)
+  tick-at-free i m e f = part-free m m i _ (agree-same m e) f
 
   -- one partition at a tick: in S it is equal on both sides, outside S nothing of it is seen
   tick-at-both : (i : ℕ) (m n : Module) → Agree T S m n → Agree T S (tickAt i m) (tickAt i n)
@@ -158,11 +158,7 @@ module _ (T : Table) (S : ℕ → Bool) where
   tick-at-both i m n a = go (S (suc i)) refl
     where
       go : (b : Bool) → S (suc i) ≡ b → Agree T S (tickAt i m) (tickAt i n)
-      go true s =
-          let p = a .parts i s in
-          let t = a .time in
-          let q : m .table ≡ n .table = a .left ∙ sym (a .right) in
-          by-tests (Agree T S) (dueAt i m) (dueAt i n) (cc) (λ _. part-both m n i _ _ a (λ _. ap₂ tickPartition t p)) (λ _. a)
+      go true s = part-both m n i _ _ a (λ _. ap₂ tickPartition (a .time) (a .parts i s))
       go false f = agree-along _ m _ (tick-at-free i m (a .left) f) (agree-along m n _ a (agree-back _ n (tick-at-free i n (a .right) f)))
 
   -- two folds: a tick of all partitions, and the messages into one partition erased

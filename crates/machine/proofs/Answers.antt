@@ -23,7 +23,7 @@ use Rattle.machine.specs.Partition.{running}
 use Rattle.machine.specs.Decisions.{coded, checked, replyOf}
 use Rattle.machine.specs.Module.{emptyTable, emptyModule, part, current, runningIn, withTime}
 use Rattle.machine.specs.Windows.{lookup}
-use Rattle.machine.specs.Ticks.{dueAt, tickAt, tickTo, partitionCount}
+use Rattle.machine.specs.Ticks.{tickAt, tickTo, partitionCount}
 use Rattle.machine.specs.Channels.{portOf}
 use Rattle.machine.specs.Step.{contextOf, sees, decision, moduleAfter, answerTo, step}
 use Rattle.machine.specs.Theorems.Valid.{Valid, SoundDecision, SoundModule, ValidModule, Reached, ReplyInRange, AnswerInRange}
@@ -39,7 +39,7 @@ use Rattle.machine.proofs.Reached.{refilled-table, made, made-sound, ma
 tick-table : (n : ℕ) (m : Module) → tickTo n m .table ≡ m .table
 unfolding tickTo tickAt
 tick-table zero m = refl
-tick-table (suc n) m = by-test (λ (q : Module). q .table ≡ m .table) (dueAt n (tickTo n m)) (λ _. tick-table n m) (λ _. tick-table n m)
+tick-table (suc n) m = tick-table n m
 
 pub decided-table : (m : Module) (k : ℕ) (d : Decision) → moduleAfter m k d .table ≡ m .table
 decided-table m k d = by-decision m k d (λ (q : Module). q .table ≡ m .table) refl

@@ -20,7 +20,7 @@ use Rattle.machine.specs.declared.Module.{Module}
 use Rattle.machine.specs.Ids.{members, kept, other}
 use Rattle.machine.specs.Limits.{processLimit}
 use Rattle.machine.specs.Process.{blankProcess, withCurrent, ticked, ready, served, object}
-use Rattle.machine.specs.Partition.{arrivedLast, normalMode, noted, running, tickPartition, process, stored, waiters, changedAll, applied, nothingCreated}
+use Rattle.machine.specs.Partition.{arrivedLast, normalMode, running, tickPartition, process, stored, waiters, changedAll, applied, nothingCreated}
 use Rattle.machine.specs.Fields.{requestOf, numberOf}
 use Rattle.machine.specs.Step.{contextOf, step}
 use Rattle.machine.specs.Messages.{moved}
@@ -45,7 +45,7 @@ use Rattle.machine.proofs.Bodies.{Sends, Receives}
 use Rattle.machine.proofs.ProcessStates.{tick-state}
 use Rattle.machine.proofs.Answers.{step-table}
 use Rattle.machine.proofs.Reached.{valid-sound, reached-valid}
-use Rattle.machine.proofs.Arriving.{kept-ready, Keeps, Arrives, arrives-off, none-zero, keeps-same, keeps-all, keeps-one, keeps-each, keeps-from, keeps-to, idle-arrival, keeps-ended, last-arrives, arrives-from, arrives-noted, keeps-then, change-keeps, joins-in, precedes-kept, precedes-first, precedes-across}
+use Rattle.machine.proofs.Arriving.{kept-ready, Keeps, Arrives, arrives-off, none-zero, keeps-same, keeps-all, keeps-one, keeps-each, keeps-from, keeps-to, idle-arrival, keeps-ended, last-arrives, arrives-from, keeps-then, change-keeps, joins-in, precedes-kept, precedes-first, precedes-across}
 use Rattle.machine.proofs.AtPartition.{ticked-part, Kinds, at-partition}
 use Rattle.machine.specs.Runs.{after}
 use Rattle.machine.proofs.Orders.{followed-same, stored-arrival}
@@ -139,7 +139,7 @@ module _ (m : Module) (s : SoundModule m) (e : EventT) (k : ℕ) (b : Between 1 
   abbrev Left : Partition → Type 0
   Left o = Keeps p o × ((y : ℕ) → readyIn p y ≡ true → readyIn o y ≡ true)
 
-  let-in : (w size frame t : ℕ) (o : Partition) → Valid frame t o → Left o → Left (noted (changedAll served (take size (waiters w o)) o))
+  let-in : (w size frame t : ℕ) (o : Partition) → Valid frame t o → Left o → Left (changedAll served (take size (waiters w o)) o)
   let-in w size frame t o v h =
       let l = take size (waiters w o) in
       let all = firsts-created frame t o v w size in
@@ -148,14 +148,13 @@ module _ (m : Module) (s : SoundModule m) (e : EventT) (k : ℕ) (b : Between 1 
       let stays : (y : ℕ) → readyIn o y ≡ true → readyIn q y ≡ true = λ y r. ap ready (changed-process served l o (v .lists) all dis y) ∙ either (contains y l)
       (λ c. not-both _ r (object-not-ready (process y o) (waiters-on o (v .lists) w y (take-in size (waiters w o) y c))))
       (λ c. rw c r) in
-      (keeps-to p q (noted q) refl refl (keeps-then p o q (valid .lists) (h .1) (h .0) (keeps-all served l o (v .lists) all dis)), λ y r. stays y (h .1 y r))
+      (keeps-then p o q (valid .lists) (h .1) (h .0) (keeps-all served l o (v .lists) all dis), λ y r. stays y (h .1 y r))
 
   nobody : (mode : ℕ) → Keeps p (nothingCreated mode)
   nobody mode = record { joined = []; order = sym (append-nil _ ∙ kept-no (readyIn (nothingCreated mode)) (members (p .arrival)) (λ y _. ap ready (named-replicate processLimit processLimit y blankProcess))) }
 
   kinds : Kinds m s e k b Is Left
   kinds = record {
-    asNoted = λ code o h. arrives-noted _ p o h;
     refused = λ n f g. same n (by-code n f);
     ticked = tick-is;
     another = λ code h by other some. same code (by-partition code h by other);

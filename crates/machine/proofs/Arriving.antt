@@ -19,7 +19,7 @@ use Rattle.machine.specs.declared.Change.the-variants.{Nothing, Stored, 
 use Rattle.machine.specs.Ids.{members, kept, other, keptIf}
 use Rattle.machine.specs.Limits.{processLimit, semaphoreLimit, eventLimit, bufferLimit, blackboardLimit}
 use Rattle.machine.specs.Process.{blankProcess, ready, served, handed, entered}
-use Rattle.machine.specs.Partition.{arrivedLast, noted, within, byId, stored, created, storedSemaphore, storedEvent, storedBuffer, storedBlackboard, emptyBuffer, movedIn, endedBy, buffer, waiters, changedAll, each, withMode, enteredNormal, applied}
+use Rattle.machine.specs.Partition.{arrivedLast, within, byId, stored, created, storedSemaphore, storedEvent, storedBuffer, storedBlackboard, emptyBuffer, movedIn, endedBy, buffer, waiters, changedAll, each, withMode, enteredNormal, applied}
 use Rattle.machine.specs.Messages.{moved}
 use Rattle.machine.specs.Theorems.Valid.{Between, contains, Distinct, ListedIn, Valid, SoundContext, SoundChange, SoundEnd}
 use Rattle.machine.specs.Theorems.Plain.{idsFrom}
@@ -146,12 +146,9 @@ last-arrives p v id h = record {
       ∙ ap (λ (l : List ℕ). l ++ (id ∷ [])) (kept-same (other id) (λ y. readyIn p y && other id y) (members (p .arrival)) (λ y c. sym (rw (sym (v .arrivals .exact y) ∙ c))));
 }
 
--- from a partition with the same list, and to one as it is noted
+-- from a partition with the same list
 pub arrives-from : (moved : ℕ) (p p′ q : Partition) → members (p′ .arrival) ≡ members (p .arrival) → Arrives moved p′ q → Arrives moved p q
 arrives-from moved p p′ q e h = record { joined = h .joined; order = h .order ∙ ap (λ (l : List ℕ). kept (λ y. readyIn q y && other moved y) l ++ h .joined) e }
-
-pub arrives-noted : (moved : ℕ) (p q : Partition) → Arrives moved p q → Arrives moved p (noted q)
-arrives-noted moved p q h = record { joined = h .joined; order = h .order }
 
 -- two steps, of which the first leaves all READY who are
 pub keeps-then : (p q r : Partition) → ListedIn p → ((y : ℕ) → readyIn p y ≡ true → readyIn q y ≡ true) → Keeps p q → Keeps q r → Keeps p r

@@ -2,7 +2,7 @@
 use Prim.Native.Nat.{ℕ, _+_, _-_, _≤_, _<_}
 use mathlib.Core.Path.{_≡_, refl, sym, ap, subst, _∙_}
 use mathlib.Core.Bool.{true, false, _||_}
-use mathlib.Core.Logic.{inr, ⊎-elim}
+use mathlib.Core.Logic.{⊎-elim}
 use native.Mathlib.Omega.{arith}
 use lib.ListN.{take}
 use lib.Dec.{eqb}
@@ -23,14 +23,14 @@ use Rattle.machine.specs.Limits.{modeLimit, channelLimit}
 use Rattle.machine.specs.Fields.{requestOf, numberOf}
 use Rattle.machine.specs.Messages.{moved, endsWait}
 use Rattle.machine.specs.Process.{object, served}
-use Rattle.machine.specs.Partition.{nothingCreated, stored, endedBy, waiters, changedAll, applied, tickPartition, noted}
+use Rattle.machine.specs.Partition.{nothingCreated, stored, endedBy, waiters, changedAll, applied, tickPartition}
 use Rattle.machine.specs.Decisions.{replyOf}
-use Rattle.machine.specs.Module.{noPartition, part, channel, queue, withPart, withQueue, withTime}
+use Rattle.machine.specs.Module.{noPartition, part, channel, queue, withPart, withQueue}
 use Rattle.machine.specs.Places.{malformed, ticks}
 use Rattle.machine.specs.Ticks.{tickModule}
 use Rattle.machine.specs.Channels.{otherEnd, portOf, passed, erasedTo}
 use Rattle.machine.specs.Step.{contextOf, decision, restarted, moduleAfter, step}
-use Rattle.machine.specs.Theorems.Valid.{Between, Valid, SoundModule, SoundContext, SoundDecision, SoundEnd, plainTick}
+use Rattle.machine.specs.Theorems.Valid.{Between, Valid, SoundModule, SoundContext, SoundDecision, SoundEnd}
 use Rattle.machine.specs.Theorems.Events.{own}
 use Rattle.machine.proofs.Tests.{by-test, or-left, or-right}
 use Rattle.machine.proofs.Bounds.{same-or-not}
@@ -39,7 +39,7 @@ use Rattle.machine.proofs.Calling.{number-of, number-is}
 use Rattle.machine.proofs.Fields.{in-limits, between-zero}
 use Rattle.machine.proofs.Dispatch.{Calls, by-event}
 use Rattle.machine.proofs.Bodies.{Sends, Receives, OnQueue, Bodily}
-use Rattle.machine.proofs.Reached.{made, made-sound, made-body, Channelled, on-queue, transfer-sound, Fills, refilled-keeps, part-sound, erased-sound, place, context-sound, at-set, plain-part, tick-module-plain}
+use Rattle.machine.proofs.Reached.{made, made-sound, made-body, Channelled, on-queue, transfer-sound, Fills, refilled-keeps, part-sound, erased-sound, place, context-sound, at-set, tick-each}
 use Rattle.machine.proofs.Acts.{actsOnNamed, Acts}
 use Rattle.machine.proofs.EveryCall.{call-acts}
 use Rattle.machine.proofs.Refusals.{call-in-range}
@@ -61,9 +61,8 @@ module _ (m : Module) (s : SoundModule m) (e : EventT) (q : Calls m (requestOf e
       call-acts (contextOf m h) (portOf m h (requestOf e)) (numberOf (requestOf e .call)) (requestOf e) (part m (h - 1))
       (λ there. let w = in-limits 1 (m .table .channelCount) (requestOf e .a) there in omega (arith, w .0)) .is
 
-pub ticked-part : (m : Module) → SoundModule m → (k : ℕ) → Between 1 (m .table .size) k → own (tickModule m) k ≡ noted (tickPartition (m .t + 1) (own m k))
-unfolding plainTick
-ticked-part m s k b = rw (tick-module-plain m (inr s)) (plain-part (m .table .size) (withTime (m .t + 1) m) (omega (arith, s .partitionsSize, s .table .size .1)) (k - 1) (omega (arith, b .0, b .1)))
+pub ticked-part : (m : Module) → SoundModule m → (k : ℕ) → Between 1 (m .table .size) k → own (tickModule m) k ≡ tickPartition (m .t + 1) (own m k)
+ticked-part m s k b = tick-each m s (k - 1) (omega (arith, b .0, b .1))
 
 -- Is: what is shown of the record of partition k after an event that answers code. Left: of its record while a restart of another partition lets senders in
 module _ (m : Module) (s : SoundModule m) (e : EventT) (k : ℕ) (b : Between 1 (m .table .size) k) (Is : ℕ → Partition → Type 0) (Left : Partition → Type 0) where
@@ -81,7 +80,6 @@ module _ (m : Module) (s : SoundModule m) (e : EventT) (k : ℕ) (b : Between 1 
   p = own m k
 
   pub record Kinds : Type 0 where
-    pub asNoted : (code : ℕ) (o : Partition) → Is code o → Is code (noted o)
     -- a refusal
     pub refused : (n : ℕ) → (n ≡ 0 → ⊥) → (n ≡ 7 → ⊥) → Is n p
     -- a tick
@@ -97,7 +95,7 @@ module _ (m : Module) (s : SoundModule m) (e : EventT) (k : ℕ) (b : Between 1 
     pub erased : e .partition ≡ pos k → e .call ≡ pos 1 → (mode : ℕ) → mode ≤ 2 → e .a ≡ pos mode → Is 0 (nothingCreated mode)
     pub leftFirst : Left p
     pub leftNext : e .call ≡ pos 1 → (mode : ℕ) → mode ≤ 2 → e .a ≡ pos mode → (i : ℕ) → i < m .table .channelCount → e .partition ≡ pos (channel (m .table) i .destination) → k ≡ channel (m .table) i .source
-        → (size frame t : ℕ) (o : Partition) → Valid frame t o → Left o → Left (noted (changedAll served (take size (waiters (object (Source (i + 1) 0)) o)) o))
+        → (size frame t : ℕ) (o : Partition) → Valid frame t o → Left o → Left (changedAll served (take size (waiters (object (Source (i + 1) 0)) o)) o)
     pub leftLast : (h : ℕ) → e .partition ≡ pos h → (h ≡ k → ⊥) → (h ≡ 0 → ⊥) → e .call ≡ pos 1 → (o : Partition) → Left o → Is 0 o
     -- a transfer on a channel, at whose other end this partition is
     pub passed : (i : ℕ) (a : Transfer) (v : ℕ) → OnQueue (portOf m from asks) number i a v → Channelled m from i (portOf m from asks) → e .partition ≡ pos from → (from ≡ 0 → ⊥) → e .call ≡ pos number → e .a ≡ pos (i + 1)
@@ -107,7 +105,7 @@ module _ (m : Module) (s : SoundModule m) (e : EventT) (k : ℕ) (b : Between 1 
     tick-is : malformed (m .table) asks ≡ false → ticks asks ≡ true → Is 0 (part (tickModule m) (k - 1))
     tick-is formed none =
         let by = number-is (e .partition) 0 (between-zero (m .table .size) (asks .partition) (not-false _ (or-left _ _ (or-right (eqb (m .table .size) 0) _ formed))) none) in
-        subst (Is 0) (sym (ticked-part m s k b)) (f .asNoted 0 _ (f .ticked by))
+        subst (Is 0) (sym (ticked-part m s k b)) (f .ticked by)
 
     module _ (q : Calls m asks) where
       by : e .partition ≡ pos from
@@ -118,7 +116,7 @@ module _ (m : Module) (s : SoundModule m) (e : EventT) (k : ℕ) (b : Between 1 
 
       -- a partition stored at place j
       puts : (code : ℕ) (u : Module) → u .partitions ≡ m .partitions → (j : ℕ) → j < m .table .size → ((k - 1 ≡ j → ⊥) → Is code p) → (o : Partition) → (j ≡ k - 1 → Is code o) → Is code (part (withPart j o u) (k - 1))
-      puts code u z j l none o h = rw z (at-set (λ i o. i ≡ k - 1 → Is code o) (m .partitions) j (noted o) noPartition (omega (arith, l, s .partitionsSize, s .table .size .1)) (k - 1) (λ y. f .asNoted code o (h y)) (λ ne _. none ne) refl)
+      puts code u z j l none o h = rw z (at-set (λ i o. i ≡ k - 1 → Is code o) (m .partitions) j o noPartition (omega (arith, l, s .partitionsSize, s .table .size .1)) (k - 1) h (λ ne _. none ne) refl)
 
       -- the caller's partition stored
       puts-own : (code : ℕ) (o : Partition → Partition) → (from ≡ k → Is code (o p)) → Is code (part (withPart (from - 1) (o (part m (from - 1))) m) (k - 1))
@@ -127,7 +125,7 @@ module _ (m : Module) (s : SoundModule m) (e : EventT) (k : ℕ) (b : Between 1 
 
       -- a restart
       record Restarts (mode : ℕ) (o : Partition) : Type 0 where
-        gone : from ≡ k → o ≡ noted (nothingCreated mode)
+        gone : from ≡ k → o ≡ nothingCreated mode
         left : (from ≡ k → ⊥) → Left o
 
       module _ (mode : ℕ) (low : mode ≤ 2) (one : number ≡ 1) (is : asks .a ≡ Number mode) where
@@ -138,7 +136,7 @@ module _ (m : Module) (s : SoundModule m) (e : EventT) (k : ℕ) (b : Between 1 
         a-is = number-is (e .a) mode (rw is (eq-eqb mode mode refl))
 
         let-in : (i : ℕ) → Fills (withPart (from - 1) (nothingCreated mode) (erasedTo from channelLimit m)) from i → (size frame t : ℕ) (o : Partition) → Valid frame t o → let j = channel (m .table) i .source - 1 in
-            There j o → There j (noted (changedAll served (take size (waiters (object (Source (i + 1) 0)) o)) o))
+            There j o → There j (changedAll served (take size (waiters (object (Source (i + 1) 0)) o)) o)
         let-in i w size frame t o v h z =
             let g = s .table .eachChannel i (w .there) in
             let source : channel (m .table) i .source ≡ k = omega (arith, z, g .source .0, b .0) in
@@ -152,12 +150,12 @@ module _ (m : Module) (s : SoundModule m) (e : EventT) (k : ℕ) (b : Between 1 
             let u = erasedTo from channelLimit m in
             let o = nothingCreated mode in
             let here = place m s asks q in
-            let start : (i : ℕ) → i < m .table .size → There i (part (withPart (from - 1) o u) i) = λ i l. at-set There (m .partitions) (from - 1) (noted o) noPartition (omega (arith, here, s .partitionsSize, s .table .size .1)) i
+            let start : (i : ℕ) → i < m .table .size → There i (part (withPart (from - 1) o u) i) = λ i l. at-set There (m .partitions) (from - 1) o noPartition (omega (arith, here, s .partitionsSize, s .table .size .1)) i
             (λ z. record { gone = λ _. refl; left = λ other. absurd (other (omega (arith, z, b .0, q .some))) })
             (λ ne z. record { gone = λ own. absurd (ne (rw own z)); left = λ _. subst (λ j. Left (part m j)) (sym z) (f .leftFirst) }) in
             let g = refilled-keeps There from (withPart (from - 1) o u) (part-sound u (erased-sound from channelLimit m (omega arith) s) (from - 1) here o (nothing-valid (m .table .frame) (m .t) mode few)) channelLimit (λ i _. let-in i) start (k - 1) (omega (arith, b .0, b .1)) refl in
             ⊎-elim
-            (λ (own : from ≡ k). subst (Is 0) (sym (g .gone own)) (f .asNoted 0 o (f .erased (by ∙ ap pos own) (call ∙ ap pos one) mode low a-is)))
+            (λ (own : from ≡ k). subst (Is 0) (sym (g .gone own)) (f .erased (by ∙ ap pos own) (call ∙ ap pos one) mode low a-is))
             (λ (other : from ≡ k → ⊥). f .leftLast from by other (q .some) (call ∙ ap pos one) _ (g .left other))
             (same-or-not from k)
 

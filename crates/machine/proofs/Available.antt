@@ -1,10 +1,10 @@
 -- Nobody waits for what is there: on every reached record, for every kind of object at once. Assumes nothing.
-use Prim.Native.Nat.{ℕ, _+_, _-_, _≤_, _<_}
+use Prim.Native.Nat.{ℕ, _+_, _-_, _<_}
 use mathlib.Core.Path.{_≡_, refl, ap, sym, _∙_}
 use mathlib.Core.Bool.{true}
-use mathlib.Core.Logic.{inl, inr, ⊎-elim}
+use mathlib.Core.Logic.{inl, ⊎-elim}
 use native.Mathlib.Omega.{arith}
-use lib.ListN.{length, getD, set, take, getD-replicate}
+use lib.ListN.{getD, set, take, getD-replicate}
 use lib.Dec.{eqb}
 use borrow.Author.Tests.{eqb-true, eqb-false}
 use Rattle.machine.specs.declared.Process.{Process}
@@ -20,15 +20,15 @@ use Rattle.machine.specs.declared.Module.{Module}
 use Rattle.machine.specs.Limits.{partitionLimit, channelLimit}
 use Rattle.machine.specs.Messages.{endsWait}
 use Rattle.machine.specs.Process.{object, served, ticked}
-use Rattle.machine.specs.Partition.{normalMode, endedBy, stored, waiters, changedAll, tickPartition, applied, nothingCreated, noted, freshPartition}
+use Rattle.machine.specs.Partition.{normalMode, endedBy, stored, waiters, changedAll, tickPartition, applied, nothingCreated, freshPartition}
 use Rattle.machine.specs.Fields.{numberOf, requestOf}
 use Rattle.machine.specs.Channels.{otherEnd, portOf, erasedTo}
 use Rattle.machine.specs.Ids.{kept}
 use Rattle.machine.specs.declared.Table.{Table}
 use Rattle.machine.specs.Table.{readTable}
-use Rattle.machine.specs.Module.{noPartition, emptyTable, emptyModule, freshModule, channel, part, withPart, withTime}
+use Rattle.machine.specs.Module.{noPartition, emptyTable, emptyModule, freshModule, channel, part, withPart}
 use Rattle.machine.specs.Step.{contextOf, decision, moduleAfter, step}
-use Rattle.machine.specs.Theorems.Valid.{ListedIn, Valid, SoundContext, SoundDecision, SoundModule, Reached, plainTick}
+use Rattle.machine.specs.Theorems.Valid.{ListedIn, Valid, SoundContext, SoundDecision, SoundModule, Reached}
 use Rattle.machine.specs.Theorems.Queues.{available, queueNumber, NoneWaits, SameObjects}
 use Rattle.machine.proofs.Tests.{by-test}
 use Rattle.machine.proofs.Either.{either}
@@ -36,16 +36,14 @@ use Rattle.machine.proofs.Keeping.{stored-rest, changed-rest, each-rest
 use Rattle.machine.proofs.Dispatch.{Calls, by-event}
 use Rattle.machine.proofs.Bodies.{Bodily}
 use Rattle.machine.proofs.Kept.{Caller, firsts-created, nothing-valid, change-valid, normal-caller}
-use Rattle.machine.proofs.Reached.{at-set, plain-part, tick-module-plain, place, context-sound, made, made-sound, made-body, valid-sound, reached-valid, part-sound, erased-sound, refilled-keeps, on-queue, transfer-sound}
+use Rattle.machine.proofs.Reached.{at-set, tick-each, place, context-sound, made, made-sound, made-body, valid-sound, reached-valid, part-sound, erased-sound, refilled-keeps, on-queue, transfer-sound}
 use Rattle.machine.proofs.Answers.{decided-table}
 use Rattle.machine.proofs.Tables.{table-read}
-use Rattle.machine.proofs.Orders.{rest-objects, same-objects, Part, part-trans, same-queue, all-part, tick-part, ended-part, change-part, joins-last, Orderly}
+use Rattle.machine.proofs.Orders.{rest-objects, same-objects, Part, part-trans, all-part, tick-part, ended-part, change-part, joins-last, Orderly}
 use Rattle.machine.proofs.EveryCall.{call-order, call-fair}
 use Rattle.machine.proofs.Fairness.{available-same, ended-objects, available-low, part-none, Fair}
 
 -- ---------------------------------------------------------------- a partition after a decision
-noted-none : (p : Partition) → NoneWaits p → NoneWaits (noted p)
-noted-none p h kind k t = same-queue (queueNumber kind k) p (noted p) refl (λ _. refl) ∙ h kind k t
 
 number-some : (kind k : ℕ) (p : Partition) → available kind k p ≡ true → queueNumber kind k ≡ 0 → ⊥
 number-some kind k p t z = omega (arith, available-low kind k p t .0)
@@ -63,11 +61,11 @@ tick-none frame t p v h kind k e =
 kept-none : (p q : Partition) → SameObjects p q → ((o : ℕ) → (o ≡ 0 → ⊥) → Part (waiters o p) (waiters o q)) → NoneWaits p → NoneWaits q
 kept-none p q same parts h kind k t = part-none _ _ (h kind k (sym (available-same p q same kind k) ∙ t)) (parts (queueNumber kind k) (number-some kind k q t))
 
-let-in-none : (i n frame t : ℕ) (p : Partition) → Valid frame t p → NoneWaits p → NoneWaits (noted (changedAll served (take n (waiters (object (Source (i + 1) 0)) p)) p))
+let-in-none : (i n frame t : ℕ) (p : Partition) → Valid frame t p → NoneWaits p → NoneWaits (changedAll served (take n (waiters (object (Source (i + 1) 0)) p)) p)
 let-in-none i n frame t p v h =
     let u = object (Source (i + 1) 0) in
     let l = take n (waiters u p) in
-    noted-none (changedAll served l p) (kept-none p _ (rest-objects p _ (changed-rest served l p)) (λ o some. all-part o some served (λ x. inl refl) l p (v .lists) (firsts-created frame t p v u n)) h)
+    kept-none p _ (rest-objects p _ (changed-rest served l p)) (λ o some. all-part o some served (λ x. inl refl) l p (v .lists) (firsts-created frame t p v u n)) h
 
 module _ (c : Context) (p : Partition) (v : Valid (c .frame) (c .time) p) (s : SoundContext c p) (none : NoneWaits p) (x : Port) (n : ℕ) where
   changed-none : (a b : Change) (value : ℕ) → SoundDecision c p (Changed a b value) → Orderly c p (Changed a b value) → Fair x n p (Changed a b value) → NoneWaits (applied b (applied a p))
@@ -103,8 +101,8 @@ module _ (m : Module) (s : SoundModule m) (none : (i : ℕ) → i < m .table .si
     here : k - 1 < m .table .size
     here = place m s r q
 
-    puts : (j : ℕ) → j < m .table .size → (p : Partition) → NoneWaits p → (i : ℕ) → i < m .table .size → NoneWaits (getD (set (m .partitions) j (noted p)) i noPartition)
-    puts j in-place p h i l = at-set (λ _ p. NoneWaits p) (m .partitions) j (noted p) noPartition (omega (arith, in-place, s .partitionsSize, s .table .size .1)) i (noted-none p h) (λ _. none i l)
+    puts : (j : ℕ) → j < m .table .size → (p : Partition) → NoneWaits p → (i : ℕ) → i < m .table .size → NoneWaits (getD (set (m .partitions) j p) i noPartition)
+    puts j in-place p h i l = at-set (λ _ p. NoneWaits p) (m .partitions) j p noPartition (omega (arith, in-place, s .partitionsSize, s .table .size .1)) i h (λ _. none i l)
 
     decided-none : (d : Decision) → SoundDecision (contextOf m k) now d → Bodily (portOf m k r) (numberOf (r .call)) d → Orderly (contextOf m k) now d → Fair (portOf m k r) (numberOf (r .call)) now d → (i : ℕ) → i < m .table .size → NoneWaits (part (moduleAfter m k d) i)
     decided-none (Refused n) h b g f = none
@@ -127,14 +125,10 @@ module _ (m : Module) (s : SoundModule m) (none : (i : ℕ) → i < m .table .si
         (λ _. none)
 
   pub event-none : (r : Request) (i : ℕ) → i < m .table .size → NoneWaits (part (moduleAfter m (numberOf (r .partition)) (decision m r)) i)
-  unfolding plainTick
   event-none r =
       by-event m r (λ (d : Decision). (i : ℕ) → i < m .table .size → NoneWaits (part (moduleAfter m (numberOf (r .partition)) d) i))
       (λ _ _. none)
-      (λ _ _ _ i l.
-      let long : m .table .size ≤ length (m .partitions) = omega (arith, s .partitionsSize, s .table .size .1) in
-      rw (tick-module-plain m (inr s), plain-part (m .table .size) (withTime (m .t + 1) m) long i l)
-      (noted-none (tickPartition (m .t + 1) (part m i)) (tick-none (m .table .frame) (m .t) (part m i) (s .eachPartition i l) (none i l))))
+      (λ _ _ _ i l. rw (tick-each m s i l) (tick-none (m .table .frame) (m .t) (part m i) (s .eachPartition i l) (none i l)))
       (λ q.
       let n = numberOf (r .partition) in
       let here = place m s r q in

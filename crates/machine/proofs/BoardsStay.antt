@@ -22,7 +22,7 @@ use Rattle.machine.specs.declared.Decision.the-variants.{Refused, Unchan
 use Rattle.machine.specs.Limits.{processLimit, semaphoreLimit, eventLimit, bufferLimit, blackboardLimit}
 use Rattle.machine.specs.Fields.{requestOf, numberOf}
 use Rattle.machine.specs.Process.{served, handed, ticked, entered}
-use Rattle.machine.specs.Partition.{within, normalMode, noEvent, noBlackboard, buffer, event, blackboard, movedIn, endedBy, created, arrivedLast, storedSemaphore, storedBuffer, waiters, each, tickPartition, enteredNormal, withMode, applied, partitionAfter, noted}
+use Rattle.machine.specs.Partition.{within, normalMode, noEvent, noBlackboard, buffer, event, blackboard, movedIn, endedBy, created, arrivedLast, storedSemaphore, storedBuffer, waiters, each, tickPartition, enteredNormal, withMode, applied, partitionAfter}
 use Rattle.machine.specs.Decisions.{replyOf}
 use Rattle.machine.specs.Module.{part}
 use Rattle.machine.specs.Step.{step}
@@ -175,7 +175,6 @@ module _ (m : Module) (e : EventT) where
   pub event-left : SoundModule m → (i : ℕ) → i < m .table .size → restartsBy (i + 1) e (codeAt m e) ≡ false → LeftBy (i + 1) (part m i) (part (step m e .state) i)
   event-left s = by-partition m s e (λ i q. restartsBy (i + 1) e (codeAt m e) ≡ false → LeftBy (i + 1) (part m i) q)
       (λ i _ _. by-same (i + 1) (part m i))
-      (λ i _ p h lasts. by-along (i + 1) (part m i) p (noted p) (h lasts) (same-left 0 (requestOf e) p (noted p) refl refl refl refl))
       (λ i _ _. by-left (i + 1) (part m i) _ (tick-left 0 (requestOf e) (m .t + 1) (part m i)))
       (λ c is lasts. decided-left s c lasts (made m s (requestOf e) c) (made-stores m s e c) is)
       (λ i _ o size _ _ p _ h lasts. by-along (i + 1) (part m i) p _ (h lasts) (rest-left 0 (requestOf e) p _ (changed-rest served (take size (waiters o p)) p)))

@@ -19,7 +19,7 @@ use Rattle.machine.specs.declared.Field.{Field}
 use Rattle.machine.specs.declared.Field.the-variants.{Number, MinusOne, Other}
 use Rattle.machine.specs.Limits.{callLimit, greatestTime, processLimit}
 use Rattle.machine.specs.Fields.{field, requestOf, isNumber, numberOf}
-use Rattle.machine.specs.Partition.{normalMode, running, noted, process, stored, withProcesses}
+use Rattle.machine.specs.Partition.{normalMode, running, process, stored, withProcesses}
 use Rattle.machine.specs.Decisions.{checked, replyOf, unknown}
 use Rattle.machine.specs.Windows.{lookup}
 use Rattle.machine.specs.Module.{current, emptyModule, emptyTable, noPartition, withPart}
@@ -137,8 +137,8 @@ module _ (m : Module) (k : ℕ) (u : SoundModule m) (h : Calling m k) where
   known id count b = rw (ne-eqb id 0 (λ z. omega (arith, b .0)), le-ltb count id (b .1))
 
   -- the caller's partition after a call that stored it
-  pub own-after : {e : EventT} {code value : ℕ} {extra : Time} (p : Partition) → Gives m e code value extra (withPart (k - 1) p m) → own (step m e .state) k ≡ noted p
-  own-after p g = ap (λ (n : Module). own n k) (g .state) ∙ getD-set-same (m .partitions) (k - 1) (noted p) noPartition (omega (arith, calling-place, u .partitionsSize, u .table .size .1))
+  pub own-after : {e : EventT} {code value : ℕ} {extra : Time} (p : Partition) → Gives m e code value extra (withPart (k - 1) p m) → own (step m e .state) k ≡ p
+  own-after p g = ap (λ (n : Module). own n k) (g .state) ∙ getD-set-same (m .partitions) (k - 1) p noPartition (omega (arith, calling-place, u .partitionsSize, u .table .size .1))
 
 -- ---------------------------------------------------------------- what is given, brought to another form
 pub puts-is : (m : Module) (k : ℕ) {e : EventT} {code value : ℕ} (p q : Partition) → Puts m e code value k p → p ≡ q → Puts m e code value k q

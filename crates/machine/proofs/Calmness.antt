@@ -26,7 +26,7 @@ use Rattle.machine.specs.Messages.{sent, received}
 use Rattle.machine.specs.Ids.{members}
 use Rattle.machine.specs.Fields.{isNumber, between}
 use Rattle.machine.specs.Process.{classOf, blankProcess, object, onObject, ready, served, handed, entered, ticked, due, waitsForNormal, woken}
-use Rattle.machine.specs.Partition.{normalMode, noBuffer, process, buffer, emptyBuffer, movedIn, endedBy, withMode, stored, waitsOn, waiters, firstWaiter, changedAll, each, tickPartition, enteredNormal, storedSemaphore, storedEvent, storedBuffer, storedBlackboard, applied, within, arrivedLast, noted}
+use Rattle.machine.specs.Partition.{normalMode, noBuffer, process, buffer, emptyBuffer, movedIn, endedBy, withMode, stored, waitsOn, waiters, firstWaiter, changedAll, each, tickPartition, enteredNormal, storedSemaphore, storedEvent, storedBuffer, storedBlackboard, applied, within, arrivedLast}
 use Rattle.machine.specs.Objects.{signalled}
 use Rattle.machine.specs.Theorems.Valid.{Between, contains, Distinct, ListedIn, Valid, SoundContext, SoundMove, SoundEnd, SoundChange}
 use mathlib.Core.Logic.{_⊎_, inl, inr, ⊎-elim}
@@ -39,7 +39,7 @@ use Rattle.machine.proofs.Tracking.{contains-kept}
 use Rattle.machine.proofs.Keeping.{process-created, Rest, stored-rest, process-other, process-stored, AllCreated, rest-count, changed-rest, changed-process, each-rest, each-listed, each-process}
 use Rattle.machine.proofs.Sound.{ready-off}
 use Rattle.machine.proofs.Kept.{waiters-distinct, waiters-created, first-in, take-in, firsts-created, firsts-distinct, let-in-valid, ended-valid, end-same, change-valid, normal-caller}
-use Rattle.machine.proofs.Orders.{Part, part-whole, part-trans, all-part, expired-wait, ticked-object, start-object, normal-off, same-queue, ended-part}
+use Rattle.machine.proofs.Orders.{Part, part-whole, part-trans, all-part, expired-wait, ticked-object, start-object, normal-off, ended-part}
 
 -- 0..3 and not 3
 pub below-three : (f : Field) → between 0 modeLimit f ≡ true → isNumber 3 f ≡ false → between 0 2 f ≡ true
@@ -309,13 +309,6 @@ module _ (kind j : ℕ) (of : OfSenders kind) (low : j ≤ 16) where
 
   pub leaves-same : (p : Partition) → ListedIn p → Leaves p p
   leaves-same p v = record { stays = stays-same 0 p; lists = v; part = part-whole (waiters senders p) }
-
-  pub leaves-noted : (p q : Partition) → Leaves p q → Leaves p (noted q)
-  leaves-noted p q h = record {
-    stays = record { same = h .stays .same; count = h .stays .count; waits = h .stays .waits };
-    lists = h .lists;
-    part = rw (same-queue senders q (noted q) refl (λ _. refl)) (h .part);
-  }
 
   pub leaves-along : (p q r : Partition) → Leaves p q → Leaves q r → Leaves p r
   leaves-along p q r a b = record { stays = stays-along 0 p q r (a .stays) (b .stays); lists = b .lists; part = part-trans (a .part) (b .part) }

@@ -36,7 +36,7 @@ use Rattle.machine.specs.Fields.{field, requestOf, isNumber, between, is
 use Rattle.machine.specs.Ids.{kept}
 use Rattle.machine.specs.Messages.{noQueue, held, queueOf, first, sent, received, moved, endsWait}
 use Rattle.machine.specs.Process.{blankProcess, classOf, carriedIn, carried, object, served, handed, waitingFor, later}
-use Rattle.machine.specs.Partition.{process, waitsOn, waiters, firstWaiter, stored, applied, running, nothingCreated, tickPartition, noted, freshPartition}
+use Rattle.machine.specs.Partition.{process, waitsOn, waiters, firstWaiter, stored, applied, running, nothingCreated, tickPartition, freshPartition}
 use Rattle.machine.specs.Runs.{next}
 use Rattle.machine.specs.Theorems.LeftRight.{isTick, isZero}
 use Rattle.machine.specs.Decisions.{replyOf, changed, blocked, queued, awaiting}
@@ -48,7 +48,7 @@ use Rattle.machine.specs.Ticks.{partitionCount, tickModule}
 use Rattle.machine.specs.Table.{readTable}
 use Rattle.machine.specs.Step.{contextOf, restarted, moduleAfter, step}
 use Rattle.machine.specs.Theorems.Events.{own}
-use Rattle.machine.specs.Theorems.Valid.{Between, contains, ListedIn, Valid, SoundContext, SoundDecision, SoundMove, SoundModule, Reached, plainTick}
+use Rattle.machine.specs.Theorems.Valid.{Between, contains, ListedIn, Valid, SoundContext, SoundDecision, SoundMove, SoundModule, Reached}
 use Rattle.machine.specs.Theorems.Plain.{plainNumber, plainBetween, plainMoved}
 use Rattle.machine.specs.Theorems.Queues.{queueNumber, ChannelEnds}
 use Rattle.machine.specs.Theorems.Account.{isCall, restartsBy, messageIn, Flow, channelFlow, isSend, isReceive, waitsToSend, sending, keeps, givesUp, Balances, Account}
@@ -66,10 +66,10 @@ use Rattle.machine.proofs.Bodies.{Sends, Receives, OnQueue, Bodily, bod
 use Rattle.machine.proofs.Refusals.{call-in-range}
 use Rattle.machine.proofs.Plain.{lossless}
 use Rattle.machine.proofs.Calling.{field-number, number-of}
-use Rattle.machine.proofs.Reached.{plain-part, tick-module-plain, place, context-sound, made, made-sound, made-body, reached-valid, part-sound, erased-sound, Fills, on-queue, queuing-plain, refilled-table, refilled-sound}
+use Rattle.machine.proofs.Reached.{tick-each, place, context-sound, made, made-sound, made-body, reached-valid, part-sound, erased-sound, Fills, on-queue, queuing-plain, refilled-table, refilled-sound}
 use Rattle.machine.proofs.Tables.{table-read}
 use Rattle.machine.proofs.Answers.{step-table}
-use Rattle.machine.proofs.Orders.{Part, part-whole, part-waits, part-trans, queue-of, same-queue, tick-part, change-part, joins-last, Orderly}
+use Rattle.machine.proofs.Orders.{Part, part-whole, part-waits, part-trans, queue-of, tick-part, change-part, joins-last, Orderly}
 use Rattle.machine.proofs.EveryCall.{call-order}
 use Rattle.machine.proofs.Queues.{first-created}
 use Rattle.machine.proofs.Calmness.{Leaves, leaves-same, OfSenders, Stays, tick-stays, changed-stays, blocked-stays, Calm, on-queue as waits-there}
@@ -204,21 +204,18 @@ module _ (m : Module) (s : SoundModule m) (ends : ChannelEnds m) (i : ℕ) (ther
 
   -- a tick
   tick-even : isTick e ≡ true → Even (tickModule m) 0 0
-  unfolding plainTick
   tick-even t =
       let p = own m from in
       let q = tickPartition (m .t + 1) p in
-      let long : T .size ≤ length (m .partitions) = omega (arith, s .partitionsSize, s .table .size .1) in
-      let is : own (tickModule m) from ≡ noted q = rw (tick-module-plain m (inr s)) (plain-part (T .size) (withTime (m .t + 1) m) long (from - 1) from-inside) in
-      let st = tick-stays 6 (i + 1) of-channels low (m .t + 1) p (source-valid .lists) in
+      let is : own (tickModule m) from ≡ q = tick-each m s (from - 1) from-inside in
       let v = tick-valid (T .frame) (m .t) p source-valid .lists in
       let zero : e .partition ≡ pos 0 = is-zero (e .partition) (and-left (isZero (e .partition)) _ t) in
       let no-from : eqb 0 from ≡ false = ne-eqb 0 from (λ z. omega (arith, from-some)) in
       let no-to : eqb 0 to ≡ false = ne-eqb 0 to (λ z. omega (arith, to-some)) in
       let no-send : isSend flow e ≡ false = rw (zero, no-from) in
       let no-receive : isReceive flow e ≡ false = rw (zero, no-to) in
-      stays-quiet (tickModule m) 5 (rw is (record { same = st .same; count = st .count; waits = st .waits })) (rw is v)
-      (rw (is, same-queue senders q (noted q) refl (λ _. refl)) (tick-part senders some (m .t + 1) p (source-valid .lists)))
+      stays-quiet (tickModule m) 5 (rw is (tick-stays 6 (i + 1) of-channels low (m .t + 1) p (source-valid .lists))) (rw is v)
+      (rw is (tick-part senders some (m .t + 1) p (source-valid .lists)))
       (ap (λ (l : List Queue). getD l i noQueue) (tick-queues (partitionCount T) (withTime (m .t + 1) m)))
       0 0 (rw (zero, no-to)) (rw no-receive) (λ _. rw t) (Fl.no-sent flow m e es (tickModule m) 0 no-send) (Fl.no-received flow m e es (tickModule m) 0 0 no-send no-receive)
     where
@@ -297,11 +294,11 @@ module _ (m : Module) (s : SoundModule m) (ends : ChannelEnds m) (i : ℕ) (ther
         record { is = refused-even a (ne-eqb a 0 (λ z. omega arith)) (ne-eqb a 7 (λ z. omega arith)) }
 
     -- the partition at the other end, stored
-    put : (j : ℕ) → j < T .size → (y : Partition) (u : Module) → u .partitions ≡ m .partitions → part (withPart j y u) j ≡ noted y
-    put j l y u is = rw is (getD-set-same (m .partitions) j (noted y) noPartition (omega (arith, l, s .partitionsSize, s .table .size .1)))
+    put : (j : ℕ) → j < T .size → (y : Partition) (u : Module) → u .partitions ≡ m .partitions → part (withPart j y u) j ≡ y
+    put j l y u is = rw is (getD-set-same (m .partitions) j y noPartition (omega (arith, l, s .partitionsSize, s .table .size .1)))
 
     put-other : (j d : ℕ) (y : Partition) (u : Module) → u .partitions ≡ m .partitions → (d ≡ j → ⊥) → part (withPart j y u) d ≡ part m d
-    put-other j d y u is ne = rw is (getD-set-other (m .partitions) j d (noted y) noPartition ne)
+    put-other j d y u is ne = rw is (getD-set-other (m .partitions) j d y noPartition ne)
 
     -- ------------------------------------------------------------ the queue
     abbrev messages : List ℕ
@@ -367,7 +364,7 @@ module _ (m : Module) (s : SoundModule m) (ends : ChannelEnds m) (i : ℕ) (ther
           let nothing : messages ≡ [] = empty-of messages (size ∙ empty) in
           let held-then : held (queue z i) ≡ [] = moving-held (HandedTo id word) ok ∙ nothing in
           let source-same : own z from ≡ own m from = put-other (to - 1) (from - 1) y u refl (λ z. apart-ends (omega (arith, from-some, to-some))) in
-          let there-is : own z to ≡ noted y = put (to - 1) to-inside y u refl in
+          let there-is : own z to ≡ y = put (to - 1) to-inside y u refl in
           rw (ne-eqb id 0 (λ z. omega (arith, b .0)), eq-eqb from k (sym caller))
           (Fl.handed-even flow m e es to-send no-receive no-restart word is z nothing held-then (free room) (ap (waiters senders) source-same ∙ free room)
           (rw (there-is, h) (handed-one receivers some-receivers (own m to) v id l h word)))
@@ -378,9 +375,9 @@ module _ (m : Module) (s : SoundModule m) (ends : ChannelEnds m) (i : ℕ) (ther
           let y = waitingFor (Source (i + 1) word) until (process id p) in
           let v = own-valid .lists in
           let z = withPart (k - 1) (stored id y p) m in
-          let at : own z from ≡ noted (stored id y p) = ap (λ d. own z d) (sym caller) ∙ put (k - 1) here (stored id y p) m refl in
+          let at : own z from ≡ stored id y p = ap (λ d. own z d) (sym caller) ∙ put (k - 1) here (stored id y p) m refl in
           let back : own m from ≡ p = ap (own m) (sym caller) in
-          let queue-is : sending flow z ≡ sending flow m ++ (id ∷ []) = ap (waiters senders) at ∙ same-queue senders (stored id y p) (noted (stored id y p)) refl (λ _. refl) ∙ joined-queue senders some p v id w y refl ∙ ap (λ (u : Partition). waiters senders u ++ (id ∷ [])) (sym back) in
+          let queue-is : sending flow z ≡ sending flow m ++ (id ∷ []) = ap (waiters senders) at ∙ joined-queue senders some p v id w y refl ∙ ap (λ (u : Partition). waiters senders u ++ (id ∷ [])) (sym back) in
           Fl.blocked-even flow m e es to-send no-receive no-restart word is z id queue-is
           (λ d g. rw at (joined-still senders some p v id w y refl d (rw back at g)))
           (λ d g. ap (λ (u : Partition). carried (process d u)) at ∙ ap carried (joined-same senders some p v id w y refl d (rw back at g)) ∙ ap (λ (u : Partition). carried (process d u)) (sym back))
@@ -448,11 +445,11 @@ module _ (m : Module) (s : SoundModule m) (ends : ChannelEnds m) (i : ℕ) (ther
           let a = LetIn id (carried (process id (own m from))) in
           let u = moving a in
           let z = withPart (from - 1) d u in
-          let at : own z from ≡ noted d = put (from - 1) from-inside d u refl in
+          let at : own z from ≡ d = put (from - 1) from-inside d u refl in
           let small = carried-sound _ (process id (own m from)) (source-valid .eachProcess id b) in
           rw (ne-eqb id 0 (λ z. omega (arith, b .0)), other-side)
           (Fl.let-in-even flow m e es no-send to-receive (never-restart 0) z value (drop 1 messages) (value-first held-some) id l h
-          (ap (waiters senders) at ∙ same-queue senders d (noted d) refl (λ _. refl) ∙ gone-queue senders some (own m from) v id l h y refl)
+          (ap (waiters senders) at ∙ gone-queue senders some (own m from) v id l h y refl)
           (rw at (gone-first senders some (own m from) v id l h y refl)) (stays-on 0)
           (λ w g. rw at (gone-still senders some (own m from) v id l h y refl w g))
           (λ w g. rw at (ap carried (gone-same senders some (own m from) v id l h y refl w g)))
@@ -513,7 +510,7 @@ module _ (m : Module) (s : SoundModule m) (ends : ChannelEnds m) (i : ℕ) (ther
       destination-even is =
           let f : Fills erased k i = record { there = there; few = omega (arith, low); kind = kind; into = sym is } in
           let v = refilled-sound k channelLimit erased erased-valid in
-          let same : own erased from ≡ own m from = getD-set-other (m .partitions) (k - 1) (from - 1) (noted (nothingCreated mode)) noPartition (λ z. apart-ends (let w = q .some in omega (arith, from-some, is))) in
+          let same : own erased from ≡ own m from = getD-set-other (m .partitions) (k - 1) (from - 1) (nothingCreated mode) noPartition (λ z. apart-ends (let w = q .some in omega (arith, from-some, is))) in
           let w = own m from in
           let l = waiters senders w in
           let size-is = c .size in
@@ -531,16 +528,16 @@ module _ (m : Module) (s : SoundModule m) (ends : ChannelEnds m) (i : ℕ) (ther
           quiet-sent quiet-received
 
       -- of the source: its senders go
-      nobody : (o : ℕ) → waiters o (noted (nothingCreated mode)) ≡ []
+      nobody : (o : ℕ) → waiters o (nothingCreated mode) ≡ []
       unfolding waiters kept
       nobody o = refl
 
       source-even : k ≡ from → Even then 0 0
       source-even is =
-          let at : own then from ≡ noted (nothingCreated mode) =
+          let at : own then from ≡ nothingCreated mode =
           ap (own then) (sym is)
           ∙ refilled-part-other k erased erased-valid channelLimit (k - 1) here (λ j f z. let b = s .table .eachChannel j (f .there) in b .apart (let w = q .some in omega (arith, b .source .0, f .into)))
-          ∙ getD-set-same (m .partitions) (k - 1) (noted (nothingCreated mode)) noPartition (omega (arith, here, s .partitionsSize, s .table .size .1)) in
+          ∙ getD-set-same (m .partitions) (k - 1) (nothingCreated mode) noPartition (omega (arith, here, s .partitionsSize, s .table .size .1)) in
           let none : sending flow then ≡ [] = ap (waiters senders) at ∙ nobody senders in
           let off : (id : ℕ) → waitsToSend flow then id ≡ false = λ id. ap (λ (u : Partition). waitsOn senders u id) at ∙ no-process id in
           Fl.quiet-even flow m e es then 0 0 (other-restarts to (λ z. apart-ends (sym is ∙ z))) (rw no-receive) (ap held (queue-stays (λ z. apart-ends (sym is ∙ sym z))))
@@ -549,7 +546,7 @@ module _ (m : Module) (s : SoundModule m) (ends : ChannelEnds m) (i : ℕ) (ther
           (λ id _ _. rw (restarts-by from is) (or-true-last (isTick e) (isCall from 5 e)))
           quiet-sent quiet-received
         where
-          no-process : (id : ℕ) → waitsOn senders (noted (nothingCreated mode)) id ≡ false
+          no-process : (id : ℕ) → waitsOn senders (nothingCreated mode) id ≡ false
           no-process id = rw (named-replicate processLimit processLimit id blankProcess) (ne-eqb 0 senders (λ z. some (sym z)))
 
           or-true-last : (a b : Bool) → (a || (b || true)) ≡ true
@@ -630,9 +627,9 @@ module _ (m : Module) (s : SoundModule m) (ends : ChannelEnds m) (i : ℕ) (ther
           → (code value : ℕ) → restartsBy to e code ≡ false → (y ≡ 5 → givesUp flow e code ≡ true) → Even (withPart (k - 1) z m) code value
       stored-even at z y st v a code value on gives =
           let u = withPart (k - 1) z m in
-          let is : own u from ≡ noted z = ap (own u) (sym at) ∙ put (k - 1) here z m refl in
+          let is : own u from ≡ z = ap (own u) (sym at) ∙ put (k - 1) here z m refl in
           let back : own m from ≡ p = ap (own m) (sym at) in
-          stays-quiet u y (rw (is, back) (record { same = st .same; count = st .count; waits = st .waits })) (rw is v) (rw (is, back, same-queue senders z (noted z) refl (λ _. refl)) a) refl
+          stays-quiet u y (rw (is, back) st) (rw is v) (rw (is, back) a) refl
           code value on (receives-none code) gives (nothing-sent u code) (nothing-received u code value)
 
       -- by the source
@@ -646,7 +643,7 @@ module _ (m : Module) (s : SoundModule m) (ends : ChannelEnds m) (i : ℕ) (ther
           let z = stored id y p in
           let st = blocked-stays 6 (i + 1) of-channels low 0 p v id (w .created) y (w .isReady) f in
           let queue-is : waiters senders z ≡ waiters senders p = joins-last senders some p v id (w .created) y (w .isReady) ∙ rw (ne-eqb (object (y .wait)) senders f) (append-nil (waiters senders p)) in
-          stored-even at z 0 (record { same = st .same; count = st .count; waits = st .waits }) (stored-listed p id y v (w .created)) (rw queue-is (part-whole (waiters senders p))) 7 0 (not-restarted (Blocked id y) is (λ z. z) to) (λ z. absurd (omega arith))
+          stored-even at z 0 st (stored-listed p id y v (w .created)) (rw queue-is (part-whole (waiters senders p))) 7 0 (not-restarted (Blocked id y) is (λ z. z) to) (λ z. absurd (omega arith))
       own-even at (Changed a y v) is h b g f =
           let w = change-valid ctx sound-ctx p own-valid a (h .0) in
           let z = applied y (applied a p) in

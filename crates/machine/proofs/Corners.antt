@@ -17,7 +17,7 @@ use Rattle.machine.specs.declared.Time.{Time}
 use Rattle.machine.specs.declared.Time.the-variants.{Never, At}
 use Rattle.machine.specs.Limits.{processLimit, semaphoreLimit, eventLimit, bufferLimit, messageLimit, blackboardLimit, nameLimit, priorityLimit, valueLimit, durationLimit}
 use Rattle.machine.specs.Process.{blankProcess, ready, withCurrent}
-use Rattle.machine.specs.Partition.{process, semaphore, event, buffer, blackboard, byId, noSemaphore, noEvent, noBuffer, noBlackboard, running, withProcesses, noted, withModeAndLock}
+use Rattle.machine.specs.Partition.{process, semaphore, event, buffer, blackboard, byId, noSemaphore, noEvent, noBuffer, noBlackboard, running, withProcesses, withModeAndLock}
 use Rattle.machine.specs.Theorems.Starts.{Release, NextFlagged}
 use Rattle.machine.specs.Decisions as D
 use Rattle.machine.specs.Calls as C
@@ -263,7 +263,7 @@ module _ (m : Module) (k : ℕ) (u : SoundModule m) (h : Calling m k) where
         let g = c .setMode (pos 3) .1 refl .1 (rw (ne-eqb (p .mode) 3 early)) .1 refl .1 (rw (ne-eqb (p .processCount) 0 (λ z. omega (arith, b .0, b .1)))) .0 refl r f in
         let q = withModeAndLock 3 0 0 p in
         let f = entering (m .t) r in
-        let is = own-after m k u h _ g ∙ ap noted (sym (each-plain f q (v .lists))) in (
+        let is = own-after m k u h _ g ∙ sym (each-plain f q (v .lists)) in (
           g .codeIs,
           ap (λ (q : Partition). q .mode) is ∙ ap (λ (q : Partition). q .mode) (each-rest f q (v .lists)),
           ap (process id) is ∙ each-process f q (v .lists) id b ∙ rw (w, e),

@@ -23,7 +23,7 @@ use Rattle.machine.specs.Limits.{processLimit}
 use Rattle.machine.specs.Fields.{requestOf, numberOf}
 use Rattle.machine.specs.Messages.{sent, received}
 use Rattle.machine.specs.Process.{blankProcess, object, served, ready, ticked, carried}
-use Rattle.machine.specs.Partition.{normalMode, process, stored, endedBy, waiters, firstWaiter, changedAll, applied, tickPartition, noted}
+use Rattle.machine.specs.Partition.{normalMode, process, stored, endedBy, waiters, firstWaiter, changedAll, applied, tickPartition}
 use Rattle.machine.specs.Module.{part, channel}
 use Rattle.machine.specs.Ticks.{tickModule}
 use Rattle.machine.specs.Step.{contextOf}
@@ -127,7 +127,7 @@ module _ (m : Module) (s : SoundModule m) (e : EventT) (k : ℕ) (b : Between 1 
   Left o = (process id o ≡ x) ⊎ (Service m e 0 k id × (process id o ≡ served x))
 
   let-in : e .call ≡ pos 1 → (mode : ℕ) → mode ≤ 2 → e .a ≡ pos mode → (i : ℕ) → i < m .table .channelCount → e .partition ≡ pos (channel (m .table) i .destination) → k ≡ channel (m .table) i .source
-      → (size frame t : ℕ) (o : Partition) → Valid frame t o → Left o → Left (noted (changedAll served (take size (waiters (object (Source (i + 1) 0)) o)) o))
+      → (size frame t : ℕ) (o : Partition) → Valid frame t o → Left o → Left (changedAll served (take size (waiters (object (Source (i + 1) 0)) o)) o)
   let-in call mode low a i l by source size frame t o v h =
       let w = object (Source (i + 1) 0) in
       let c = take size (waiters w o) in
@@ -172,7 +172,6 @@ module _ (m : Module) (s : SoundModule m) (e : EventT) (k : ℕ) (b : Between 1 
 
   kinds : Kinds m s e k b Is Left
   kinds = record {
-    asNoted = λ code o h. h;
     refused = λ n f g. Becomes.same (elsewhere-code m e k id n f g) refl;
     ticked = tick-is;
     another = λ code h by other some. Becomes.same (elsewhere-from m e k id code h by other some) refl;

@@ -27,7 +27,7 @@ use Rattle.machine.specs.Limits.{modeLimit, channelLimit, messageLimit, 
 use Rattle.machine.specs.Fields.{requestOf, numberOf}
 use Rattle.machine.specs.Messages.{noQueue, sent, received, moved, endsWait}
 use Rattle.machine.specs.Process.{Class, classOf, objectIn, object, onObject, carried}
-use Rattle.machine.specs.Partition.{process, waiters, firstWaiter, stored, normalMode, nothingCreated, noted, freshPartition}
+use Rattle.machine.specs.Partition.{process, waiters, firstWaiter, stored, normalMode, nothingCreated, freshPartition}
 use Rattle.machine.specs.Ids.{kept}
 use Rattle.machine.specs.Module.{noPartition, emptyTable, emptyModule, freshModule, channel, part, queue, withPart, withTime}
 use Rattle.machine.specs.Ticks.{partitionCount, tickModule}
@@ -47,7 +47,7 @@ use Rattle.machine.proofs.Kept.{Caller, normal-caller, nothing-valid, w
 use Rattle.machine.proofs.Reached.{at-set, place, context-sound, made, made-sound, made-body, valid-sound, reached-valid, part-sound, erased-sound, Fills, fills, Channelled, on-queue, transfer-sound, queuing-plain, empty-step}
 use Rattle.machine.proofs.Answers.{decided-table}
 use Rattle.machine.proofs.Tables.{table-read}
-use Rattle.machine.proofs.Orders.{Part, same-queue, joins-last, Orderly}
+use Rattle.machine.proofs.Orders.{Part, joins-last, Orderly}
 use Rattle.machine.proofs.EveryCall.{call-order}
 use Rattle.machine.proofs.Queues.{Parts, tick-parts, decided-parts}
 use Rattle.machine.proofs.Fairness.{AtEnd, Fair, part-none, none-first, counts-low}
@@ -138,13 +138,13 @@ module _ (m : Module) (s : SoundModule m) (h : Holds (m .table) m) where
             here = rw is (w .here ∙ let some = c .some in omega arith);
           }
 
-      joins : (o : ℕ) (some : o ≡ 0 → ⊥) (e : List ℕ) → waiters o now ≡ e → eqb (object (y .wait)) o ≡ false → waiters o (noted (stored id y now)) ≡ e
-      joins o some e is off = same-queue o (stored id y now) (noted (stored id y now)) refl (λ _. refl) ∙ joins-last o some now (s .eachPartition (k - 1) here .lists) id b y (q .isReady) ∙ rw off (append-nil (waiters o now)) ∙ is
+      joins : (o : ℕ) (some : o ≡ 0 → ⊥) (e : List ℕ) → waiters o now ≡ e → eqb (object (y .wait)) o ≡ false → waiters o (stored id y now) ≡ e
+      joins o some e is off = joins-last o some now (s .eachPartition (k - 1) here .lists) id b y (q .isReady) ∙ rw off (append-nil (waiters o now)) ∙ is
 
       only-blocked : (kind : ℕ) (e : Channel → ℕ) → 1 ≤ kind → ((j : ℕ) → j ≤ 255 → object (y .wait) ≡ queueNumber kind j → BeginsAt x e j) → Only kind e T m → Only kind e T blocked
       only-blocked kind e some meets only i j l few =
           let o = queueNumber kind j in
-          at-set (λ i p. (waiters o p ≡ []) ⊎ EndOf T e j i) (m .partitions) (k - 1) (noted (stored id y now)) noPartition (omega (arith, here, s .partitionsSize, s .table .size .1)) i
+          at-set (λ i p. (waiters o p ≡ []) ⊎ EndOf T e j i) (m .partitions) (k - 1) (stored id y now) noPartition (omega (arith, here, s .partitionsSize, s .table .size .1)) i
           (either (eqb (object (y .wait)) o)
           (λ t. inr (end-is e j (meets j few (eqb-true _ o t))))
           (λ t. ⊎-elim (λ z. inl (joins o (λ z. omega arith) [] z t)) inr (only (k - 1) j here few)))
@@ -169,7 +169,7 @@ module _ (m : Module) (s : SoundModule m) (h : Holds (m .table) m) where
       }
         where
           stays : (o j : ℕ) → (o ≡ 0 → ⊥) → waiters o (part m j) ≡ [] → (object (y .wait) ≡ o → ⊥) → waiters o (part blocked j) ≡ []
-          stays o j some e off = at-set (λ i p. waiters o (part m i) ≡ [] → waiters o p ≡ []) (m .partitions) (k - 1) (noted (stored id y now)) noPartition (omega (arith, here, s .partitionsSize, s .table .size .1)) j
+          stays o j some e off = at-set (λ i p. waiters o (part m i) ≡ [] → waiters o p ≡ []) (m .partitions) (k - 1) (stored id y now) noPartition (omega (arith, here, s .partitionsSize, s .table .size .1)) j
               (λ z. joins o some [] z (ne-eqb _ o off))
               (λ _ z. z) e
 
@@ -286,7 +286,7 @@ module _ (m : Module) (s : SoundModule m) (h : Holds (m .table) m) where
       sound : SoundModule erased
       sound = part-sound (erasedTo k channelLimit m) (erased-sound k channelLimit m (omega arith) s) (k - 1) here (nothingCreated mode) (nothing-valid (m .table .frame) (m .t) mode low)
 
-      nobody : (o : ℕ) → waiters o (noted (nothingCreated mode)) ≡ []
+      nobody : (o : ℕ) → waiters o (nothingCreated mode) ≡ []
       unfolding waiters kept
       nobody o = refl
 
@@ -304,7 +304,7 @@ module _ (m : Module) (s : SoundModule m) (h : Holds (m .table) m) where
             message = λ _.
                 ap (λ (d : ℕ). waiters (queueNumber 7 (i + 1)) (part (restarted k (nothingCreated mode) m) (d - 1))) (f .into)
                 ∙ ap (waiters (queueNumber 7 (i + 1))) (refilled-part-other k erased sound channelLimit (k - 1) here (λ j o z. let e = s .table .eachChannel j (o .there) in e .apart (omega (arith, e .source .0, e .destination .0, o .into)))
-                ∙ getD-set-same (m .partitions) (k - 1) (noted (nothingCreated mode)) noPartition (omega (arith, here, s .partitionsSize, s .table .size .1)))
+                ∙ getD-set-same (m .partitions) (k - 1) (nothingCreated mode) noPartition (omega (arith, here, s .partitionsSize, s .table .size .1)))
                 ∙ nobody (queueNumber 7 (i + 1));
           }
         where

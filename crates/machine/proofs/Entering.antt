@@ -17,7 +17,7 @@ use Rattle.machine.specs.declared.Partition.{Partition}
 use Rattle.machine.specs.declared.Process.{Process}
 use Rattle.machine.proofs.Calling.{calling-low, calling-sound, calling-valid, own-after}
 use Rattle.machine.proofs.Keeping.{distinct-from, each-changed, each-process, each-rest, from-range, process-created}
-use Rattle.machine.specs.Partition.{each, noted, process, withModeAndLock}
+use Rattle.machine.specs.Partition.{each, process, withModeAndLock}
 use Rattle.machine.proofs.EachCall.{each-call}
 use Rattle.machine.proofs.Plain.{each-plain}
 use Rattle.machine.proofs.Either.{either}
@@ -58,8 +58,8 @@ module _ (m : Module) (k : ℕ) (u : SoundModule m) (h : Calling m k) (early : o
   gives-all = each-call m k h .setMode (pos 3) .1 refl .1 (rw (ne-eqb (p .mode) 3 early)) .1 refl .1 (rw (ne-eqb (p .processCount) 0 some)) .0 refl r
       (release-earliest (m .table) (u .table) (m .t) k (h .some, calling-low m k u h) (u .time))
 
-  after-is : own (step m (enter k) .state) k ≡ noted (each f q)
-  after-is = own-after m k u h _ gives-all ∙ ap noted (sym (each-plain f q (v .lists)))
+  after-is : own (step m (enter k) .state) k ≡ each f q
+  after-is = own-after m k u h _ gives-all ∙ sym (each-plain f q (v .lists))
 
   process-is : (id : ℕ) → Between 1 (p .processCount) id → process id (own (step m (enter k) .state) k) ≡ f (process id p)
   process-is id b = ap (process id) after-is ∙ each-process f q (v .lists) id b

@@ -45,7 +45,7 @@ use Rattle.machine.proofs.Sound.{carried-sound}
 use Rattle.machine.proofs.Calling.{field-number, calling-sound, calling-valid, calling-place, decides, gives, own-after, known}
 use Rattle.machine.proofs.Reached.{valid-sound, reached-valid}
 use Rattle.machine.proofs.Queues.{queue-after, first-created, ended-is, time-out, a-message, ends-handed, first-served-by, none-served, all-served-by, signal-first, signal-none, set-event}
-use Rattle.machine.proofs.Orders.{rest-objects, noted-objects, changes-queue, blackboard-queue}
+use Rattle.machine.proofs.Orders.{rest-objects, changes-queue, blackboard-queue}
 use Rattle.machine.proofs.Available.{none-waits}
 use Rattle.machine.proofs.Ends.{channel-ends}
 use Rattle.machine.proofs.Transfers.{channel-calls}
@@ -95,7 +95,7 @@ module _ (m : Module) (k : ℕ) (u : SoundModule m) (h : Calling m k) where
           let is : applied (Moved j (sent id x)) p ≡ q = rw (ne-eqb id 0 (λ z. omega (arith, c .0)), Mo.handed-same (m .table .frame) (m .t) p valid j b id x) in
           let g = rw is at g in (
             first-served-by m k u h (object (Receiving j)) (λ z. omega arith) p (valid .lists) (λ _. refl) (handed x) (ends-handed x) id rest e 0 sends g,
-            rw (own-after m k u h q g) (noted-objects p q (rest-objects p q (stored-rest p id (handed x (process id p))))),
+            rw (own-after m k u h q g) (rest-objects p q (stored-rest p id (handed x (process id p)))),
           )
 
       send-none : waiters (object (Receiving j)) p ≡ [] → buffer j p .queue .len < buffer j p .limit → NoneServed m k sends (object (Receiving j)) × (held (buffer j (own (step m sends .state) k) .queue) ≡ messages ++ (x ∷ []))

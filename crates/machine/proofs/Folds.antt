@@ -14,9 +14,8 @@ use Rattle.machine.specs.declared.Partition.{Partition}
 use Rattle.machine.specs.declared.Module.{Module}
 use Rattle.machine.specs.declared.Message.{Message}
 use Rattle.machine.specs.declared.Table.{Table}
-use Rattle.machine.specs.Limits.{greatestTime}
 use Rattle.machine.specs.Ids.{members}
-use Rattle.machine.specs.Partition.{process, stored, preferred, chosen, changedAll, eachFrom, sooner, soonestFrom}
+use Rattle.machine.specs.Partition.{process, stored, preferred, chosen, changedAll, eachFrom}
 use Rattle.machine.specs.Module.{channel}
 use Rattle.machine.specs.Decisions.{noMessage}
 use Rattle.machine.specs.Ticks.{tickAt, tickTo}
@@ -53,14 +52,6 @@ module _ (n id : ℕ) (p : Partition) where
   pub each-done : (f : Process → Process) → n ≤ id → eachFrom f (n - id) (id + 1) p ≡ p
   unfolding eachFrom
   each-done f h = let e : n - id ≡ 0 = omega arith in rw e
-
-  pub soonest-more : id < n → soonestFrom (n - id) (id + 1) p ≡ sooner (process (id + 1) p .times .wake) (sooner (process (id + 1) p .times .deadline) (soonestFrom (n - (id + 1)) (id + 1 + 1) p))
-  unfolding soonestFrom
-  soonest-more h = rw (less-one n id h)
-
-  pub soonest-done : n ≤ id → soonestFrom (n - id) (id + 1) p ≡ greatestTime
-  unfolding soonestFrom
-  soonest-done h = let e : n - id ≡ 0 = omega arith in rw e
 
 -- the first partitions, the first channels
 module _ (n : ℕ) (m : Module) where

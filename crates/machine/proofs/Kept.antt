@@ -103,7 +103,7 @@ nothing-valid frame t mode h = record {
 
 pub fresh-valid : (frame t : ℕ) → Valid frame t freshPartition
 unfolding freshPartition
-fresh-valid frame t = let v = nothing-valid frame t 1 (omega arith) in record { mode = v .mode; lock = v .lock; lists = v .lists; objects = v .objects; eachProcess = v .eachProcess }
+fresh-valid frame t = nothing-valid frame t 1 (omega arith)
 
 -- outside NORMAL no process is READY
 pub none-ready : (frame t : ℕ) (p : Partition) → Valid frame t p → normalMode p ≡ false → (id : ℕ) → ready (process id p) ≡ false

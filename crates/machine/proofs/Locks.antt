@@ -25,7 +25,7 @@ use Rattle.machine.specs.declared.Decision.the-variants.{Refused, Unchan
 use Rattle.machine.specs.Limits.{processLimit, semaphoreLimit, eventLimit, bufferLimit, blackboardLimit}
 use Rattle.machine.specs.Fields.{requestOf, numberOf}
 use Rattle.machine.specs.Process.{served, handed, ticked, entered}
-use Rattle.machine.specs.Partition.{within, normalMode, buffer, emptyBuffer, movedIn, endedBy, created, arrivedLast, storedSemaphore, storedEvent, storedBuffer, storedBlackboard, waiters, each, tickPartition, enteredNormal, withMode, applied, noted, partitionAfter}
+use Rattle.machine.specs.Partition.{within, normalMode, buffer, emptyBuffer, movedIn, endedBy, created, arrivedLast, storedSemaphore, storedEvent, storedBuffer, storedBlackboard, waiters, each, tickPartition, enteredNormal, withMode, applied, partitionAfter}
 use Rattle.machine.specs.Module.{part, current}
 use Rattle.machine.specs.Channels.{portOf}
 use Rattle.machine.specs.Step.{contextOf, decision, moduleAfter, sees, step}
@@ -56,9 +56,6 @@ lock-along p q r f g = record { level = g .level ∙ f .level; holder = g .holde
 
 rest-lock : (p q : Partition) → Rest p q → SameLock p q
 rest-lock p q e = record { level = ap (λ (x : Partition). x .level) e; holder = ap (λ (x : Partition). x .holder) e }
-
-noted-lock : (p q : Partition) → SameLock p q → SameLock p (noted q)
-noted-lock p q e = record { level = e .level; holder = e .holder }
 
 buffer-lock : (k : ℕ) (b : Buffer) (p : Partition) → SameLock p (storedBuffer k b p)
 unfolding storedBuffer
@@ -151,7 +148,6 @@ module _ (m : Module) (s : SoundModule m) (e : EventT) where
   event-lock : (i : ℕ) → i < m .table .size → Left i (part (step m e .state) i)
   event-lock = by-partition m s e Left
       (λ i _. left (part m i) (part m i) (same-lock (part m i)))
-      (λ i _ p h. then-left (part m i) p (noted p) h (noted-lock p p (same-lock p)))
       (λ i _. left (part m i) _ (tick-lock (m .t + 1) (part m i)))
       (λ q _. decided-lock q (made m s r q) (made-sound m s r q) (made-body m s r q))
       (λ i _ o size _ _ p _ h. then-left (part m i) p _ h (rest-lock p _ (changed-rest served (take size (waiters o p)) p)))

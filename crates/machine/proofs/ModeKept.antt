@@ -1,6 +1,6 @@
 -- What leaves the mode of a partition, and that a partition in IDLE stays as it is, over one event. Assumes nothing.
 use Prim.Native.Nat.{ℕ, zero, suc, _+_, _<_}
-use mathlib.Core.Path.{_≡_, refl, ap, sym, _∙_}
+use mathlib.Core.Path.{_≡_, refl, ap, _∙_}
 use mathlib.Core.Bool.{false}
 use mathlib.Core.List.{List, []}
 use lib.ListN.{take}
@@ -19,7 +19,7 @@ use Rattle.machine.specs.Limits.{processLimit, semaphoreLimit, eventLimi
 use Rattle.machine.specs.Fields.{requestOf}
 use Rattle.machine.specs.Ids.{members, kept}
 use Rattle.machine.specs.Process.{object, served, handed, ticked, onObject}
-use Rattle.machine.specs.Partition.{within, normalMode, process, buffer, movedIn, endedBy, created, arrivedLast, storedSemaphore, storedEvent, storedBuffer, storedBlackboard, waitsOn, waiters, changedAll, each, tickPartition, applied, partitionAfter, noted, withSoonest}
+use Rattle.machine.specs.Partition.{within, normalMode, process, buffer, movedIn, endedBy, created, arrivedLast, storedSemaphore, storedEvent, storedBuffer, storedBlackboard, waitsOn, waiters, changedAll, each, tickPartition, applied, partitionAfter}
 use Rattle.machine.specs.Decisions.{replyOf}
 use Rattle.machine.specs.Module.{part}
 use Rattle.machine.specs.Step.{step}
@@ -121,7 +121,6 @@ module _ (m : Module) (s : SoundModule m) (e : EventT) where
   unfolding changedAll
   event-mode = by-partition m s e Left
       (λ i l. (λ _. refl, λ _. refl))
-      (λ i l p h. (h .0, λ z. ap noted (h .1 z) ∙ ap (λ n. withSoonest n (part m i)) (sym (s .noted i l))))
       (λ i l. (λ _. tick-mode (m .t + 1) (part m i), λ z. idle-tick (m .t + 1) (part m i) z))
       (λ c is. (
         λ ne. decided-mode _ (requestOf e) _ (made m s (requestOf e) c) (made-stores m s e c) (λ one zero. not-both _ (rw (own-call m e c 1, one, is, zero)) ne),

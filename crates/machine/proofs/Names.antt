@@ -29,7 +29,7 @@ use Rattle.machine.specs.declared.Decision.the-variants.{Refused, Unchan
 use Rattle.machine.specs.Limits.{processLimit, semaphoreLimit, eventLimit, bufferLimit, blackboardLimit, partitionLimit}
 use Rattle.machine.specs.Fields.{requestOf, numberOf}
 use Rattle.machine.specs.Process.{blankProcess, served, handed, ticked, entered}
-use Rattle.machine.specs.Partition.{byId, within, normalMode, noSemaphore, noEvent, noBuffer, noBlackboard, process, buffer, emptyBuffer, movedIn, endedBy, stored, arrivedLast, storedBuffer, waiters, changedAll, each, tickPartition, enteredNormal, withMode, applied, partitionAfter, noted, nothingCreated, freshPartition}
+use Rattle.machine.specs.Partition.{byId, within, normalMode, noSemaphore, noEvent, noBuffer, noBlackboard, process, buffer, emptyBuffer, movedIn, endedBy, stored, arrivedLast, storedBuffer, waiters, changedAll, each, tickPartition, enteredNormal, withMode, applied, partitionAfter, nothingCreated, freshPartition}
 use Rattle.machine.specs.Table.{readTable}
 use Rattle.machine.specs.Module.{noPartition, emptyTable, emptyModule, freshModule, part}
 use Rattle.machine.specs.Step.{contextOf, step}
@@ -100,9 +100,6 @@ rest-names p q e g h = rw e (record {
   buffers = h .buffers;
   blackboards = h .blackboards;
 })
-
-noted-names : (p : Partition) → NamesDiffer p → NamesDiffer (noted p)
-noted-names p h = record { processes = h .processes; semaphores = h .semaphores; events = h .events; buffers = h .buffers; blackboards = h .blackboards }
 
 stored-names : (p : Partition) → ListedIn p → (id : ℕ) (x : Process) → x .given ≡ process id p .given → NamesDiffer p → NamesDiffer (stored id x p)
 stored-names p v id x g = rest-names p _ (stored-rest p id x) (λ y b. ⊎-elim
@@ -207,7 +204,6 @@ decided-names n r c p s v (PassedOn i a value) f g h = h
 event-names : (m : Module) (s : SoundModule m) → ((i : ℕ) → i < m .table .size → NamesDiffer (part m i)) → (e : EventT) (i : ℕ) → i < m .table .size → NamesDiffer (part (step m e .state) i)
 event-names m s h e = by-partition m s e (λ _ q. NamesDiffer q)
     h
-    (λ _ _ p g. noted-names p g)
     (λ i l. tick-names (m .t + 1) (part m i) (s .eachPartition i l .lists) (h i l))
     (λ c _.
     let r = requestOf e in
@@ -219,7 +215,7 @@ event-names m s h e = by-partition m s e (λ _ q. NamesDiffer q)
 
 fresh-names : (T : Table) (i : ℕ) → i < partitionLimit → NamesDiffer (part (freshModule T) i)
 unfolding freshModule freshPartition
-fresh-names T i l = rw (getD-replicate partitionLimit i freshPartition noPartition l) (let h = nothing-names 1 in record { processes = h .processes; semaphores = h .semaphores; events = h .events; buffers = h .buffers; blackboards = h .blackboards })
+fresh-names T i l = rw (getD-replicate partitionLimit i freshPartition noPartition l) (nothing-names 1)
 
 part-names : (m : Module) → Reached m → (i : ℕ) → i < m .table .size → NamesDiffer (part m i)
 unfolding emptyModule emptyTable

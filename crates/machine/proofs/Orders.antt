@@ -24,7 +24,7 @@ use Rattle.machine.specs.declared.Blackboard.{Blackboard as BlackboardT}
 use Rattle.machine.specs.Limits.{processLimit, semaphoreLimit, eventLimit, bufferLimit, blackboardLimit}
 use Rattle.machine.specs.Ids.{members, kept, other}
 use Rattle.machine.specs.Process.{Class, classOf, objectIn, forNormal, blankProcess, object, onObject, periodic, ready, due, waitsForNormal, onlyMarked, served, handed, woken, expired, ticked, entered, startRule}
-use Rattle.machine.specs.Partition.{within, normalMode, process, stored, created, storedSemaphore, storedEvent, storedBuffer, storedBlackboard, emptyBuffer, movedIn, endedBy, buffer, arrivedLast, withLock, changedAll, waitsOn, waiters, applied, tickPartition, enteredNormal, withMode, each, noted}
+use Rattle.machine.specs.Partition.{within, normalMode, process, stored, created, storedSemaphore, storedEvent, storedBuffer, storedBlackboard, emptyBuffer, movedIn, endedBy, buffer, arrivedLast, withLock, changedAll, waitsOn, waiters, applied, tickPartition, enteredNormal, withMode, each}
 use Rattle.machine.specs.Objects.{signalled}
 use Rattle.machine.specs.Theorems.Valid.{Between, contains, ListedIn, Valid, SoundEnd, SoundChange}
 use Rattle.machine.specs.Theorems.Plain.{plainById, followed, plainStored}
@@ -51,9 +51,6 @@ rest-objects p q e = record {
 
 pub same-objects : (p : Partition) → SameObjects p p
 same-objects p = record { semaphores = refl; events = refl; buffers = refl; blackboards = refl }
-
-pub noted-objects : (p q : Partition) → SameObjects p q → SameObjects p (noted q)
-noted-objects p q s = record { semaphores = s .semaphores; events = s .events; buffers = s .buffers; blackboards = s .blackboards }
 
 -- ---------------------------------------------------------------- a process stored
 pub followed-same : (b : Bool) (id : ℕ) (l : List ℕ) → followed b b id l ≡ l

@@ -3,9 +3,8 @@
 use Prim.Native.Nat.{ℕ, _+_, _-_, _≤_, _<_}
 use mathlib.Core.Path.{_≡_, refl}
 use mathlib.Core.Bool.{true}
-use mathlib.Core.Logic.{inr}
 use native.Mathlib.Omega.{arith}
-use lib.ListN.{length, take}
+use lib.ListN.{take}
 use lib.Dec.{eqb}
 use borrow.Author.Tests.{ne-eqb}
 use Rattle.machine.specs.declared.Event.{Event as EventT}
@@ -19,12 +18,12 @@ use Rattle.machine.specs.Limits.{channelLimit}
 use Rattle.machine.specs.Fields.{requestOf, numberOf, between}
 use Rattle.machine.specs.Messages.{endsWait, moved}
 use Rattle.machine.specs.Process.{served}
-use Rattle.machine.specs.Partition.{waiters, changedAll, endedBy, tickPartition, nothingCreated, partitionAfter, noted}
-use Rattle.machine.specs.Module.{noPartition, part, queue, channel, withPart, withQueue, withTime}
+use Rattle.machine.specs.Partition.{waiters, changedAll, endedBy, tickPartition, nothingCreated, partitionAfter}
+use Rattle.machine.specs.Module.{noPartition, part, queue, channel, withPart, withQueue}
 use Rattle.machine.specs.Channels.{portOf, otherEnd, erasedTo}
 use Rattle.machine.specs.Decisions.{replyOf}
 use Rattle.machine.specs.Step.{contextOf, decision, moduleAfter, step}
-use Rattle.machine.specs.Theorems.Valid.{Valid, SoundEnd, SoundDecision, SoundModule, plainTick}
+use Rattle.machine.specs.Theorems.Valid.{Valid, SoundEnd, SoundDecision, SoundModule}
 use Rattle.machine.specs.Theorems.Account.{isCall, codeAt, restartsBy}
 use Rattle.machine.proofs.Tests.{by-test}
 use Rattle.machine.proofs.Refusals.{call-in-range}
@@ -35,7 +34,7 @@ use Rattle.machine.proofs.Stores.{Marks}
 use Rattle.machine.proofs.Dispatch.{Calls, by-event}
 use Rattle.machine.proofs.Bodies.{Bodily}
 use Rattle.machine.proofs.Kept.{nothing-valid}
-use Rattle.machine.proofs.Reached.{at-set, plain-part, tick-module-plain, place, made, made-sound, made-body, part-sound, erased-sound, refilled-keeps, on-queue, transfer-sound}
+use Rattle.machine.proofs.Reached.{at-set, tick-each, place, made, made-sound, made-body, part-sound, erased-sound, refilled-keeps, on-queue, transfer-sound}
 use Rattle.machine.proofs.EveryCall.{call-stores}
 
 -- ---------------------------------------------------------------- the ways in which an event reaches a partition
@@ -43,7 +42,6 @@ use Rattle.machine.proofs.EveryCall.{call-stores}
 -- waits of a queue ended by a restart at the other end of a channel, with a wait ended by a transfer there
 module _ (m : Module) (s : SoundModule m) (e : EventT) (P : ℕ → Partition → Type 0)
     (same : (i : ℕ) → i < m .table .size → P i (part m i))
-    (note : (i : ℕ) → i < m .table .size → (p : Partition) → P i p → P i (noted p))
     (tick : (i : ℕ) → i < m .table .size → P i (tickPartition (m .t + 1) (part m i)))
     (own : let r = requestOf e in
     let k = numberOf (r .partition) in
@@ -58,7 +56,7 @@ module _ (m : Module) (s : SoundModule m) (e : EventT) (P : ℕ → Partition �
 
   -- a partition stored
   puts : (x : Module) → x .partitions ≡ m .partitions → (j : ℕ) → j < m .table .size → (p : Partition) → P j p → (i : ℕ) → i < m .table .size → P i (part (withPart j p x) i)
-  puts x is j inside p h i l = rw is (at-set P (m .partitions) j (noted p) noPartition (omega (arith, inside, s .partitionsSize, s .table .size .1)) i (note j inside p h) (λ _. same i l))
+  puts x is j inside p h i l = rw is (at-set P (m .partitions) j p noPartition (omega (arith, inside, s .partitionsSize, s .table .size .1)) i h (λ _. same i l))
 
   module _ (c : Calls m r) where
     abbrev now : Partition
@@ -80,7 +78,7 @@ module _ (m : Module) (s : SoundModule m) (e : EventT) (P : ℕ → Partition �
         (λ i _ f size frame t p v h.
         let b = s .table .eachChannel i (f .there) .source in
         let l : channel (m .table) i .source - 1 < m .table .size = omega (arith, b .0, b .1) in
-        note _ l _ (lets _ l _ size frame t p v h))
+        lets _ l _ size frame t p v h)
         (puts u refl (k - 1) here p g)
     decided (Written j x) h b g = same
     decided (PassedOn j a v) h b g =
@@ -91,12 +89,10 @@ module _ (m : Module) (s : SoundModule m) (e : EventT) (P : ℕ → Partition �
         (λ _. same)
 
   pub by-partition : (i : ℕ) → i < m .table .size → P i (part (step m e .state) i)
-  unfolding step plainTick
+  unfolding step
   by-partition = by-event m r (λ (d : Decision). replyOf (decision m r) .code ≡ replyOf d .code → (i : ℕ) → i < m .table .size → P i (part (moduleAfter m k d) i))
       (λ _ _ _. same)
-      (λ _ _ _ _ i l.
-      let long : m .table .size ≤ length (m .partitions) = omega (arith, s .partitionsSize, s .table .size .1) in
-      rw (tick-module-plain m (inr s), plain-part (m .table .size) (withTime (m .t + 1) m) long i l) (note i l _ (tick i l)))
+      (λ _ _ _ _ i l. rw (tick-each m s i l) (tick i l))
       (λ c is. decided c (made m s r c) (made-sound m s r c) (made-body m s r c) (own c is))
       refl
 

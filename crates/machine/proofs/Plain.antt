@@ -33,16 +33,16 @@ use Rattle.machine.specs.Messages.{queueOf, endsWait}
 use Rattle.machine.specs.Fields.{field, requestOf, isNumber, between, isMinusOne, numberOf}
 use Rattle.machine.specs.Ids.{members, idsOf, kept, other, removed}
 use Rattle.machine.specs.Process.{blankProcess, later, isNever, periodic, ready, object, carried, served, handed, due, onlyMarked, woken, expired, ticked, entered}
-use Rattle.machine.specs.Partition.{normalMode, noSemaphore, noEvent, noBuffer, noBlackboard, process, buffer, emptyBuffer, movedIn, endedBy, withMode, withProcesses, stored, storedBuffer, arrivedLast, waiters, changedAll, each, tickPartition, enteredNormal, applied, noted}
+use Rattle.machine.specs.Partition.{normalMode, noSemaphore, noEvent, noBuffer, noBlackboard, process, buffer, emptyBuffer, movedIn, endedBy, withMode, withProcesses, stored, storedBuffer, arrivedLast, waiters, changedAll, each, tickPartition, enteredNormal, applied}
 use Rattle.machine.specs.Decisions.{checked, unknown}
 use Rattle.machine.specs.Objects.{oneMore}
 use Rattle.machine.specs.Windows.{lookup, releaseAfter, nextStart}
 use Rattle.machine.specs.Module.{noPartition, emptyTable, emptyModule, channel, part, queue, withPart, withQueue, withTime}
 use Rattle.machine.specs.Channels.{queuingAt, otherEnd, portOf, leadsInto, erasedTo, admitted, refilledAt, refilledTo}
-use Rattle.machine.specs.Ticks.{tickModule}
+use Rattle.machine.specs.Ticks.{tickTo, tickModule}
 use Rattle.machine.specs.Places.{malformed}
 use Rattle.machine.specs.Step.{contextOf, decision, moduleAfter, sees, step}
-use Rattle.machine.specs.Theorems.Valid.{Between, contains, NotAfter, latestWake, latestDeadline, Setting, LastingIn, SoundProcess, ListedIn, Valid, SoundContext, SoundTable, SoundModule, Reached, SoundEnd, SoundChange, SoundDecision, plainLater, plainTick, plainTickTo}
+use Rattle.machine.specs.Theorems.Valid.{Between, contains, NotAfter, latestWake, latestDeadline, Setting, LastingIn, SoundProcess, ListedIn, Valid, SoundContext, SoundTable, SoundModule, Reached, SoundEnd, SoundChange, SoundDecision, plainLater}
 use Rattle.machine.specs.Theorems.Plain.{idsFrom, changedFirst, plainCreated, plainLast, countWith, plainSemaphore, plainEvent, plainBuffer, plainBlackboard, plainEnded, come, atTick, plainEach, plainAll, plainApplied, EndInPlace, InPlace, plainRefilledAt, plainRefilledTo, plainTickPartition, plainTicked, plainAfter, AllInPlace, Uncapped, plainBetween, plainNumber, plainMinusOne, plainUnknown, Lossless, PlainReads, PlainNumbers, PlainTable, CapsSeen, NoBoundActs, EmptyStays}
 use Rattle.machine.proofs.Tests.{by-test, by-tests, and-left, or-left, or-right, not-both}
 use Rattle.machine.proofs.Fields.{in-limits}
@@ -55,7 +55,7 @@ use Rattle.machine.proofs.Sound.{later-plain, later-not-after, at-most-
 use Rattle.machine.proofs.Dispatch.{Calls, by-event}
 use Rattle.machine.proofs.Bodies.{Bodily}
 use Rattle.machine.proofs.Kept.{change-valid, nothing-valid, waiters-created, firsts-created, end-same}
-use Rattle.machine.proofs.Reached.{plain-around, plain-size, plain-other, plain-part, tick-module-plain, place, context-sound, made, made-sound, made-body, decided-sound, reached-valid, part-sound, erased-sound, queuing-plain, refilled-table, refilled-sound, on-queue, transfer-sound}
+use Rattle.machine.proofs.Reached.{tick-around, tick-size, tick-later, tick-first, count-plain, place, context-sound, made, made-sound, made-body, decided-sound, reached-valid, part-sound, erased-sound, queuing-plain, refilled-table, refilled-sound, on-queue, transfer-sound}
 use Rattle.machine.proofs.Starts.{frame-some, release-plain}
 use Rattle.machine.proofs.Answers.{decided-table}
 use Rattle.machine.proofs.Stored.{by-id-plain, stored-plain}
@@ -190,17 +190,16 @@ tick-partition-plain t frame now p v = by-tests (λ (a b : Partition). a ≡ b) 
 
 module _ (m : Module) (s : SoundModule m) where
   pub tick-plain : tickModule m ≡ plainTicked m
-  unfolding plainTick
   tick-plain =
       let n = m .table .size in
       let q = withTime (m .t + 1) m in
-      let f : Partition → Partition = λ p. noted (plainTickPartition (m .t + 1) p) in
+      let f = plainTickPartition (m .t + 1) in
       let long : n ≤ length (m .partitions) = omega (arith, s .partitionsSize, s .table .size .1) in
-      tick-module-plain m (inr s) ∙ plain-around n q ∙ ap (λ (l : List Partition). record { table = m .table; t = m .t + 1; messages = m .messages; queues = m .queues; partitions = l })
-      (ext-getD noPartition (plainTickTo n q .partitions) (changedFirst n f (m .partitions)) (plain-size n q ∙ sym (length-first n f (m .partitions))) (λ i h.
-      sym (first-at n f (m .partitions) noPartition i (rw (plain-size n q) at h) ∙ either (ltb i n)
-      (λ e. rw (e, plain-part n q long i (ltb-true i n e), tick-partition-plain (m .t + 1) (m .table .frame) (m .t) (part m i) (s .eachPartition i (ltb-true i n e))))
-      (λ e. rw (e, plain-other n i q (ltb-false i n e))))))
+      ap (λ n. tickTo n q) (count-plain m s) ∙ tick-around n q ∙ ap (λ (l : List Partition). record { table = m .table; t = m .t + 1; messages = m .messages; queues = m .queues; partitions = l })
+      (ext-getD noPartition (tickTo n q .partitions) (changedFirst n f (m .partitions)) (tick-size n q ∙ sym (length-first n f (m .partitions))) (λ i h.
+      sym (first-at n f (m .partitions) noPartition i (rw (tick-size n q) at h) ∙ either (ltb i n)
+      (λ e. rw (e, tick-first n q long i (ltb-true i n e), tick-partition-plain (m .t + 1) (m .table .frame) (m .t) (part m i) (s .eachPartition i (ltb-true i n e))))
+      (λ e. rw (e, tick-later n i q (ltb-false i n e))))))
 
 -- ---------------------------------------------------------------- channels
 -- one queue filled anew

@@ -16,7 +16,7 @@ use Rattle.machine.specs.declared.Wait.the-variants.{None, Delay, Period
 use Rattle.machine.specs.declared.Field.the-variants.{Number}
 use Rattle.machine.specs.declared.Time.the-variants.{Never}
 use Rattle.machine.specs.Process.{ready, object, waitsForNothing}
-use Rattle.machine.specs.Partition.{normalMode, withSoonest, tickPartition, process, running, waiters, waitsOn, stored, noted}
+use Rattle.machine.specs.Partition.{normalMode, tickPartition, process, running, waiters, waitsOn, stored}
 use Rattle.machine.specs.Module.{current}
 use Rattle.machine.specs.Limits.{timeLimit, callLimit}
 use Rattle.machine.specs.Fields.{requestOf, numberOf}
@@ -45,7 +45,7 @@ use Rattle.machine.proofs.EachCall.{each-event, each-call}
 use Rattle.machine.proofs.Account.{step-size}
 use Rattle.machine.proofs.Kept.{waiters-exact}
 use Rattle.machine.proofs.AtPartition.{ticked-part}
-use Rattle.machine.proofs.Orders.{followed-same, same-queue, stored-queue}
+use Rattle.machine.proofs.Orders.{followed-same, stored-queue}
 use Rattle.machine.proofs.Stored.{stored-plain}
 
 -- ---------------------------------------------------------------- an accepted call
@@ -87,7 +87,7 @@ module _ (m : Module) (k id : ℕ) (c : Calling m k) (e : EventT) (b : Between 1
   lists : ListedIn p
   lists = calling-valid m k (calling-sound m k c) c .lists
 
-  after-is : own (step m e .state) k ≡ noted (stored id x p)
+  after-is : own (step m e .state) k ≡ stored id x p
   after-is = own-after m k (calling-sound m k c) c (stored id x p) (puts-is m k _ _ g (sym (stored-plain p lists id b x)))
 
   process-is : process id (own (step m e .state) k) ≡ x
@@ -96,7 +96,7 @@ module _ (m : Module) (k id : ℕ) (c : Calling m k) (e : EventT) (b : Between 1
   queues-stay : (o : ℕ) → (o ≡ 0 → ⊥) → waiters o (own (step m e .state) k) ≡ waiters o p
   queues-stay o some =
       let q = stored id x p in
-      ap (waiters o) after-is ∙ same-queue o q (noted q) refl (λ _. refl) ∙ stored-queue p lists id b x o some (inr (inr (ap object same)))
+      ap (waiters o) after-is ∙ stored-queue p lists id b x o some (inr (inr (ap object same)))
       ∙ ap (λ n. followed (waitsOn o p id) (eqb n o) id (waiters o p)) (ap object same) ∙ followed-same (waitsOn o p id) id (waiters o p)
 
   stays : ((x .wait ≡ None → ⊥) → x .times .wake ≡ process id p .times .wake) → x .times .release ≡ process id p .times .release → x .times .deadline ≡ process id p .times .deadline
@@ -263,7 +263,7 @@ tick-leaves m s e by z k b =
     let is = tick-state m e by z in
     let p = own m k in
     record {
-      partition = λ early. ap (λ (q : Module). own q k) is ∙ ticked-part m s k b ∙ rw (ne-eqb (p .mode) 3 early) (ap (λ n. withSoonest n p) (sym (s .noted (k - 1) (omega (arith, b .0, b .1)))));
+      partition = λ early. ap (λ (q : Module). own q k) is ∙ ticked-part m s k b ∙ rw (ne-eqb (p .mode) 3 early);
       process = λ id w d. ap (λ (q : Module). process id (own q k)) is ∙ tick-process m s k b id ∙ either (normalMode p) (λ t. rw t (rw (w, d))) (λ t. rw t);
     }
 

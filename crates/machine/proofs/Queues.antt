@@ -27,17 +27,17 @@ use Rattle.machine.specs.Limits.{semaphoreLimit, eventLimit, durationLim
 use Rattle.machine.specs.Messages.{moved, endsWait}
 use Rattle.machine.specs.Ids.{members, keptIf, kept, other}
 use Rattle.machine.specs.Process.{object, onObject, ready, served, handed}
-use Rattle.machine.specs.Partition.{nothingCreated, idleMode, normalMode, noSemaphore, noEvent, process, semaphore, event, stored, storedSemaphore, storedEvent, endedBy, changedAll, waitsOn, waiters, running, applied, withEvents, noted}
+use Rattle.machine.specs.Partition.{nothingCreated, idleMode, normalMode, noSemaphore, noEvent, process, semaphore, event, stored, storedSemaphore, storedEvent, endedBy, changedAll, waitsOn, waiters, running, applied, withEvents}
 use Rattle.machine.specs.Fields.{field, requestOf, isTimeout, isMessage, numberOf}
 use Rattle.machine.specs.Decisions.{checked, replyOf, changed}
 use Rattle.machine.specs.Objects.{oneMore, withUp, signalled, signal, setEvent}
 use Rattle.machine.specs.Channels.{otherEnd, portOf, erasedTo}
 use Rattle.machine.specs.Services.{services, callDecision}
 use Rattle.machine.specs.Places.{strayField}
-use Rattle.machine.specs.Module.{noPartition, channel, part, queue, withPart, withQueue, withTime}
+use Rattle.machine.specs.Module.{noPartition, channel, part, queue, withPart, withQueue}
 use Rattle.machine.specs.Ticks.{tickModule}
 use Rattle.machine.specs.Step.{contextOf, decision, moduleAfter, step}
-use Rattle.machine.specs.Theorems.Valid.{Between, contains, Distinct, ListedIn, Valid, SoundDecision, SoundModule, Reached, plainTick}
+use Rattle.machine.specs.Theorems.Valid.{Between, contains, Distinct, ListedIn, Valid, SoundDecision, SoundModule, Reached}
 use Rattle.machine.specs.Theorems.Plain.{followed, waitOver}
 use Rattle.machine.specs.Theorems.Events.{own, callBy, TimeOut, Calling, Gives}
 use Rattle.machine.specs.Theorems.Queues.{SameObjects, has, joining, QueueAfter, FirstServed, NoneServed, AllServed}
@@ -52,9 +52,9 @@ use Rattle.machine.proofs.Dispatch.{Calls, by-event}
 use Rattle.machine.proofs.Bodies.{Bodily, bodyRefusal}
 use Rattle.machine.proofs.Kept.{tick-valid, change-valid, nothing-valid, Caller, running-caller, waiters-distinct, waiters-on, waiters-created, firsts-created, let-in-valid, ended-valid}
 use Rattle.machine.proofs.Calling.{field-number, from-zero, calling-valid, gives, own-after, known}
-use Rattle.machine.proofs.Reached.{at-set, plain-part, tick-module-plain, place, context-sound, made, made-sound, made-body, decided-sound, valid-sound, reached-valid, part-sound, erased-sound, refilled-keeps, on-queue, transfer-sound}
+use Rattle.machine.proofs.Reached.{at-set, tick-each, place, context-sound, made, made-sound, made-body, decided-sound, valid-sound, reached-valid, part-sound, erased-sound, refilled-keeps, on-queue, transfer-sound}
 use Rattle.machine.proofs.Answers.{decided-table}
-use Rattle.machine.proofs.Orders.{rest-objects, noted-objects, on-some, stored-arrival, waits-same, stored-queue, Part, part-whole, part-trans, part-waits, queue-of, all-part, same-queue, semaphore-queue, event-queue, in-queue, ended-process, ended-queue, Orderly, NotBlocked, part-of, tick-part, ended-part, change-part, joins-last, others-stay}
+use Rattle.machine.proofs.Orders.{rest-objects, on-some, stored-arrival, waits-same, stored-queue, Part, part-whole, part-trans, part-waits, queue-of, all-part, semaphore-queue, event-queue, in-queue, ended-process, ended-queue, Orderly, NotBlocked, tick-part, ended-part, change-part, joins-last, others-stay}
 use Rattle.machine.proofs.EveryCall.{call-order}
 
 -- ---------------------------------------------------------------- every event
@@ -73,10 +73,6 @@ module _ (m : Module) (s : SoundModule m) (o : ℕ) (some : o ≡ 0 → ⊥) whe
       no-one (inl e) = rw e
       no-one (inr e) = rw (e, and-false (eqb code 7))
 
-  -- a partition as it is noted
-  noted-part : (l : List ℕ) (p : Partition) → Part l (waiters o p) → Part l (waiters o (noted p))
-  noted-part l p a = part-trans a (part-of o some _ _ (same-queue o p (noted p) refl (λ _. refl)))
-
   -- a record of the module in which each queue is a part of what it was
   abbrev pub Parts : Module → Type 0
   Parts q = (i : ℕ) → i < m .table .size → ListedIn (part q i) × Part (waiters o (part m i)) (waiters o (part q i))
@@ -88,26 +84,23 @@ module _ (m : Module) (s : SoundModule m) (o : ℕ) (some : o ≡ 0 → ⊥) whe
   parts-follow code e q h k i l = let g = h i l in none-joins code k i (part q i) (inl e) (g .0) (g .1)
 
   pub tick-parts : Parts (tickModule m)
-  unfolding plainTick
   tick-parts i l =
-      let long : m .table .size ≤ length (m .partitions) = omega (arith, s .partitionsSize, s .table .size .1) in
       let p = part m i in
-      rw (tick-module-plain m (inr s), plain-part (m .table .size) (withTime (m .t + 1) m) long i l)
-      (tick-valid (m .table .frame) (m .t) p (s .eachPartition i l) .lists, noted-part (waiters o p) _ (tick-part o some (m .t + 1) p (listed i l)))
+      rw (tick-each m s i l) (tick-valid (m .table .frame) (m .t) p (s .eachPartition i l) .lists, tick-part o some (m .t + 1) p (listed i l))
 
   -- a partition stored whose queue is a part of what it was
   store-parts : (q : Module) → Parts q → length (q .partitions) ≡ partitionLimit → (j : ℕ) → j < m .table .size → (p : Partition) → ListedIn p → Part (waiters o (part q j)) (waiters o p) → Parts (withPart j p q)
   store-parts q h long j here p v a i l =
-      at-set (λ i x. ListedIn x × Part (waiters o (part m i)) (waiters o x)) (q .partitions) j (noted p) noPartition (omega (arith, s .table .size .1)) i
-      (v, noted-part (waiters o (part m j)) p (part-trans (h j here .1) a))
+      at-set (λ i x. ListedIn x × Part (waiters o (part m i)) (waiters o x)) (q .partitions) j p noPartition (omega (arith, s .table .size .1)) i
+      (v, part-trans (h j here .1) a)
       (λ _. h i l)
 
   -- the first who wait at the source of a channel let in
   let-in-parts : (j i n frame t : ℕ) (p : Partition) → Valid frame t p → ListedIn p × Part (waiters o (part m j)) (waiters o p)
-      → let q = noted (changedAll served (take n (waiters (object (Source (i + 1) 0)) p)) p) in ListedIn q × Part (waiters o (part m j)) (waiters o q)
+      → let q = changedAll served (take n (waiters (object (Source (i + 1) 0)) p)) p in ListedIn q × Part (waiters o (part m j)) (waiters o q)
   let-in-parts j i n frame t p v h = (
     let-in-valid frame t p v (object (Source (i + 1) 0)) n .lists,
-    noted-part (waiters o (part m j)) _ (part-trans (h .1) (all-part o some served (λ x. inl refl) (take n (waiters (object (Source (i + 1) 0)) p)) p (v .lists) (firsts-created frame t p v (object (Source (i + 1) 0)) n))),
+    part-trans (h .1) (all-part o some served (λ x. inl refl) (take n (waiters (object (Source (i + 1) 0)) p)) p (v .lists) (firsts-created frame t p v (object (Source (i + 1) 0)) n)),
   )
 
   module _ (r : Request) (c : Calls m r) where
@@ -124,13 +117,13 @@ module _ (m : Module) (s : SoundModule m) (o : ℕ) (some : o ≡ 0 → ⊥) whe
     now-valid = s .eachPartition (k - 1) here
 
     -- the caller begins to wait, the other partitions stay
-    blocks-follow : (id : ℕ) (x : Process) → Between 1 (now .processCount) id → id ≡ running now → ready (process id now) ≡ true → (i : ℕ) → i < m .table .size → Follows 7 k i (getD (set (m .partitions) (k - 1) (noted (stored id x now))) i noPartition)
+    blocks-follow : (id : ℕ) (x : Process) → Between 1 (now .processCount) id → id ≡ running now → ready (process id now) ≡ true → (i : ℕ) → i < m .table .size → Follows 7 k i (getD (set (m .partitions) (k - 1) (stored id x now)) i noPartition)
     blocks-follow id x b is h i l =
         let v = now-valid .lists in
         let q = stored id x now in
-        let e : joining 7 k (k - 1) o now (noted q) ≡ cond (eqb (object (x .wait)) o) (id ∷ []) [] = rw (eq-eqb k (k - 1 + 1) (omega (arith, c .some)), ← is, waits-same now v id b x o some) in
-        at-set (λ i q. Follows 7 k i q) (m .partitions) (k - 1) (noted q) noPartition (omega (arith, here, s .partitionsSize, s .table .size .1)) i
-        (same-queue o q (noted q) refl (λ _. refl) ∙ joins-last o some now v id b x h ∙ sym (ap (λ (l : List ℕ). l ++ joining 7 k (k - 1) o now (noted q)) (others-stay o some now v id b x h) ∙ ap (λ (l : List ℕ). waiters o now ++ l) e))
+        let e : joining 7 k (k - 1) o now q ≡ cond (eqb (object (x .wait)) o) (id ∷ []) [] = rw (eq-eqb k (k - 1 + 1) (omega (arith, c .some)), ← is, waits-same now v id b x o some) in
+        at-set (λ i q. Follows 7 k i q) (m .partitions) (k - 1) q noPartition (omega (arith, here, s .partitionsSize, s .table .size .1)) i
+        (joins-last o some now v id b x h ∙ sym (ap (λ (l : List ℕ). l ++ joining 7 k (k - 1) o now q) (others-stay o some now v id b x h) ∙ ap (λ (l : List ℕ). waiters o now ++ l) e))
         (λ ne. none-joins 7 k i (part m i) (inr (ne-eqb k (i + 1) (λ e. ne (omega arith)))) (listed i l) (part-whole (waiters o (part m i))))
 
     -- the caller in NORMAL
@@ -317,12 +310,12 @@ module _ (m : Module) (k o : ℕ) (some : o ≡ 0 → ⊥) (r : Partition) (v : 
     abbrev q : Partition
     q = stored id x r
 
-    pub served-in : own (step m event .state) k ≡ noted q → FirstServed m k event o id rest (x .message)
+    pub served-in : own (step m event .state) k ≡ q → FirstServed m k event o id rest (x .message)
     served-in after =
         let b = first-created o some r v id rest e in
         record {
           code = code;
-          queue = rw after (same-queue o q (noted q) refl (λ _. refl) ∙ served-queue o some r v id rest e x (ap (λ (y : Process). object (y .wait)) (ends (process id (own m k)))));
+          queue = rw after (served-queue o some r v id rest e x (ap (λ (y : Process). object (y .wait)) (ends (process id (own m k)))));
           ended = rw (after, process-stored r id x v b) (ends (process id (own m k)));
           others = λ y ne. rw after (process-other r id x y ne ∙ same y);
         }
@@ -343,7 +336,7 @@ module _ (m : Module) (k : ℕ) (u : SoundModule m) (h : Calling m k) where
   pub none-served : (o value : ℕ) (event : EventT) (q : Partition) → Gives m event 0 value (At 0) (withPart (k - 1) q m) → waiters o q ≡ [] → q .processes ≡ p .processes → NoneServed m k event o
   none-served o value event q g e f = record {
     code = g .codeIs;
-    queue = rw (own-after m k u h q g) (same-queue o q (noted q) refl (λ _. refl) ∙ e);
+    queue = rw (own-after m k u h q g) e;
     processes = rw (own-after m k u h q g) f;
   }
 
@@ -369,7 +362,7 @@ module _ (m : Module) (k : ℕ) (u : SoundModule m) (h : Calling m k) where
     signal-first id rest e =
         let g = signal-gives (id ∷ rest) e in
         let q = stored id (served (process id p)) p in
-        (first-served-by o some p (valid .lists) (λ _. refl) served ended-is id rest e 0 signals g, rw (own-after m k u h q g) (noted-objects p q (rest-objects p q (stored-rest p id (served (process id p))))))
+        (first-served-by o some p (valid .lists) (λ _. refl) served ended-is id rest e 0 signals g, rw (own-after m k u h q g) (rest-objects p q (stored-rest p id (served (process id p)))))
 
     pub signal-none : waiters o p ≡ [] → NoneServed m k signals o × (semaphore j (own (step m signals .state) k) .value ≡ semaphore j p .value + 1)
     unfolding signalled
@@ -398,7 +391,7 @@ module _ (m : Module) (k : ℕ) (u : SoundModule m) (h : Calling m k) where
         let g = own-after m k u h done gives in
         record {
           code = gives .codeIs;
-          queue = rw g (same-queue o done (noted done) refl (λ _. refl) ∙ ended-queue r v o some f off);
+          queue = rw g (ended-queue r v o some f off);
           ended = λ id c. rw (g, is id, c) (ends (process id p));
           others = λ id c. rw (g, is id, c);
           arrival = rw g (all-served f off o some r v ∙ rw (queue, arrived));

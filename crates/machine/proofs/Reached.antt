@@ -1,4 +1,4 @@
--- Every record that a run reaches is valid, and a tick that passes over partitions is the plain one there. Assumes nothing.
+-- Every record that a run reaches is valid. Assumes nothing.
 use Prim.Native.Nat.{ℕ, zero, suc, _+_, _-_, _≤_, _<_}
 use mathlib.Core.Path.{_≡_, refl, ap, sym, _∙_}
 use mathlib.Core.Bool.{true, false, not, _&&_, and-true, and-false}
@@ -27,17 +27,17 @@ use Rattle.machine.specs.Limits.{timeLimit, durationLimit, messageLimit,
 use Rattle.machine.specs.Fields.{requestOf, numberOf}
 use Rattle.machine.specs.Messages.{noQueue, queueOf, sent, received, moved, endsWait}
 use Rattle.machine.specs.Process.{object, carried, served}
-use Rattle.machine.specs.Partition.{process, waiters, firstWaiter, changedAll, tickPartition, sooner, soonestFrom, soonestOf, withSoonest, noted, partitionAfter, freshPartition}
+use Rattle.machine.specs.Partition.{process, waiters, firstWaiter, changedAll, tickPartition, partitionAfter, freshPartition}
 use Rattle.machine.specs.Decisions.{checked, noMessage}
 use Rattle.machine.specs.Services.{callDecision}
 use Rattle.machine.specs.Module.{noPartition, emptyTable, emptyModule, freshModule, channel, part, withPart, message, queue, withMessages, withMessage, withQueue, withTime}
-use Rattle.machine.specs.Ticks.{tickTo, partitionCount, tickModule}
+use Rattle.machine.specs.Ticks.{tickAt, tickTo, partitionCount, tickModule}
 use Rattle.machine.specs.Channels.{queuing, queuingAt, seenAt, apart, otherEnd, otherQueue, trafficOf, seesTraffic, trafficAt, portOf, passed, leadsInto, keptTo, erasedTo, admitted, refilledAt, refilledTo}
 use Rattle.machine.specs.Places.{noCaller}
 use Rattle.machine.specs.Step.{contextOf, decision, moduleAfter, step}
 use Rattle.machine.specs.Table.{readTable}
 use Rattle.machine.specs.Theorems.Valid.Reached.{stepped}
-use Rattle.machine.specs.Theorems.Valid.{Between, Valid, SoundQueue, SoundMove, SoundEnd, AllMessages, SoundContext, SoundDecision, SoundTable, SoundMessage, Noted, SoundModule, ValidModule, Reached, plainTickTo, plainTick}
+use Rattle.machine.specs.Theorems.Valid.{Between, Valid, SoundQueue, SoundMove, SoundEnd, AllMessages, SoundContext, SoundDecision, SoundTable, SoundMessage, SoundModule, ValidModule, Reached}
 use Rattle.machine.proofs.Tests.{by-test, and-left, and-right}
 use Rattle.machine.proofs.Fields.{in-limits}
 use Rattle.machine.proofs.Bounds.{same-or-not, within-in, getD-replicate-any}
@@ -49,23 +49,11 @@ use Rattle.machine.proofs.Refusals.{call-in-range}
 use Rattle.machine.proofs.Kept.{tick-valid, fresh-valid, SoundPort, decision-valid, ended-valid, let-in-valid, let-in-queue, sent-sound, received-sound}
 use Rattle.machine.proofs.EveryCall.{call-sound}
 use Rattle.machine.proofs.Messages.{queue-sound, moved-sound, first-sound}
-use Rattle.machine.proofs.Quiet.{tick-to-plain}
 use Rattle.machine.proofs.Starts.{release-bounds}
 use Rattle.machine.proofs.WindowLeft.{current-known, window-left}
 use Rattle.machine.proofs.Tables.{table-read}
 
 -- ---------------------------------------------------------------- a partition stored, a message stored
-noted-valid : (frame t : ℕ) (p : Partition) → Valid frame t p → Valid frame t (noted p)
-noted-valid frame t p v = record { mode = v .mode; lock = v .lock; lists = v .lists; objects = v .objects; eachProcess = v .eachProcess }
-
-soonest-noted : (k n id : ℕ) (p : Partition) → soonestFrom n id p ≡ soonestFrom n id (withSoonest k p)
-unfolding soonestFrom
-soonest-noted k zero id p = refl
-soonest-noted k (suc n) id p = ap (λ s. sooner (process id p .times .wake) (sooner (process id p .times .deadline) s)) (soonest-noted k n (id + 1) p)
-
-pub noted-noted : (p : Partition) → Noted (noted p)
-noted-noted p = soonest-noted (soonestOf p) (p .processCount) 1 p
-
 -- what stands at place i of a list after place j has been set
 module _ {A : Type 0} (P : ℕ → A → Type 0) (l : List A) (j : ℕ) (a d : A) where
   pub at-set : j < length l → (i : ℕ) → P j a → ((i ≡ j → ⊥) → P i (getD l i d)) → P i (getD (set l j a) i d)
@@ -84,8 +72,7 @@ module _ (m : Module) (s : SoundModule m) where
         messagesSize = s .messagesSize;
         queuesSize = s .queuesSize;
         time = s .time;
-        eachPartition = λ i l. at-set (λ _ q. Valid (m .table .frame) (m .t) q) (m .partitions) j (noted p) noPartition inside i (noted-valid (m .table .frame) (m .t) p v) (λ _. s .eachPartition i l);
-        noted = λ i l. at-set (λ _ q. Noted q) (m .partitions) j (noted p) noPartition inside i (noted-noted p) (λ _. s .noted i l);
+        eachPartition = λ i l. at-set (λ _ q. Valid (m .table .frame) (m .t) q) (m .partitions) j p noPartition inside i v (λ _. s .eachPartition i l);
         eachMessage = s .eachMessage;
         eachQueue = s .eachQueue;
       }
@@ -98,7 +85,6 @@ module _ (m : Module) (s : SoundModule m) where
     queuesSize = s .queuesSize;
     time = s .time;
     eachPartition = s .eachPartition;
-    noted = s .noted;
     eachQueue = s .eachQueue;
     eachMessage = λ i. at-set (λ _ q. SoundMessage (m .t) q) (m .messages) j x noMessage (omega (arith, s .messagesSize)) i v (λ _. s .eachMessage i);
   }
@@ -111,7 +97,6 @@ module _ (m : Module) (s : SoundModule m) where
     queuesSize = simp length-set (s .queuesSize);
     time = s .time;
     eachPartition = s .eachPartition;
-    noted = s .noted;
     eachMessage = s .eachMessage;
     eachQueue = λ i. at-set (λ i q. SoundQueue (channel (m .table) i .size) q) (m .queues) j q noQueue (omega (arith, s .queuesSize)) i v (λ _. s .eachQueue i);
   }
@@ -124,53 +109,50 @@ no-message t = record { value = omega arith; written = omega arith }
 abbrev pub Around : Module → Module → Type 0
 Around m q = q ≡ record { table = m .table; t = m .t; messages = m .messages; queues = m .queues; partitions = q .partitions }
 
-pub plain-around : (n : ℕ) (m : Module) → Around m (plainTickTo n m)
-unfolding plainTickTo
-plain-around zero m = refl
-plain-around (suc n) m = ap (withPart n (tickPartition (plainTickTo n m .t) (part (plainTickTo n m) n))) (plain-around n m)
+pub tick-around : (n : ℕ) (m : Module) → Around m (tickTo n m)
+unfolding tickTo tickAt
+tick-around zero m = refl
+tick-around (suc n) m = ap (withPart n _) (tick-around n m)
 
-pub plain-size : (n : ℕ) (m : Module) → length (plainTickTo n m .partitions) ≡ length (m .partitions)
-unfolding plainTickTo
-plain-size zero m = refl
-plain-size (suc n) m = simp length-set (plain-size n m)
+pub tick-size : (n : ℕ) (m : Module) → length (tickTo n m .partitions) ≡ length (m .partitions)
+unfolding tickTo tickAt
+tick-size zero m = refl
+tick-size (suc n) m = simp length-set (tick-size n m)
 
-pub plain-other : (n i : ℕ) (m : Module) → n ≤ i → part (plainTickTo n m) i ≡ part m i
-unfolding plainTickTo
-plain-other zero i m h = refl
-plain-other (suc n) i m h = getD-set-other (plainTickTo n m .partitions) n i _ noPartition (λ e. omega arith) ∙ plain-other n i m (omega arith)
+-- a tick of the first n partitions leaves the later ones
+pub tick-later : (n i : ℕ) (m : Module) → n ≤ i → part (tickTo n m) i ≡ part m i
+unfolding tickTo tickAt
+tick-later zero i m h = refl
+tick-later (suc n) i m h = getD-set-other (tickTo n m .partitions) n i _ noPartition (λ e. omega arith) ∙ tick-later n i m (omega arith)
 
 -- each of the first n partitions has been ticked
-pub plain-part : (n : ℕ) (m : Module) → n ≤ length (m .partitions) → (i : ℕ) → i < n → part (plainTickTo n m) i ≡ noted (tickPartition (m .t) (part m i))
-unfolding plainTickTo
-plain-part zero m long i h = absurd (omega arith)
-plain-part (suc n) m long i h =
-    let q = plainTickTo n m in
-    at-set (λ i p. p ≡ noted (tickPartition (m .t) (part m i))) (q .partitions) n _ noPartition (omega (arith, plain-size n m)) i
-    (rw (ap (λ (r : Module). r .t) (plain-around n m), plain-other n n m (omega arith)))
-    (λ ne. plain-part n m (omega arith) i (omega arith))
+pub tick-first : (n : ℕ) (m : Module) → n ≤ length (m .partitions) → (i : ℕ) → i < n → part (tickTo n m) i ≡ tickPartition (m .t) (part m i)
+unfolding tickTo tickAt
+tick-first zero m long i h = absurd (omega arith)
+tick-first (suc n) m long i h =
+    let q = tickTo n m in
+    at-set (λ i p. p ≡ tickPartition (m .t) (part m i)) (q .partitions) n _ noPartition (omega (arith, tick-size n m)) i
+    (rw (ap (λ (r : Module). r .t) (tick-around n m), tick-later n n m (omega arith)))
+    (λ ne. tick-first n m (omega arith) i (omega arith))
 
 module _ (m : Module) (s : SoundModule m) where
   pub count-plain : partitionCount (m .table) ≡ m .table .size
   count-plain = rw (le-leb (m .table .size) partitionLimit (s .table .size .1))
 
-  tick-plain : tickModule m ≡ plainTick m
-  unfolding plainTick
-  tick-plain = rw count-plain (tick-to-plain (m .table .size) (withTime (m .t + 1) m) (s .noted))
+  pub tick-each : (i : ℕ) → i < m .table .size → part (tickModule m) i ≡ tickPartition (m .t + 1) (part m i)
+  tick-each i h = rw count-plain (tick-first (m .table .size) (withTime (m .t + 1) m) (omega (arith, s .partitionsSize, s .table .size .1)) i h)
 
   tick-sound : m .t < timeLimit → SoundModule (tickModule m)
-  unfolding plainTick
   tick-sound room =
-      let n = m .table .size in
+      let n = partitionCount (m .table) in
       let q = withTime (m .t + 1) m in
-      let long : n ≤ length (m .partitions) = omega (arith, s .partitionsSize, s .table .size .1) in
-      rw (tick-plain, plain-around n q) (record {
+      rw (tick-around n q) (record {
         table = s .table;
-        partitionsSize = plain-size n q ∙ s .partitionsSize;
+        partitionsSize = tick-size n q ∙ s .partitionsSize;
         messagesSize = s .messagesSize;
         queuesSize = s .queuesSize;
         time = omega arith;
-        eachPartition = λ i h. rw (plain-part n q long i h) (noted-valid (m .table .frame) (m .t + 1) _ (tick-valid (m .table .frame) (m .t) (part m i) (s .eachPartition i h)));
-        noted = λ i h. rw (plain-part n q long i h) (noted-noted (tickPartition (m .t + 1) (part m i)));
+        eachPartition = λ i h. rw (tick-each i h) (tick-valid (m .table .frame) (m .t) (part m i) (s .eachPartition i h));
         eachMessage = λ i. let x = s .eachMessage i in record { value = x .value; written = omega (arith, x .written) };
         eachQueue = s .eachQueue;
       })
@@ -236,7 +218,7 @@ fills m s k i T e t =
 
 -- what letting in the first who wait at the source of such a channel keeps of each partition, filling queues anew keeps
 pub refilled-keeps : (P : ℕ → Partition → Type 0) (k : ℕ) (m : Module) → SoundModule m → (n : ℕ)
-    → ((i : ℕ) → i < n → Fills m k i → (size frame t : ℕ) (p : Partition) → Valid frame t p → let j = channel (m .table) i .source - 1 in P j p → P j (noted (changedAll served (take size (waiters (object (Source (i + 1) 0)) p)) p)))
+    → ((i : ℕ) → i < n → Fills m k i → (size frame t : ℕ) (p : Partition) → Valid frame t p → let j = channel (m .table) i .source - 1 in P j p → P j (changedAll served (take size (waiters (object (Source (i + 1) 0)) p)) p))
     → ((i : ℕ) → i < m .table .size → P i (part m i)) → (i : ℕ) → i < m .table .size → P i (part (refilledTo k n m) i)
 unfolding refilledTo
 refilled-keeps P k m s zero lets h i l = h i l
@@ -254,7 +236,7 @@ refilled-keeps P k m s (suc n) lets h i l =
     let here : j < m .table .size = omega (arith, b .0, b .1) in
     let is : channel (u .table) n ≡ c = ap (λ (U : Table). channel U n) T in
     let size : u .table .size ≡ m .table .size = ap (λ (U : Table). U .size) T in
-    rw is (at-set P (u .partitions) j (noted (changedAll served (admitted n c (part u j)) (part u j))) noPartition (omega (arith, here, e .partitionsSize, s .table .size .1)) i
+    rw is (at-set P (u .partitions) j (changedAll served (admitted n c (part u j)) (part u j)) noPartition (omega (arith, here, e .partitionsSize, s .table .size .1)) i
     (lets n (omega arith) f (c .size) (u .table .frame) (u .t) (part u j) (e .eachPartition j (omega arith)) (ih j here))
     (λ _. ih i l)))
     (λ _. ih i l)
@@ -398,10 +380,6 @@ empty-queue : (n : ℕ) → SoundQueue n noQueue
 unfolding AllMessages
 empty-queue n = queue-sound n [] (omega arith) tt
 
-fresh-noted : Noted freshPartition
-unfolding freshPartition soonestFrom
-fresh-noted = refl
-
 pub fresh-sound : (T : Table) → SoundTable T → SoundModule (freshModule T)
 unfolding freshModule
 fresh-sound T s = record {
@@ -411,7 +389,6 @@ fresh-sound T s = record {
   queuesSize = refl;
   time = omega arith;
   eachPartition = λ i h. rw (getD-replicate partitionLimit i freshPartition noPartition (omega (arith, s .size .1))) (fresh-valid (T .frame) 0);
-  noted = λ i h. rw (getD-replicate partitionLimit i freshPartition noPartition (omega (arith, s .size .1))) fresh-noted;
   eachMessage = λ i. rw (getD-replicate-any channelLimit i noMessage) (no-message 0);
   eachQueue = λ i. rw (getD-replicate-any channelLimit i noQueue) (empty-queue (channel T i .size));
 }
@@ -423,15 +400,6 @@ reached-valid m (Reached.read input) =
     (λ e. let a = t .accepted (eqb-true _ 0 e) in inr (rw (a .1) (fresh-sound (readTable input .state .table) (a .0))))
     (λ e. inl (t .refused (eqb-false _ 0 e)))
 reached-valid _ (stepped m e h) = step-valid m e (reached-valid m h)
-
-empty-tick : tickModule emptyModule ≡ plainTick emptyModule
-unfolding plainTick plainTickTo tickTo emptyModule emptyTable
-empty-tick = refl
-
--- the tick of a reached record is the plain one: every partition is ticked and stored
-pub tick-module-plain : (m : Module) → ValidModule m → tickModule m ≡ plainTick m
-tick-module-plain m (inl h) = rw h empty-tick
-tick-module-plain m (inr s) = tick-plain m s
 
 -- ---------------------------------------------------------------- what holds of both kinds of valid record
 pub record Sized (m : Module) : Type 0 where

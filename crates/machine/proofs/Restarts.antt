@@ -20,7 +20,7 @@ use Rattle.machine.specs.declared.Wait.the-variants.{Source}
 use Rattle.machine.specs.Ids.{kept}
 use Rattle.machine.specs.Messages.{noQueue, queueOf}
 use Rattle.machine.specs.Process.{object, carried, served}
-use Rattle.machine.specs.Partition.{process, waitsOn, waiters, changedAll, noted}
+use Rattle.machine.specs.Partition.{process, waitsOn, waiters, changedAll}
 use Rattle.machine.specs.Module.{noPartition, channel, part, queue}
 use Rattle.machine.specs.Channels.{queuing, queuingAt, leadsInto, admitted, refilledTo}
 use Rattle.machine.specs.Theorems.Valid.{contains, Distinct, Valid, SoundModule}
@@ -31,7 +31,7 @@ use Rattle.machine.proofs.Tracking.{kept-all}
 use Rattle.machine.proofs.Keeping.{changed-process}
 use Rattle.machine.proofs.Kept.{waiters-distinct, take-in, firsts-created, firsts-distinct, let-in-valid}
 use Rattle.machine.proofs.Reached.{at-set, Fills, fills, refilled-table, refilled-sound, refilled-keeps}
-use Rattle.machine.proofs.Orders.{part-waits, queue-of, all-part, same-queue}
+use Rattle.machine.proofs.Orders.{part-waits, queue-of, all-part}
 use Rattle.machine.proofs.Calmness.{on-queue}
 
 -- ---------------------------------------------------------------- the first n of a list
@@ -177,7 +177,7 @@ module _ (k : ℕ) (m : Module) (s : SoundModule m) where
         let ne : object (Source (o + 1) 0) ≡ senders → ⊥ = λ e. omega arith in
         let q = changedAll served (take size (waiters (object (Source (o + 1) 0)) p)) p in
         record {
-          waits = same-queue senders q (noted q) refl (λ _. refl) ∙ let-in-queue-other frame t p v (object (Source (o + 1) 0)) size senders (λ e. omega arith) ne ∙ w .waits;
+          waits = let-in-queue-other frame t p v (object (Source (o + 1) 0)) size senders (λ e. omega arith) ne ∙ w .waits;
           each = λ y e. let-in-process-other frame t p v (object (Source (o + 1) 0)) size senders ne y (rw (w .waits) e) ∙ w .each y e;
         })
         (λ j l is. rw is (record { waits = refl; each = λ _ _. refl }))
@@ -228,8 +228,7 @@ module _ (k : ℕ) (m : Module) (s : SoundModule m) where
         let p = part u from in
         let q = changedAll served (admitted i c p) p in
         by-test (λ (x : Module). waiters senders (part x from) ≡ drop (c .size) (waiters senders (part m from))) (filled k (u .table) i)
-        (λ _. rw to (ap (waiters senders) (getD-set-same (u .partitions) from (noted q) noPartition (omega (arith, inside, e .partitionsSize, s .table .size .1)))
-        ∙ same-queue senders q (noted q) refl (λ _. refl)
+        (λ _. rw to (ap (waiters senders) (getD-set-same (u .partitions) from q noPartition (omega (arith, inside, e .partitionsSize, s .table .size .1)))
         ∙ let-in-queue-own (u .table .frame) (u .t) p (e .eachPartition from (omega (arith, inside))) senders (c .size) (λ z. omega arith)
         ∙ ap (drop (c .size)) (unserved i (omega arith) .waits)))
         (λ o. not-both _ on o)
@@ -254,8 +253,8 @@ module _ (k : ℕ) (m : Module) (s : SoundModule m) where
         (λ t.
         let b = e .table .eachChannel n (fills u e k n (u .table) refl t .there) .source in
         let here : j < u .table .size = omega (arith, b .0, b .1) in
-        at-set (λ y z. y ≡ from → waiters senders z ≡ drop (c .size) (waiters senders (part m from))) (u .partitions) j (noted q) noPartition (omega (arith, here, e .partitionsSize, e .table .size .1)) from
-        (λ is. same-queue senders q (noted q) refl (λ _. refl) ∙ let-in-queue-other (u .table .frame) (u .t) p (e .eachPartition j here) o (x .size) senders (λ z. omega arith) (λ z. ne (omega arith)) ∙ ap (λ y. waiters senders (part u y)) is ∙ ih)
+        at-set (λ y z. y ≡ from → waiters senders z ≡ drop (c .size) (waiters senders (part m from))) (u .partitions) j q noPartition (omega (arith, here, e .partitionsSize, e .table .size .1)) from
+        (λ is. let-in-queue-other (u .table .frame) (u .t) p (e .eachPartition j here) o (x .size) senders (λ z. omega arith) (λ z. ne (omega arith)) ∙ ap (λ y. waiters senders (part u y)) is ∙ ih)
         (λ _ _. ih) refl)
         (λ _. ih))
         (same-or-not i n)
@@ -278,7 +277,7 @@ module _ (k : ℕ) (m : Module) (s : SoundModule m) where
         let w = unserved i (omega arith) in
         let q = changedAll served (admitted i c p) p in
         by-test (λ (x : Module). process y (part x from) ≡ served (process y (part m from))) (filled k (u .table) i)
-        (λ _. rw to (ap (process y) (getD-set-same (u .partitions) from (noted q) noPartition (omega (arith, inside, e .partitionsSize, s .table .size .1)))
+        (λ _. rw to (ap (process y) (getD-set-same (u .partitions) from q noPartition (omega (arith, inside, e .partitionsSize, s .table .size .1)))
         ∙ changed-process served (admitted i c p) p (v .lists) (firsts-created (u .table .frame) (u .t) p v senders (c .size)) (firsts-distinct (u .table .frame) (u .t) p v senders (c .size)) y
         ∙ rw (w .waits, is, w .each y (take-in (c .size) (waiters senders (part m from)) y is))))
         (λ o. not-both _ on o)
@@ -303,7 +302,7 @@ module _ (k : ℕ) (m : Module) (s : SoundModule m) where
         (λ t.
         let b = e .table .eachChannel n (fills u e k n (u .table) refl t .there) .source in
         let here : j < u .table .size = omega (arith, b .0, b .1) in
-        at-set (λ z r. z ≡ from → process y r ≡ served (process y (part m from))) (u .partitions) j (noted q) noPartition (omega (arith, here, e .partitionsSize, e .table .size .1)) from
+        at-set (λ z r. z ≡ from → process y r ≡ served (process y (part m from))) (u .partitions) j q noPartition (omega (arith, here, e .partitionsSize, e .table .size .1)) from
         (λ is.
         let was : process y p ≡ served (process y (part m from)) = ap (λ z. process y (part u z)) is ∙ ih in
         let off : contains y (take (x .size) (waiters o p)) ≡ false = either (contains y (take (x .size) (waiters o p)))

@@ -18,7 +18,6 @@ use Rattle.machine.specs.Table.{readTable}
 use Rattle.machine.specs.Runs.{after, answers}
 use Rattle.machine.specs.Theorems.LeftRight.{LeftRight}
 use Rattle.machine.specs.Theorems.Valid.{SoundTable}
-use Rattle.machine.proofs.Tests.{by-test}
 use Rattle.machine.proofs.Dispatch.{ticks-decided}
 use Rattle.machine.proofs.Isolation.{left-right}
 use Rattle.machine.proofs.Tables.{table-read}
@@ -26,7 +25,7 @@ use Rattle.machine.proofs.Tables.{table-read}
 pub tick-time : (n : ℕ) (m : Module) → Ti.tickTo n m .t ≡ m .t
 unfolding Ti.tickTo Ti.tickAt
 tick-time zero m = refl
-tick-time (suc n) m = by-test (λ (x : Module). x .t ≡ m .t) (Ti.dueAt n (Ti.tickTo n m)) (λ _. tick-time n m) (λ _. tick-time n m)
+tick-time (suc n) m = tick-time n m
 
 -- time rises by one with every tick below 99,999,999
 pub time-rises : (m : Module) (e : Event) → Pl.malformed (m .table) (requestOf e) ≡ false → eqb (numberOf (requestOf e .partition)) 0 ≡ true → m .t < timeLimit

@@ -17,7 +17,7 @@ use Rattle.machine.specs.Limits.{modeLimit, channelLimit}
 use Rattle.machine.specs.Fields.{numberOf}
 use Rattle.machine.specs.Messages.{sent, received, endsWait}
 use Rattle.machine.specs.Process.{object, carried, served}
-use Rattle.machine.specs.Partition.{process, endedBy, firstWaiter, waiters, changedAll, nothingCreated, noted}
+use Rattle.machine.specs.Partition.{process, endedBy, firstWaiter, waiters, changedAll, nothingCreated}
 use Rattle.machine.specs.Channels.{otherEnd, otherQueue, portOf, passed, erasedTo}
 use Rattle.machine.specs.Theorems.Valid.{SoundModule}
 use Rattle.machine.specs.Theorems.Queues.{queueNumber}
@@ -26,7 +26,7 @@ use Rattle.machine.proofs.Dispatch.{Calls}
 use Rattle.machine.proofs.Bodies.{Sends, Receives, OnQueue}
 use Rattle.machine.proofs.Reached.{at-set, place, part-sound, erased-sound, Fills, refilled-keeps, transfer-sound, on-queue as on-queue-of}
 use Rattle.machine.proofs.Kept.{nothing-valid}
-use Rattle.machine.proofs.Calmness.{OfSenders, senders, CalmEnd, sent-calm, received-calm, Leaves, leaves-same, leaves-noted, leaves-along, end-leaves, let-in-leaves}
+use Rattle.machine.proofs.Calmness.{OfSenders, senders, CalmEnd, sent-calm, received-calm, Leaves, leaves-same, leaves-along, end-leaves, let-in-leaves}
 
 module _ (kind j : ℕ) (of : OfSenders kind) (low : j ≤ 16) where
   -- ---------------------------------------------------------------- transfers and restarts
@@ -49,8 +49,8 @@ module _ (kind j : ℕ) (of : OfSenders kind) (low : j ≤ 16) where
         (λ (h : Receives (portOf m caller r) (numberOf (r .call)) a v). let is : a ≡ received (firstWaiter o p) (carried (process (firstWaiter o p) p)) = h .transfer ∙ ap (λ (x : Traffic). received (x .waiter) (x .carried)) (w .sees) in rw is (received-calm kind j of low 0 o p ne (carried (process (firstWaiter o p) p))))
         (b .end) in
         by-test (λ (x : Module). Leaves kind j of low (part m (k - 1)) (part x (k - 1))) (endsWait a)
-        (λ _. at-set (λ i x. Leaves kind j of low (part m i) x) (m .partitions) e (noted (endedBy a p)) noPartition (omega (arith, w .inside, s .partitionsSize, s .table .size .1)) (k - 1)
-        (leaves-noted kind j of low p (endedBy a p) (end-leaves kind j of low (m .table .frame) (m .t) p valid (c .size) (queue m i) a (t .1) (t .2) calm))
+        (λ _. at-set (λ i x. Leaves kind j of low (part m i) x) (m .partitions) e (endedBy a p) noPartition (omega (arith, w .inside, s .partitionsSize, s .table .size .1)) (k - 1)
+        (end-leaves kind j of low (m .table .frame) (m .t) p valid (c .size) (queue m i) a (t .1) (t .2) calm)
         (λ _. leaves-same kind j of low (part m (k - 1)) (s .eachPartition (k - 1) inside .lists)))
         (λ _. leaves-same kind j of low (part m (k - 1)) (s .eachPartition (k - 1) inside .lists))
 
@@ -64,6 +64,6 @@ module _ (kind j : ℕ) (of : OfSenders kind) (low : j ≤ 16) where
         let sound = part-sound u (erased-sound caller channelLimit m (omega arith) s) (caller - 1) here p (nothing-valid (m .table .frame) (m .t) mode few) in
         let caller-some = q .some in
         refilled-keeps (λ i y. i ≡ k - 1 → Leaves kind j of low (part m (k - 1)) y) caller x sound channelLimit
-        (λ i _ f n frame t y v h is. leaves-noted kind j of low (part m (k - 1)) (changedAll served (take n (waiters (object (Source (i + 1) 0)) y)) y) (leaves-along kind j of low (part m (k - 1)) y (changedAll served (take n (waiters (object (Source (i + 1) 0)) y)) y) (h is) (let-in-leaves kind j of low frame t y v (object (Source (i + 1) 0)) n (other i (record { there = f .there; few = f .few; kind = f .kind; into = f .into })))))
-        (λ i l is. rw is (rw (getD-set-other (m .partitions) (caller - 1) (k - 1) (noted p) noPartition (λ z. ne (omega arith))) (leaves-same kind j of low (part m (k - 1)) (s .eachPartition (k - 1) inside .lists))))
+        (λ i _ f n frame t y v h is. leaves-along kind j of low (part m (k - 1)) y (changedAll served (take n (waiters (object (Source (i + 1) 0)) y)) y) (h is) (let-in-leaves kind j of low frame t y v (object (Source (i + 1) 0)) n (other i (record { there = f .there; few = f .few; kind = f .kind; into = f .into }))))
+        (λ i l is. rw is (rw (getD-set-other (m .partitions) (caller - 1) (k - 1) p noPartition (λ z. ne (omega arith))) (leaves-same kind j of low (part m (k - 1)) (s .eachPartition (k - 1) inside .lists))))
         (k - 1) inside refl

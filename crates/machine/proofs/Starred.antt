@@ -3,7 +3,7 @@ use Prim.Native.Nat.{ℕ, zero, suc, _+_, _-_, _*_, _≤_, _<_}
 use mathlib.Core.Path.{_≡_, refl, sym, ap, _∙_}
 use mathlib.Core.Bool.{Bool, true, false, cond, not, _||_, and-false, or-true, _&&_}
 use mathlib.Core.List.{List, [], _∷_, _++_, map}
-use mathlib.Core.Logic.{inr, ⊎-elim}
+use mathlib.Core.Logic.{⊎-elim}
 use native.Mathlib.Omega.{arith}
 use lib.IntN.{pos}
 use lib.ListN.{getD, take}
@@ -31,7 +31,7 @@ use Rattle.machine.specs.Fields.{field, requestOf, isNumber, numberOf}
 use Rattle.machine.specs.Ids.{members, kept}
 use Rattle.machine.specs.Messages.{noQueue, held, endsWait}
 use Rattle.machine.specs.Process.{due, object, carried, onObject, ready, onlyMarked, waitEnded, woken, expired, ticked, waitsForNothing}
-use Rattle.machine.specs.Partition.{process, semaphore, event, waitsOn, waiters, tickPartition, noted, nothingCreated}
+use Rattle.machine.specs.Partition.{process, semaphore, event, waitsOn, waiters, tickPartition, nothingCreated}
 use Rattle.machine.specs.Services.{services, callDecision}
 use Rattle.machine.specs.Decisions as D
 use Rattle.machine.specs.Calls as C
@@ -43,7 +43,7 @@ use Rattle.machine.specs.Places as Pl
 use Rattle.machine.specs.Step as St
 use Rattle.machine.specs.Theorems.Events.{own, callBy, tick, Gives, Calling}
 use Rattle.machine.specs.Theorems.Starred.{WaitEnded, ReadyUnmarked, Ticks, Mistakes, Starred}
-use Rattle.machine.specs.Theorems.Valid.{Between, SoundModule, contains, plainTick}
+use Rattle.machine.specs.Theorems.Valid.{Between, SoundModule, contains}
 use Rattle.machine.specs.Theorems.Plain.{letGo}
 use Rattle.machine.proofs.Tests.{by-test, and-left, and-right}
 use Rattle.machine.proofs.Bounds.{not-so}
@@ -55,7 +55,7 @@ use Rattle.machine.proofs.Keeping.{each-process}
 use Rattle.machine.proofs.Kept.{waiters-exact, nothing-valid}
 use Rattle.machine.proofs.Lists.{held-queueOf}
 use Rattle.machine.proofs.Restarts.{refilled-messages, refilled-queue, refilled-queue-other, refilled-served, refilled-part-other}
-use Rattle.machine.proofs.Reached.{reached-valid, valid-sound, plain-part, tick-module-plain, part-sound, erased-sound, Fills, queuing-plain}
+use Rattle.machine.proofs.Reached.{reached-valid, valid-sound, tick-each, part-sound, erased-sound, Fills, queuing-plain}
 use Rattle.machine.proofs.Queues.{signal-first, set-event}
 use Rattle.machine.proofs.Calling.{field-number, from-zero, number-is, number-of, calling-sound, calling-place, calling-valid, gives}
 use Rattle.machine.proofs.Worked.{worked}
@@ -109,7 +109,7 @@ erased-own k n m i h d = kept-at (m .table) k n (m .messages) i ∙ rw (lt-ltb i
 pub tick-messages : (n : ℕ) (m : Module) → Ti.tickTo n m .messages ≡ m .messages
 unfolding Ti.tickTo Ti.tickAt
 tick-messages zero m = refl
-tick-messages (suc n) m = by-test (λ (x : Module). x .messages ≡ m .messages) (Ti.dueAt n (Ti.tickTo n m)) (λ _. tick-messages n m) (λ _. tick-messages n m)
+tick-messages (suc n) m = tick-messages n m
 
 restart-keeps : (m : Module) (e : EventT) (i : ℕ) → (e .call ≡ pos 21 → ⊥) → (e .partition ≡ pos (M.channel (m .table) i .destination) → ⊥) → M.message (St.step m e .state) i ≡ M.message m i
 unfolding St.step
@@ -137,7 +137,7 @@ restart-keeps m e i w d =
 pub tick-queues : (n : ℕ) (m : Module) → Ti.tickTo n m .queues ≡ m .queues
 unfolding Ti.tickTo Ti.tickAt
 tick-queues zero m = refl
-tick-queues (suc n) m = by-test (λ (x : Module). x .queues ≡ m .queues) (Ti.dueAt n (Ti.tickTo n m)) (λ _. tick-queues n m) (λ _. tick-queues n m)
+tick-queues (suc n) m = tick-queues n m
 
 restart-keeps-queue : (m : Module) (e : EventT) (i : ℕ) → (e .call ≡ pos 30 → ⊥) → (e .call ≡ pos 31 → ⊥) → (e .partition ≡ pos (M.channel (m .table) i .destination) → ⊥) → M.queue (St.step m e .state) i ≡ M.queue m i
 unfolding St.step
@@ -259,11 +259,6 @@ module _ (t : ℕ) (x : Process) where
     marked = λ w s. suspended-not-ready (ticked t x) (expired-past t (woken t x) .mark ∙ woken-marked t x (waits (x .wait) w) ∙ s);
   }
 
-every-partition-ticks : (m : Module) → SoundModule m → (i : ℕ) → i < m .table .size → M.part (Ti.tickModule m) i ≡ noted (tickPartition (m .t + 1) (M.part m i))
-unfolding plainTick
-every-partition-ticks m s i l =
-    rw (tick-module-plain m (inr s)) (plain-part (m .table .size) (M.withTime (m .t + 1) m) (omega (arith, s .partitionsSize, s .table .size .1)) i l)
-
 -- a tick is an event of its own
 tick-formed : (m : Module) → 1 ≤ m .table .size → Pl.malformed (m .table) (requestOf tick) ≡ false
 unfolding Pl.strayField
@@ -273,7 +268,7 @@ module _ (m : Module) (u : SoundModule m) (room : m .t < timeLimit) (k id : ℕ)
   ticked-process : process id (own (Ti.tickModule m) k) ≡ ticked (m .t + 1) (process id (own m k))
   unfolding tickPartition
   ticked-process =
-      ap (process id) (every-partition-ticks m u (k - 1) (omega (arith, b .0, b .1)))
+      ap (process id) (tick-each m u (k - 1) (omega (arith, b .0, b .1)))
       ∙ rw (eq-eqb (own m k .mode) 3 normal) (each-process (ticked (m .t + 1)) (own m k) (u .eachPartition (k - 1) (omega (arith, b .0, b .1)) .lists) id c)
 
   never-frozen : (St.step m tick .answer .code ≡ 0) × Ticks (m .t + 1) (process id (own m k)) (process id (own (St.step m tick .state) k))
@@ -286,14 +281,14 @@ module _ (m : Module) (u : SoundModule m) (room : m .t < timeLimit) (k id : ℕ)
 module _ (m : Module) (k : ℕ) (u : SoundModule m) (h : Calling m k) where
   -- ---------------------------------------------------------------- modes 0, 1, 2
   -- the caller's partition then: nothing refills it
-  pub own-restarted : (mode : ℕ) → mode ≤ modeLimit → own (St.restarted k (nothingCreated mode) m) k ≡ noted (nothingCreated mode)
+  pub own-restarted : (mode : ℕ) → mode ≤ modeLimit → own (St.restarted k (nothingCreated mode) m) k ≡ nothingCreated mode
   own-restarted mode low =
       let p = nothingCreated mode in
       let place = calling-place m k u h in
       let erased = Ch.erasedTo k channelLimit m in
       let w = part-sound erased (erased-sound k channelLimit m (omega arith) u) (k - 1) place p (nothing-valid (m .table .frame) (m .t) mode low) in
       refilled-part-other k (M.withPart (k - 1) p erased) w channelLimit (k - 1) place (λ i f z. let c = u .table .eachChannel i (f .there) in c .apart (omega (arith, c .source .0, c .destination .0, f .into)))
-      ∙ getD-set-same (m .partitions) (k - 1) (noted p) M.noPartition (omega (arith, place, u .partitionsSize, u .table .size .1))
+      ∙ getD-set-same (m .partitions) (k - 1) p M.noPartition (omega (arith, place, u .partitionsSize, u .table .size .1))
 
   module _ (mode : ℕ) (low : mode ≤ 2) (warm : mode ≡ 2 → own m k .mode ≡ 1 → ⊥) where
     pub restart-gives : Gives m (callBy k 1 (pos mode) (pos 0) (pos 0) (pos 0)) 0 0 (At 0) (St.restarted k (nothingCreated mode) m)
@@ -306,7 +301,7 @@ module _ (m : Module) (k : ℕ) (u : SoundModule m) (h : Calling m k) where
         not-warm = not-so _ (λ t. warm (eqb-true mode 2 (and-left (eqb mode 2) _ t)) (eqb-true (own m k .mode) 1 (and-right (eqb mode 2) _ t)))
 
     restart-is : let e = callBy k 1 (pos mode) (pos 0) (pos 0) (pos 0) in
-        (St.step m e .answer .code ≡ 0) × (own (St.step m e .state) k ≡ noted (nothingCreated mode))
+        (St.step m e .answer .code ≡ 0) × (own (St.step m e .state) k ≡ nothingCreated mode)
         × ((i : ℕ) → i < m .table .channelCount → M.channel (m .table) i .destination ≡ k → M.message (St.step m e .state) i .present ≡ false)
         × ((i : ℕ) → (M.channel (m .table) i .destination ≡ k → ⊥) → M.message (St.step m e .state) i ≡ M.message m i)
         × ((i : ℕ) → i < m .table .channelCount → (M.channel (m .table) i .size ≡ 0 → ⊥) → M.channel (m .table) i .destination ≡ k
@@ -329,7 +324,7 @@ module _ (m : Module) (k : ℕ) (u : SoundModule m) (h : Calling m k) where
         let fills : (i : ℕ) → i < m .table .channelCount → (M.channel (m .table) i .size ≡ 0 → ⊥) → M.channel (m .table) i .destination ≡ k → Fills q k i = λ i b full d. record { there = b; few = omega (arith, b, u .table .channelCount); kind = queuing-plain (m .table) (u .table) i b ∙ lt-ltb 0 (M.channel (m .table) i .size) (omega (arith, full)); into = d } in
         let source : (i : ℕ) → i < m .table .channelCount → M.channel (m .table) i .destination ≡ k → M.part q (M.channel (m .table) i .source - 1) ≡ own m (M.channel (m .table) i .source) = λ i b d.
         let c = u .table .eachChannel i b in
-        getD-set-other (m .partitions) (k - 1) (M.channel (m .table) i .source - 1) (noted p) M.noPartition (λ z. c .apart (omega (arith, c .source .0, c .destination .0, d))) in (
+        getD-set-other (m .partitions) (k - 1) (M.channel (m .table) i .source - 1) p M.noPartition (λ z. c .apart (omega (arith, c .source .0, c .destination .0, d))) in (
           g .codeIs,
           ap (λ (n : Module). own n k) (g .state) ∙ own-restarted mode (omega arith),
           λ i b d. ap (λ (n : Module). M.message n i .present) (g .state) ∙ ap (λ (l : List Message). getD l i D.noMessage .present) messages ∙ ap (λ (x : Message). x .present) (erased-own k channelLimit m i (omega (arith, u .table .channelCount)) d),

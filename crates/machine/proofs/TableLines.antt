@@ -128,6 +128,6 @@ table-lines = record {
   last = λ line d ls. refl;
   flagged = λ P ws h k b. has-flagged k ws (flagged-each P 1 ws h k (b .0) (omega (arith, b .1)));
   flaggedIf = λ P ws f. all-flagged P 1 ws (λ j lo hi. f j (lo, omega arith));
-  fresh = λ T i h. let is = getD-replicate 8 i freshPartition noPartition h in (refl, refl, rw is, rw is);
+  fresh = λ T i h. (refl, refl, getD-replicate 8 i freshPartition noPartition h);
   empty = λ T i h. (rw (getD-replicate-any 16 i noMessage), rw (getD-replicate-any 16 i noQueue));
 }

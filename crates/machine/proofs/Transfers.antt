@@ -25,7 +25,7 @@ use Rattle.machine.specs.Limits.{channelLimit, messageLimit, durationLim
 use Rattle.machine.specs.Fields.{field, between}
 use Rattle.machine.specs.Messages.{noQueue, held, first, sent, received, moved}
 use Rattle.machine.specs.Process.{object, carried, served, handed}
-use Rattle.machine.specs.Partition.{process, stored, waiters, noted}
+use Rattle.machine.specs.Partition.{process, stored, waiters}
 use Rattle.machine.specs.Decisions.{checked, awaiting}
 use Rattle.machine.specs.Channels.{queuing, channelChecks, send, receive, passed}
 use Rattle.machine.specs.Services.{services, callDecision}
@@ -92,11 +92,11 @@ module _ (m : Module) (k : ℕ) (u : SoundModule m) (h : Calling m k) (normal : 
     abbrev both : Module
     both = withPart (j - 1) y (withQueue i z m)
 
-    ended : own both j ≡ noted y
-    ended = getD-set-same (m .partitions) (j - 1) (noted y) noPartition (omega (arith, inside .0, inside .1, u .partitionsSize, u .table .size .1))
+    ended : own both j ≡ y
+    ended = getD-set-same (m .partitions) (j - 1) y noPartition (omega (arith, inside .0, inside .1, u .partitionsSize, u .table .size .1))
 
     mine : own both k ≡ own m k
-    mine = getD-set-other (m .partitions) (j - 1) (k - 1) (noted y) noPartition (λ e. apart (omega (arith, e, inside .0, h .some)))
+    mine = getD-set-other (m .partitions) (j - 1) (k - 1) y noPartition (λ e. apart (omega (arith, e, inside .0, h .some)))
 
   -- ---------------------------------------------------------------- SEND
   module _ (from : c .source ≡ k) where

@@ -6,7 +6,7 @@ use lib.ListN.{getD, set, replicate}
 use lib.Dec.{eqb}
 use Rattle.machine.specs.declared.Partition.{Partition}
 use Rattle.machine.specs.Limits.{partitionLimit, windowLimit, channelLimit}
-use Rattle.machine.specs.Partition.{running, noted, freshPartition, emptyPartition}
+use Rattle.machine.specs.Partition.{running, freshPartition, emptyPartition}
 use Rattle.machine.specs.declared.Channel.{Channel}
 use Rattle.machine.specs.declared.Table.{Table}
 use Rattle.machine.specs.declared.Message.{Message}
@@ -38,7 +38,6 @@ noPartition = record {
   blackboardCount = 0;
   arrival = record { items = []; len = 0 };
   waiting = record { items = []; len = 0 };
-  soonest = 0;
 }
 
 unfoldable pub emptyTable : Table
@@ -87,7 +86,7 @@ abbrev pub runningIn : ℕ → Module → ℕ
 runningIn k m = cond (eqb k 0) 0 (running (part m (k - 1)))
 
 abbrev pub withPart : ℕ → Partition → Module → Module
-withPart i p m = record { table = m .table; t = m .t; messages = m .messages; queues = m .queues; partitions = set (m .partitions) i (noted p) }
+withPart i p m = record { table = m .table; t = m .t; messages = m .messages; queues = m .queues; partitions = set (m .partitions) i p }
 
 abbrev pub withMessages : List Message → Module → Module
 withMessages l m = record { table = m .table; t = m .t; messages = l; queues = m .queues; partitions = m .partitions }

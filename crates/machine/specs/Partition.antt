@@ -1,5 +1,5 @@
 -- A partition: its two lists follow the records of its processes.
-use Prim.Native.Nat.{ℕ, zero, suc, _+_, _-_, min, max}
+use Prim.Native.Nat.{ℕ, zero, suc, _+_, _-_, max}
 use mathlib.Core.Bool.{Bool, false, cond, _&&_, _||_}
 use mathlib.Core.List.{List, [], _∷_}
 use lib.ListN.{getD, set, replicate}
@@ -19,9 +19,7 @@ use Rattle.machine.specs.declared.Change.{Change}
 use Rattle.machine.specs.declared.Change.the-variants.{Nothing, Stored, Created, Last, StoredSemaphore, StoredEvent, CreatedBuffer, Moved, StoredBlackboard, Ended, Handed, LevelSet, Entered}
 use Rattle.machine.specs.declared.Decision.{Decision}
 use Rattle.machine.specs.declared.Decision.the-variants.{Refused, Unchanged, Ticked, Blocked, Changed, Restarted, Written, Passed}
-use Rattle.machine.specs.declared.Time.{Time}
-use Rattle.machine.specs.declared.Time.the-variants.{Never, At}
-use Rattle.machine.specs.Limits.{processLimit, semaphoreLimit, eventLimit, bufferLimit, blackboardLimit, greatestTime}
+use Rattle.machine.specs.Limits.{processLimit, semaphoreLimit, eventLimit, bufferLimit, blackboardLimit}
 use Rattle.machine.specs.Ids.{members, idsOf, kept, appended, removed, follow}
 use Rattle.machine.specs.Messages.{noQueue, moved}
 use Rattle.machine.specs.Process.{blankProcess, ready, object, onObject, ticked, served, handed, entered}
@@ -74,7 +72,6 @@ nothingCreated mode = record {
   blackboardCount = 0;
   arrival = idsOf [];
   waiting = idsOf [];
-  soonest = 0;
 }
 
 -- Ids count from 1 in order of creation: 1..limit
@@ -121,7 +118,6 @@ withModeAndLock mode level holder p = record {
   blackboardCount = p .blackboardCount;
   arrival = p .arrival;
   waiting = p .waiting;
-  soonest = p .soonest;
 }
 
 -- mode set; a mode change brings the level to 0
@@ -148,7 +144,6 @@ withProcesses l n a w p = record {
   blackboardCount = p .blackboardCount;
   arrival = a;
   waiting = w;
-  soonest = p .soonest;
 }
 
 abbrev pub withSemaphores : List SemaphoreT → ℕ → Partition → Partition
@@ -168,7 +163,6 @@ withSemaphores l n p = record {
   blackboardCount = p .blackboardCount;
   arrival = p .arrival;
   waiting = p .waiting;
-  soonest = p .soonest;
 }
 
 abbrev pub withEvents : List EventState → ℕ → Partition → Partition
@@ -188,7 +182,6 @@ withEvents l n p = record {
   blackboardCount = p .blackboardCount;
   arrival = p .arrival;
   waiting = p .waiting;
-  soonest = p .soonest;
 }
 
 abbrev pub withBuffers : List Buffer → ℕ → Partition → Partition
@@ -208,7 +201,6 @@ withBuffers l n p = record {
   blackboardCount = p .blackboardCount;
   arrival = p .arrival;
   waiting = p .waiting;
-  soonest = p .soonest;
 }
 
 abbrev pub withBlackboards : List BlackboardT → ℕ → Partition → Partition
@@ -228,27 +220,6 @@ withBlackboards l n p = record {
   blackboardCount = n;
   arrival = p .arrival;
   waiting = p .waiting;
-  soonest = p .soonest;
-}
-
-abbrev pub withSoonest : ℕ → Partition → Partition
-withSoonest n p = record {
-  mode = p .mode;
-  level = p .level;
-  holder = p .holder;
-  processes = p .processes;
-  processCount = p .processCount;
-  semaphores = p .semaphores;
-  semaphoreCount = p .semaphoreCount;
-  events = p .events;
-  eventCount = p .eventCount;
-  buffers = p .buffers;
-  bufferCount = p .bufferCount;
-  blackboards = p .blackboards;
-  blackboardCount = p .blackboardCount;
-  arrival = p .arrival;
-  waiting = p .waiting;
-  soonest = n;
 }
 
 -- process id has this record from now on. The arrival list, document 01's term, holds the READY processes: becoming READY appends it
@@ -372,25 +343,8 @@ partitionAfter (Restarted mode) p = nothingCreated mode
 partitionAfter (Written i x) p = p
 partitionAfter (Passed i a value) p = p
 
--- the least of a time and a number; −1 is no bound
-abbrev pub sooner : Time → ℕ → ℕ
-sooner Never n = n
-sooner (At t) n = min t n
-
--- no wake time or deadline of n processes from id on comes before this number
-unfoldable pub soonestFrom : ℕ → ℕ → Partition → ℕ
-soonestFrom zero id p = greatestTime
-soonestFrom (suc n) id p = sooner (process id p .times .wake) (sooner (process id p .times .deadline) (soonestFrom n (id + 1) p))
-
-abbrev pub soonestOf : Partition → ℕ
-soonestOf p = soonestFrom (p .processCount) 1 p
-
--- its field `soonest` says so
-abbrev pub noted : Partition → Partition
-noted p = withSoonest (soonestOf p) p
-
 unfoldable pub freshPartition : Partition
-freshPartition = withSoonest greatestTime (nothingCreated 1)
+freshPartition = nothingCreated 1
 
 unfoldable pub emptyPartition : Partition
 emptyPartition = nothingCreated 0

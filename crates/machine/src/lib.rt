@@ -94,8 +94,7 @@ pub struct Blackboard {
 }
 
 // level: that of the preemption lock; holder: the process that raised it from 0, 0 at level 0. arrival: the READY processes. waiting: those
-// that wait on an object, in the order in which they began; the queue of an object is the part of it that waits for this object. soonest: no
-// wake time or deadline comes before it (Module).
+// that wait on an object, in the order in which they began; the queue of an object is the part of it that waits for this object.
 pub struct Partition {
     pub mode: u8,
     pub level: u8,
@@ -112,7 +111,6 @@ pub struct Partition {
     pub blackboardCount: u8,
     pub arrival: Ids,
     pub waiting: Ids,
-    pub soonest: u32,
 }
 
 pub struct Window {
@@ -539,7 +537,6 @@ impl Partition {
                 items: [0; Module::PROCESSES],
                 len: 0,
             },
-            soonest: 0,
         }
     }
 
@@ -548,10 +545,6 @@ impl Partition {
         ensures { λ r. ⌜ r ≡ freshPartition ⌝ }
     {
         let p = Partition::empty();
-        Partition {
-            mode: 1,
-            soonest: Module::LATEST,
-            ..p
-        }
+        Partition { mode: 1, ..p }
     }
 }

@@ -1,6 +1,5 @@
--- Loops over the processes, from the first up, and for the soonest time from the last down; the first who wait on an object; records at their
--- places; two changes in order.
--- Assumes nothing.
+-- Loops over the processes, from the first up; the first who wait on an object; records at their places; two changes in order. Assumes
+-- nothing.
 use Prim.Native.Nat.{ℕ, zero, suc, _+_, _-_, _≤_, _<_, max}
 use mathlib.Core.Path.{_≡_, refl, sym, ap, ap₂, _∙_}
 use mathlib.Core.Bool.{Bool, true, false, _||_}
@@ -25,28 +24,14 @@ use Rattle.machine.specs.Limits.{messageLimit, processLimit, semaphoreLimit, ev
 use Rattle.machine.specs.Ids.{members, idsOf, kept, follow}
 use Rattle.machine.specs.Messages.{queueOf, put}
 use Rattle.machine.specs.Process.{blankProcess, due, ticked, ready, onObject}
-use Rattle.machine.specs.Partition.{within, byId, process, buffer, noBuffer, movedIn, withProcesses, withSemaphores, withEvents, withBuffers, withBlackboards, stored, created, storedSemaphore, storedEvent, storedBuffer, storedBlackboard, endedBy, applied, eachFrom, sooner, soonestFrom}
+use Rattle.machine.specs.Partition.{within, byId, process, buffer, noBuffer, movedIn, withProcesses, withSemaphores, withEvents, withBuffers, withBlackboards, stored, created, storedSemaphore, storedEvent, storedBuffer, storedBlackboard, endedBy, applied, eachFrom}
 use Rattle.machine.proofs.Bounds.{inside, outside-zero, outside-high, named-in, named-out, stored-in, created-in, semaphore-in, event-in, buffer-in, blackboard-in, stored-out}
 use Rattle.machine.proofs.Either.{either}
 use Rattle.machine.proofs.Lists.{next-member, no-member, members-of, put-queueOf}
-use Rattle.machine.proofs.Folds.{soonest-more}
 use Rattle.machine.proofs.Quiet.{stored-same, ticked-same}
 use Rattle.machine.proofs.Tests.{or-left, or-right}
 use Rattle.partition.specs.Places.{slotOf}
 use Rattle.partition.specs.Waits.{endedId, endedAs}
-
-pub soonest-down : (n id s : ℕ) (p : Partition) → 0 < id → id ≤ n → s ≡ soonestFrom (n - id) (id + 1) p
-    → sooner (process id p .times .wake) (sooner (process id p .times .deadline) s) ≡ soonestFrom (n - (id - 1)) (id - 1 + 1) p
-soonest-down n id s p lo hi e =
-    let k : id - 1 + 1 ≡ id = omega arith in
-    let m = soonest-more n (id - 1) p (omega arith) in
-    rw e (sym (m ∙ ap (λ (x : ℕ). sooner (process x p .times .wake) (sooner (process x p .times .deadline) (soonestFrom (n - x) (x + 1) p))) k))
-
-pub soonest-whole : (n m id s : ℕ) (p : Partition) → id ≡ 0 → n ≡ m → s ≡ soonestFrom (n - id) (id + 1) p → s ≡ soonestFrom m 1 p
-soonest-whole n m id s p z q e =
-    let a : n - id ≡ m = omega arith in
-    let b : id + 1 ≡ 1 = omega arith in
-    e ∙ ap₂ (λ (x y : ℕ). soonestFrom x y p) a b
 
 -- a loop over the processes begins with all of them
 pub each-start : (f : Process → Process) (n id : ℕ) (p : Partition) → id ≡ 0 → eachFrom f (n - id) (id + 1) p ≡ eachFrom f n 1 p

@@ -6,13 +6,14 @@ ghost use mathlib.Core.List.{map};
 ghost use lib.ListN.{length, take};
 ghost use lib.Dec.{eqb};
 ghost use Rattle.partition.specs.Places.{slotOf};
+ghost use Rattle.partition.specs.Soonest.{sooner, soonestOf};
 ghost use Rattle.partition.specs.Waits.{servedWith, endedId, endedAs};
 ghost use Rattle.machine.specs.Limits.{processLimit};
 ghost use Rattle.machine.specs.Ids.{members, idsOf, appended, removed, follow};
 ghost use Rattle.machine.specs.Messages.{queueOf};
 ghost use Rattle.machine.specs.Process as Pr;
 ghost use Rattle.machine.specs.Process.{carried, due, ready, onObject, ticked, served, entered};
-ghost use Rattle.machine.specs.Partition.{process, stored, arrivedLast, preferred, running, waiters, firstWaiter, changedAll, tickPartition, enteredNormal, soonestOf, noted, sooner, nothingCreated, storedEvent, storedBuffer, emptyBuffer, created, endedBy, applied, partitionAfter};
+ghost use Rattle.machine.specs.Partition.{process, stored, arrivedLast, preferred, running, waiters, firstWaiter, changedAll, tickPartition, enteredNormal, nothingCreated, storedEvent, storedBuffer, emptyBuffer, created, endedBy, applied, partitionAfter};
 use machine::Buffer;
 use machine::Change;
 use machine::Choice;
@@ -24,6 +25,7 @@ use machine::Module;
 use machine::Partition;
 use machine::Process;
 use machine::Queue;
+use machine::Time;
 use machine::Transfer;
 
 fn wide(id: u8) -> u32
@@ -231,6 +233,16 @@ pub fn waiting_messages(p: Partition, object: u16, n: u8) -> Queue
     q
 }
 
+// The lesser of a time and a number.
+fn sooner_of(a: Time, n: u32) -> u32
+    ensures { λ r. ⌜ r ≡ sooner a n ⌝ }
+{
+    match a {
+        Time::Never => n,
+        Time::At(t) => { if t <= n { t } else { n } }
+    }
+}
+
 // The sooner of a process's wake time and deadline, and a number.
 fn soonest_with(x: Process, n: u32) -> u32
     ensures { λ r. ⌜ r ≡ sooner (x .times .wake) (sooner (x .times .deadline) n) ⌝ }
@@ -238,10 +250,11 @@ fn soonest_with(x: Process, n: u32) -> u32
     let times = x.times;
     let wake = times.wake;
     let deadline = times.deadline;
-    process::sooner_of(wake, process::sooner_of(deadline, n))
+    sooner_of(wake, sooner_of(deadline, n))
 }
 
-fn soonest_of(p: Partition) -> u32
+// No wake time or deadline comes before it.
+pub fn soonest_of(p: Partition) -> u32
     ensures { λ r. ⌜ r ≡ soonestOf p ⌝ }
 {
     let n = wide(p.processCount);
@@ -399,11 +412,11 @@ fn end_waits(p: Partition, ids: Ids, hands: bool, m: u32) -> Partition
     q
 }
 
-// The waits of the first n of the queue of an object end with wake code 0; soonest is set too.
+// The waits of the first n of the queue of an object end with wake code 0.
 pub fn let_in(p: Partition, object: u16, n: u8) -> Partition
-    ensures { λ r. ⌜ r ≡ noted (changedAll served (take n (waiters object p)) p) ⌝ }
+    ensures { λ r. ⌜ r ≡ changedAll served (take n (waiters object p)) p ⌝ }
 {
-    note(end_waits(p, first_waiters(p, object, n), false, 0))
+    end_waits(p, first_waiters(p, object, n), false, 0)
 }
 
 // The process whose wait a transfer ends, 0 for none.
@@ -430,13 +443,13 @@ fn ended_as(x: Process, a: Transfer) -> Process
     }
 }
 
-// The partition of those who wait after a transfer; soonest is set too.
+// The partition of those who wait after a transfer.
 pub fn after_transfer(p: Partition, a: Transfer) -> Partition
-    ensures { λ r. ⌜ r ≡ noted (endedBy a p) ⌝ }
+    ensures { λ r. ⌜ r ≡ endedBy a p ⌝ }
 {
     let id = ended_id(a);
     let x = process_at(p, id);
-    note(store(p, id, ended_as(x, a)))
+    store(p, id, ended_as(x, a))
 }
 
 // Whether a wake time or a deadline has come.
@@ -453,12 +466,12 @@ fn is_touched(x: Process, t: u32) -> bool
     }
 }
 
-// A tick of a partition; soonest is set too.
+// A tick of a partition.
 pub fn ticked(p: Partition, t: u32) -> Partition
-    ensures { λ r. ⌜ r ≡ noted (tickPartition t p) ⌝ }
+    ensures { λ r. ⌜ r ≡ tickPartition t p ⌝ }
 {
     if p.mode != 3 {
-        return note(p);
+        return p;
     }
     let n = wide(p.processCount);
     let mut q = p;
@@ -474,7 +487,6 @@ pub fn ticked(p: Partition, t: u32) -> Partition
             q = store(q, id, process::tick(x, t));
         }
     }
-    q.soonest = soonest_of(q);
     q
 }
 
@@ -511,19 +523,10 @@ fn nothing_created(mode: u8) -> Partition
 }
 
 // ---------------------------------------------------------------- decisions
-// The partition with its field soonest set.
-fn note(p: Partition) -> Partition
-    ensures { λ r. ⌜ r ≡ noted p ⌝ }
-{
-    let mut q = p;
-    q.soonest = soonest_of(p);
-    q
-}
-
-// The partition after two changes; soonest is set too. The changes that come most often are made in place: a function would copy the
-// partition at its entry and at its end.
+// The partition after two changes. The changes that come most often are made in place: a function would copy the partition at its entry
+// and at its end.
 fn change(p: Partition, a: Change, b: Change) -> Partition
-    ensures { λ r. ⌜ r ≡ noted (applied b (applied a p)) ⌝ }
+    ensures { λ r. ⌜ r ≡ applied b (applied a p) ⌝ }
 {
     let mut q = p;
     let mut c = a;
@@ -586,22 +589,21 @@ fn change(p: Partition, a: Change, b: Change) -> Partition
         c = b;
         n += 1;
     }
-    q.soonest = soonest_of(q);
     q
 }
 
-// The partition after a decision; soonest is set too.
+// The partition after a decision.
 pub fn after(p: Partition, d: Decision) -> Partition
-    ensures { λ r. ⌜ r ≡ noted (partitionAfter d p) ⌝ }
+    ensures { λ r. ⌜ r ≡ partitionAfter d p ⌝ }
 {
     match d {
-        Decision::Refused(_) => note(p),
-        Decision::Unchanged(_, _) => note(p),
-        Decision::Ticked => note(p),
+        Decision::Refused(_) => p,
+        Decision::Unchanged(_, _) => p,
+        Decision::Ticked => p,
         Decision::Blocked(id, x) => change(p, Change::Stored(wide(id), x), Change::Nothing),
         Decision::Changed(a, b, _) => change(p, a, b),
-        Decision::Restarted(mode) => note(nothing_created(mode)),
-        Decision::Written(_, _) => note(p),
-        Decision::Passed(_, _, _) => note(p),
+        Decision::Restarted(mode) => nothing_created(mode),
+        Decision::Written(_, _) => p,
+        Decision::Passed(_, _, _) => p,
     }
 }

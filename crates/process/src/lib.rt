@@ -2,7 +2,6 @@
 ghost use mathlib.Core.Path.{_≡_};
 ghost use mathlib.Core.Bool.{cond};
 ghost use Rattle.machine.specs.Process.{createdProcess, capped, later, due, isNever, periodic, object, carried, onObject, waitsForNothing, waitsForNormal, ready, withWake, withDeadline, withDelay, releasedAt, waitEnded, withSuspended, withCurrent, handed, waitingFor, suspendedUntil, onlyMarked, woken, deadlineMissed, expired, ticked, begun, startedAperiodic, startedPeriodic, startRule, startedEarly, entered, stopped, resumed, waitingForRelease};
-ghost use Rattle.machine.specs.Partition.{sooner};
 ghost use Rattle.machine.specs.Calls.{reaches};
 use machine::Context;
 use machine::Given;
@@ -49,16 +48,6 @@ pub fn is_never(a: Time) -> bool
     match a {
         Time::Never => true,
         Time::At(_) => false,
-    }
-}
-
-// The lesser of a time and a number.
-pub fn sooner_of(a: Time, n: u32) -> u32
-    ensures { λ r. ⌜ r ≡ sooner a n ⌝ }
-{
-    match a {
-        Time::Never => n,
-        Time::At(t) => { if t <= n { t } else { n } }
     }
 }
 

@@ -8,10 +8,10 @@ ghost use Rattle.stream.specs.Stream.{fedAll, closed};
 ghost use Rattle.io.specs.Counts.{Counts};
 ghost use Rattle.standard_io.specs.StandardIo.{gotOf, Quiet, endAfter, afterShown, byteCount, TookRead, ReadOnce, isGoing, isFailure, ReadToEnd, inputEnd, afterLast, LastTurn, AfterInput, GotFrom, ReadWhole, Wrote};
 use executive::Executive;
-use machine::Module;
 use libc::STDERR_FILENO;
 use libc::STDIN_FILENO;
 use libc::STDOUT_FILENO;
+use machine::Module;
 use stream::Stream;
 
 // What a read gives: so many bytes at the front of the buffer, nothing at the input's end, or a failure.

@@ -39,7 +39,7 @@ use Rattle.machine.specs.Fields.{field, requestOf, isNumber, between, is
 use Rattle.machine.specs.Ids.{members, idsOf, kept, other}
 use Rattle.machine.specs.Messages.{held, queueOf, endsWait}
 use Rattle.machine.specs.Process.{blankProcess, later, carried, ready, onObject, waitsForNothing, entered}
-use Rattle.machine.specs.Partition.{normalMode, nothingCreated, noSemaphore, noEvent, noBuffer, noBlackboard, process, semaphore, event, buffer, blackboard, emptyBuffer, withMode, withLock, withProcesses, withSemaphores, withEvents, withBuffers, withBlackboards, waiters, noted}
+use Rattle.machine.specs.Partition.{normalMode, nothingCreated, noSemaphore, noEvent, noBuffer, noBlackboard, process, semaphore, event, buffer, blackboard, emptyBuffer, withMode, withLock, withProcesses, withSemaphores, withEvents, withBuffers, withBlackboards, waiters}
 use Rattle.machine.specs.Decisions.{replyOf, unknown}
 use Rattle.machine.specs.Objects.{oneMore}
 use Rattle.machine.specs.Windows.{windows, anyWindow, flaggedFor, startsFrom, firstStart, aheadOf, nextStart, covering, lookup, releasePoint}
@@ -215,7 +215,7 @@ plainTicked m = record {
   t = m .t + 1;
   messages = m .messages;
   queues = m .queues;
-  partitions = changedFirst (m .table .size) (λ p. noted (plainTickPartition (m .t + 1) p)) (m .partitions);
+  partitions = changedFirst (m .table .size) (plainTickPartition (m .t + 1)) (m .partitions);
 }
 
 -- a transfer by partition k on channel number i + 1

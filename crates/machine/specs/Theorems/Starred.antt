@@ -19,7 +19,7 @@ use Rattle.machine.specs.declared.Time.the-variants.{Never, At}
 use Rattle.machine.specs.Limits.{processLimit, semaphoreLimit, eventLimit, bufferLimit, messageLimit, blackboardLimit, nameLimit, priorityLimit, valueLimit, modeLimit, callLimit, levelLimit, durationLimit, timeLimit, frameLimit, partitionLimit, windowLimit, channelLimit, sizeLimit, numberLimit, lineLength}
 use Rattle.machine.specs.Ids.{members}
 use Rattle.machine.specs.Process.{object, carried, ready, withCurrent}
-use Rattle.machine.specs.Partition.{process, semaphore, event, buffer, blackboard, waiters, running, nothingCreated, noted, withProcesses}
+use Rattle.machine.specs.Partition.{process, semaphore, event, buffer, blackboard, waiters, running, nothingCreated, withProcesses}
 use Rattle.machine.specs.Messages.{held}
 use Rattle.machine.specs.Theorems.Starts.{Release, NextFlagged}
 use Rattle.machine.specs.Module.{part, message, queue, channel, current}
@@ -306,7 +306,7 @@ pub record Mistakes : Type 0 where
   -- queue what it held; the waits of those who are let in end, and their marks stay
   pub restarted : (m : Module) (k : ℕ) → Calling m k → (mode : ℕ) → mode ≤ 2 → (mode ≡ 2 → own m k .mode ≡ 1 → ⊥)
       → let e = callBy k 1 (pos mode) (pos 0) (pos 0) (pos 0) in
-      (step m e .answer .code ≡ 0) × (own (step m e .state) k ≡ noted (nothingCreated mode))
+      (step m e .answer .code ≡ 0) × (own (step m e .state) k ≡ nothingCreated mode)
       × ((i : ℕ) → i < m .table .channelCount → channel (m .table) i .destination ≡ k → message (step m e .state) i .present ≡ false)
       × ((i : ℕ) → (channel (m .table) i .destination ≡ k → ⊥) → message (step m e .state) i ≡ message m i)
       × ((i : ℕ) → i < m .table .channelCount → (channel (m .table) i .size ≡ 0 → ⊥) → channel (m .table) i .destination ≡ k

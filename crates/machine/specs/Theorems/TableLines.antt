@@ -19,6 +19,7 @@ use Rattle.machine.specs.Module.{emptyModule, freshModule, noChannel, pa
 use Rattle.machine.specs.Table.{flaggedFrom, tableFrom, tableOf}
 use Rattle.machine.specs.Theorems.Plain.{plainBetween, plainNumber}
 use Rattle.machine.specs.Theorems.EachCall.{idOf}
+use Rattle.machine.specs.Theorems.Terms.{blankPartition}
 use Rattle.machine.specs.Theorems.Valid.{Between}
 
 -- Line 1: M 1..10,000, P 1..8, windows 1..32, channels 0..16, 0, 0.
@@ -100,6 +101,5 @@ pub record TableLines : Type 0 where
   pub flagged : (P : ℕ) (ws : List Window) → flaggedFrom P 1 ws ≡ true → (k : ℕ) → Between 1 P k → FlaggedIn ws k
   pub flaggedIf : (P : ℕ) (ws : List Window) → ((k : ℕ) → Between 1 P k → FlaggedIn ws k) → flaggedFrom P 1 ws ≡ true
   -- the record then: t 0, every partition in mode 1 with nothing created, no message
-  pub fresh : (T : Table) (i : ℕ) → i < 8 → let p = part (freshModule T) i in
-      (freshModule T .table ≡ T) × (freshModule T .t ≡ 0) × (p .mode ≡ 1) × (p .processCount + p .semaphoreCount + p .eventCount + p .bufferCount + p .blackboardCount ≡ 0)
+  pub fresh : (T : Table) (i : ℕ) → i < 8 → (freshModule T .table ≡ T) × (freshModule T .t ≡ 0) × (part (freshModule T) i ≡ blankPartition 1)
   pub empty : (T : Table) (i : ℕ) → i < 16 → (message (freshModule T) i .present ≡ false) × (held (queue (freshModule T) i) ≡ [])

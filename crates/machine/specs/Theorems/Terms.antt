@@ -83,7 +83,6 @@ blankPartition mode =
       blackboardCount = 0;
       arrival = noIds;
       waiting = noIds;
-      soonest = 0;
     }
 
 -- ---------------------------------------------------------------- the whole

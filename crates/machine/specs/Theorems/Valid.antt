@@ -1,6 +1,6 @@
 -- What holds of every record that a run reaches, said once, and the plain definitions that such records meet. Nothing of the machine
 -- rests on it.
-use Prim.Native.Nat.{ℕ, zero, suc, _+_, _-_, _%_, _≤_, _<_}
+use Prim.Native.Nat.{ℕ, _+_, _-_, _%_, _≤_, _<_}
 use mathlib.Core.Path.{_≡_}
 use mathlib.Core.Bool.{Bool, true, false, cond, _&&_, _||_}
 use mathlib.Core.List.{List, [], _∷_, _++_}
@@ -40,10 +40,10 @@ use Rattle.machine.specs.Limits.{processLimit, semaphoreLimit, eventLimi
 use Rattle.machine.specs.Ids.{members, idsOf}
 use Rattle.machine.specs.Messages.{held, queueOf}
 use Rattle.machine.specs.Process.{Class, classOf, blankProcess, createdProcess, isNever, periodic, ready, onObject}
-use Rattle.machine.specs.Partition.{normalMode, byId, noSemaphore, noEvent, noBuffer, noBlackboard, process, buffer, emptyBuffer, running, tickPartition, applied, soonestOf}
+use Rattle.machine.specs.Partition.{normalMode, byId, noSemaphore, noEvent, noBuffer, noBlackboard, process, buffer, emptyBuffer, running, applied}
 use Rattle.machine.specs.Table.{hasFlagged, readTable}
 use Rattle.machine.specs.Windows.{windows}
-use Rattle.machine.specs.Module.{channel, part, message, queue, withPart, withTime, emptyModule}
+use Rattle.machine.specs.Module.{channel, part, message, queue, emptyModule}
 use Rattle.machine.specs.Places.{noCaller}
 use Rattle.machine.specs.Step.{step}
 
@@ -428,10 +428,6 @@ pub record SoundTable (T : Table) : Type 0 where
   pub eachChannel : (i : ℕ) → i < T .channelCount → SoundChannel (T .size) (channel T i)
 
 -- ---------------------------------------------------------------- the module
--- the field `soonest` of a partition says when the first of its wake times and deadlines comes
-abbrev pub Noted : Partition → Type 0
-Noted p = p .soonest ≡ soonestOf p
-
 pub record SoundModule (m : Module) : Type 0 where
   pub table : SoundTable (m .table)
   pub partitionsSize : length (m .partitions) ≡ partitionLimit
@@ -439,7 +435,6 @@ pub record SoundModule (m : Module) : Type 0 where
   pub queuesSize : length (m .queues) ≡ channelLimit
   pub time : m .t ≤ timeLimit
   pub eachPartition : (i : ℕ) → i < m .table .size → Valid (m .table .frame) (m .t) (part m i)
-  pub noted : (i : ℕ) → i < m .table .size → Noted (part m i)
   pub eachMessage : (i : ℕ) → SoundMessage (m .t) (message m i)
   pub eachQueue : (i : ℕ) → SoundQueue (channel (m .table) i .size) (queue m i)
 
@@ -451,16 +446,6 @@ ValidModule m = (m ≡ emptyModule) ⊎ SoundModule m
 pub data Reached : Module → Type 0 where
   read : (input : List ℕ) → Reached (readTable input .state)
   stepped : (m : Module) (e : EventT) → Reached m → Reached (step m e .state)
-
--- ---------------------------------------------------------------- the tick with no partition passed over
--- the first n partitions
-unfoldable pub plainTickTo : ℕ → Module → Module
-plainTickTo zero m = m
-plainTickTo (suc n) m = let h = plainTickTo n m in withPart n (tickPartition (h .t) (part h n)) h
-
--- t rises by one; every partition is ticked
-unfoldable pub plainTick : Module → Module
-plainTick m = plainTickTo (m .table .size) (withTime (m .t + 1) m)
 
 -- ---------------------------------------------------------------- answers
 -- the line writer's range

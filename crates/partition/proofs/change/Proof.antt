@@ -6,7 +6,7 @@ use Prim.Native.Nat.{_-_, _≤_}
 use mathlib.Core.Path.{_≡_, refl, sym, ap, _∙_}
 use native.Mathlib.Omega.{arith}
 use borrow.Author.Needs.{needs}
-use Rattle.machine.specs.Partition.{movedIn, storedBuffer, buffer, endedBy, applied, noted, waiters}
+use Rattle.machine.specs.Partition.{movedIn, storedBuffer, buffer, endedBy, applied, waiters}
 use Rattle.partition.proofs.Laws.{left, left-more, left-done, stored-at, semaphore-at, moved-at, blackboard-at, slot-out, ended-at, none-ended}
 use Rattle.partition.proofs.change.Statement.{statement}
 use Rattle.partition.proofs.change.Tie as tie
@@ -64,7 +64,7 @@ loop-again c =
     (omega arith, left-more (l .n) (l .c) (c .before .before .before .args .b) q (c .match .q) _ (omega arith) same (l .inv .1))
 
 returns : tie.Need-returns Inv-loop μ-loop
-returns c = rw (c .soonest-of .ensures) (ap noted (left-done (c .before .before .loop .n) (c .before .before .loop .c) (c .before .before .before .args .b) (c .before .before .loop .q) _ (omega arith) (c .before .before .loop .inv .1)))
+returns c = left-done (c .before .loop .n) (c .before .loop .c) (c .before .before .args .b) (c .before .loop .q) _ (omega arith) (c .before .loop .inv .1)
 
 pub change-spec : {M : Type 1} → statement M
 change-spec =
@@ -129,5 +129,4 @@ change-spec =
     (λ c. omega arith)
     (λ c. omega arith)
     loop-again
-    (λ _ _. tt)
     returns)

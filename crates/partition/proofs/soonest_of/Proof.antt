@@ -3,9 +3,9 @@ use mathlib.Core.Path.{_≡_, sym, _∙_}
 use mathlib.Core.Logic.{⊎-elim}
 use native.Mathlib.Omega.{arith}
 use borrow.Author.Needs.{needs}
-use Rattle.machine.specs.Partition.{soonestFrom}
-use Rattle.machine.proofs.Folds.{soonest-done}
-use Rattle.partition.proofs.Laws.{soonest-down, soonest-whole, read-in, read-out}
+use Rattle.partition.specs.Soonest.{soonestFrom}
+use Rattle.partition.proofs.Laws.{read-in, read-out}
+use Rattle.partition.proofs.Soonest.{soonest-done, soonest-down, soonest-whole}
 use Rattle.partition.proofs.soonest_of.Statement.{statement}
 use Rattle.partition.proofs.soonest_of.Tie as tie
 

@@ -5,7 +5,7 @@ use native.Mathlib.Omega.{arith}
 use borrow.Author.Needs.{needs}
 use borrow.Author.Tests.{eq-eqb, ne-eqb}
 use Rattle.machine.specs.Process.{ticked}
-use Rattle.machine.specs.Partition.{eachFrom, tickPartition, noted}
+use Rattle.machine.specs.Partition.{eachFrom, tickPartition}
 use Rattle.machine.proofs.Folds.{each-more, each-done}
 use Rattle.partition.proofs.Laws.{each-start, read-in, read-out, untouched}
 use Rattle.partition.proofs.ticked.Statement.{statement}
@@ -19,7 +19,7 @@ abbrev μ-loop : tie.MeasureT-loop
 
 returns : tie.Need-returns Inv-loop μ-loop
 unfolding tickPartition
-returns c = rw (c .note .ensures, ne-eqb _ _ (c .before .if1 .taken))
+returns c = rw (ne-eqb _ _ (c .if1 .taken))
 
 loop-holds : tie.Need-loop-holds Inv-loop μ-loop
 loop-holds c = (omega arith, each-start _ _ 0 _ refl)
@@ -43,10 +43,10 @@ loop-again-2 c =
 returns-2 : tie.Need-returns-2 Inv-loop μ-loop
 unfolding tickPartition
 returns-2 c =
-    let a = c .before .before .before .before .before .before .args in
-    let l = c .before .before .loop in
-    rw (c .soonest-of .ensures, eq-eqb _ _ (c .before .before .before .before .if1 .left))
-    (ap noted (sym (each-done (c .before .before .before .wide .result) (l .id) (l .q) (ticked (a .t)) (omega arith)) ∙ l .inv .1 ∙ ap (λ (x : ℕ). eachFrom (ticked (a .t)) x 1 (a .p)) (c .before .before .before .wide .ensures)))
+    let a = c .before .before .before .before .before .args in
+    let l = c .before .loop in
+    rw (eq-eqb _ _ (c .before .before .before .if1 .left))
+    (sym (each-done (c .before .before .wide .result) (l .id) (l .q) (ticked (a .t)) (omega arith)) ∙ l .inv .1 ∙ ap (λ (x : ℕ). eachFrom (ticked (a .t)) x 1 (a .p)) (c .before .before .wide .ensures))
 
 pub ticked-spec : {M : Type 1} → statement M
 ticked-spec =
@@ -54,7 +54,6 @@ ticked-spec =
     (tie.spec
     Inv-loop
     μ-loop
-    (λ c κs. tt)
     returns
     (λ c κs. tt)
     loop-holds
@@ -70,5 +69,4 @@ ticked-spec =
     loop-again
     (λ c. omega arith)
     loop-again-2
-    (λ c κs. tt)
     returns-2)

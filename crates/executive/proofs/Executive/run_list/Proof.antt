@@ -23,24 +23,24 @@ use Rattle.machine.specs.declared.Partition.{Partition}
 use Rattle.machine.proofs.Folds.{tick-to-none}
 use Rattle.machine.proofs.Taken.{length-mapped}
 use Rattle.ticks.proofs.Laws.{tick-due, tick-later}
-use Rattle.executive.specs.Lists.{six, Follows}
+use Rattle.executive.specs.Lists.{six, Follows, Early}
 use Rattle.executive.specs.declared.Plan.{Plan}
 use Rattle.executive.proofs.Laws.{After, Planned, plan-made, place-named, few-ticks, slot-spot, Held, seenTraffic, seen-place, seen-here, seen-none, not-called, call-same, call-written, call-passed, call-moved, call-changed, call-restarted, shown-spot, runs-shown, none-shown, event-answered}
-use Rattle.executive.proofs.Lists.{Known, begins-unknown, follows-same, follows-set, follows-looked, known-looked, known-before, known-past, known-set, known-put, known-same, Running, begins, fits, ends, goes-on}
+use Rattle.executive.proofs.Lists.{Known, begins-unknown, follows-same, follows-set, follows-looked, known-looked, known-before, known-past, known-set, known-put, known-same, begins-early, early-same, early-set, early-tick, Running, begins, fits, ends, goes-on}
 use Rattle.executive.proofs.Executive.run_list.Statement.{statement}
 use Rattle.executive.proofs.Executive.run_list.Tie as tie
 
 abbrev Inv-loop2 : tie.InvT-loop2
-Inv-loop2 list m₀ table runs₀ n window i at x j₀ m runs j = (j ≤ x .ticks) × (x .ticks ≤ partitionLimit) × (m ≡ tickTo j m₀) × (length (m .partitions) ≡ partitionLimit) × Held m × Follows m runs
+Inv-loop2 list m₀ table runs₀ soon₀ n window i at x j₀ m runs soon j = (j ≤ x .ticks) × (x .ticks ≤ partitionLimit) × (m ≡ tickTo j m₀) × (length (m .partitions) ≡ partitionLimit) × Held m × Follows m runs × Early m soon
 
 abbrev μ-loop2 : tie.MeasureT-loop2
-μ-loop2 list m₀ table runs₀ n window i at x j₀ m runs j = x .ticks - j
+μ-loop2 list m₀ table runs₀ soon₀ n window i at x j₀ m runs soon j = x .ticks - j
 
 abbrev Inv-loop : tie.InvT-loop
-Inv-loop list₀ m₀ table runs₀ last₀ n window₀ i₀ list m runs last window i = Running m₀ list₀ n i m list last × Follows m runs × (length (table .channels) ≡ channelLimit) × (window ≡ lookup table (m .t))
+Inv-loop list₀ m₀ table runs₀ soon₀ last₀ n window₀ i₀ list m runs soon last window i = Running m₀ list₀ n i m list last × Follows m runs × (length (table .channels) ≡ channelLimit) × (window ≡ lookup table (m .t)) × Early m soon
 
 abbrev μ-loop : tie.MeasureT-loop
-μ-loop list₀ m₀ table runs₀ last₀ n window₀ i₀ list m runs last window i = n - i
+μ-loop list₀ m₀ table runs₀ soon₀ last₀ n window₀ i₀ list m runs soon last window i = n - i
 
 abbrev parts : Module → List Partition
 parts m = m .partitions
@@ -105,13 +105,13 @@ port-here c = channel-here (c .before .before .before .before .before) ∙ ap (c
 -- each way through the event
 after : (c : tie.Joined8 Inv-loop2 μ-loop2 Inv-loop μ-loop) → After (c .before .before .before .before .before .before .before .before .before .before .before .before .before .before .before .before .before .before .before .before .loop .m) (c .before .before .before .before .before .before .before .before .before .before .before .before .plan-of .result .request) (c .before .before .before .before .before .before .before .before .before .before .before .before .plan-of .result .current) (c .before .before .before .before .before .before .before .before .before .before .before .before .plan-of .result .time) (c .if8 .m) (c .if8 .reply)
 after c =
-    ⊎-elim (λ w. call-restarted (planned (c .before .before .before .before .before .before .before .before .before .before .before .before)) (ticked (c .before .before .before .before .before .before .before .before .before)) (w .0 .taken) (runs-known c (w .0 .taken)) (w .3 .ensures) (held (c .before .before .before .before .before)) (traffic (c .before .before)) (w .4 .ensures (c .before .before .before .before .before .before .before .before .before .before .before .before .before .before .before .before .before .before .before .before .before .before .before .before .before .args .self .inner .table) refl (port-here c)) (w .5 .ensures) (w .23 ∙ w .6 .ensures) (w .11 .ensures) (sym (w .13 .ensures) ∙ w .14 .taken) (w .16 .ensures) (w .21 ∙ w .18 .ensures))
-    (λ u1. ⊎-elim (λ w. call-changed (planned (c .before .before .before .before .before .before .before .before .before .before .before .before)) (ticked (c .before .before .before .before .before .before .before .before .before)) (w .0 .taken) (runs-known c (w .0 .taken)) (w .3 .ensures) (held (c .before .before .before .before .before)) (traffic (c .before .before)) (w .4 .ensures (c .before .before .before .before .before .before .before .before .before .before .before .before .before .before .before .before .before .before .before .before .before .before .before .before .before .args .self .inner .table) refl (port-here c)) (w .5 .ensures) (w .17 ∙ w .6 .ensures) (w .11 .ensures) (sym (w .9 .ensures) ∙ w .10 .taken) (sym (w .13 .ensures) ∙ w .14 .left) (w .15))
-    (λ u2. ⊎-elim (λ w. call-written (planned (c .before .before .before .before .before .before .before .before .before .before .before .before)) (ticked (c .before .before .before .before .before .before .before .before .before)) (w .0 .taken) (runs-known c (w .0 .taken)) (w .3 .ensures) (held (c .before .before .before .before .before)) (traffic (c .before .before)) (w .4 .ensures (c .before .before .before .before .before .before .before .before .before .before .before .before .before .before .before .before .before .before .before .before .before .before .before .before .before .args .self .inner .table) refl (port-here c)) (w .5 .ensures) (w .15 ∙ w .6 .ensures) (rw (w .7 .ensures) at (w .11 .taken)) (w .12 .ensures) (rw (w .7 .ensures) at (w .13)))
-    (λ u3. ⊎-elim (λ w. call-passed (planned (c .before .before .before .before .before .before .before .before .before .before .before .before)) (ticked (c .before .before .before .before .before .before .before .before .before)) (w .0 .taken) (runs-known c (w .0 .taken)) (w .3 .ensures) (held (c .before .before .before .before .before)) (traffic (c .before .before)) (w .4 .ensures (c .before .before .before .before .before .before .before .before .before .before .before .before .before .before .before .before .before .before .before .before .before .before .before .before .before .args .self .inner .table) refl (port-here c)) (w .5 .ensures) (w .23 ∙ w .6 .ensures) (rw (w .8 .ensures) at (w .12 .taken)) (w .13 .ensures) (rw (w .8 .ensures) at (w .15 .ensures)) (rw (w .8 .ensures) at (w .16 .ensures)) (w .17 .taken) (w .19 .ensures) (rw (w .8 .ensures) at (w .21)))
-    (λ u4. ⊎-elim (λ w. call-moved (planned (c .before .before .before .before .before .before .before .before .before .before .before .before)) (ticked (c .before .before .before .before .before .before .before .before .before)) (w .0 .taken) (runs-known c (w .0 .taken)) (w .3 .ensures) (held (c .before .before .before .before .before)) (traffic (c .before .before)) (w .4 .ensures (c .before .before .before .before .before .before .before .before .before .before .before .before .before .before .before .before .before .before .before .before .before .before .before .before .before .args .self .inner .table) refl (port-here c)) (w .5 .ensures) (w .20 ∙ w .6 .ensures) (rw (w .8 .ensures) at (w .12 .taken)) (w .13 .ensures) (rw (w .8 .ensures) at (w .15 .ensures)) (rw (w .8 .ensures) at (w .16 .ensures)) (w .17 .left) (rw (w .8 .ensures) at (w .18)))
-    (λ u5. ⊎-elim (λ w. call-same (planned (c .before .before .before .before .before .before .before .before .before .before .before .before)) (ticked (c .before .before .before .before .before .before .before .before .before)) (w .0 .taken) (runs-known c (w .0 .taken)) (w .3 .ensures) (held (c .before .before .before .before .before)) (traffic (c .before .before)) (w .4 .ensures (c .before .before .before .before .before .before .before .before .before .before .before .before .before .before .before .before .before .before .before .before .before .before .before .before .before .args .self .inner .table) refl (port-here c)) (w .5 .ensures) (w .15 ∙ w .6 .ensures) (sym (w .9 .ensures) ∙ w .10 .left) (rw (w .7 .ensures) at (w .11 .left)) (rw (w .8 .ensures) at (w .12 .left)) (w .13))
-    (λ w. not-called (planned (c .before .before .before .before .before .before .before .before .before .before .before .before)) (ticked (c .before .before .before .before .before .before .before .before .before)) (w .0 .left) (w .1) (w .3 ∙ c .before .reply-with .ensures)) u5) u4) u3) u2) u1)
+    ⊎-elim (λ w. call-restarted (planned (c .before .before .before .before .before .before .before .before .before .before .before .before)) (ticked (c .before .before .before .before .before .before .before .before .before)) (w .0 .taken) (runs-known c (w .0 .taken)) (w .3 .ensures) (held (c .before .before .before .before .before)) (traffic (c .before .before)) (w .4 .ensures (c .before .before .before .before .before .before .before .before .before .before .before .before .before .before .before .before .before .before .before .before .before .before .before .before .before .args .self .inner .table) refl (port-here c)) (w .5 .ensures) (w .24 ∙ w .6 .ensures) (w .11 .ensures) (sym (w .13 .ensures) ∙ w .14 .taken) (w .16 .ensures) (w .21 ∙ w .18 .ensures))
+    (λ u1. ⊎-elim (λ w. call-changed (planned (c .before .before .before .before .before .before .before .before .before .before .before .before)) (ticked (c .before .before .before .before .before .before .before .before .before)) (w .0 .taken) (runs-known c (w .0 .taken)) (w .3 .ensures) (held (c .before .before .before .before .before)) (traffic (c .before .before)) (w .4 .ensures (c .before .before .before .before .before .before .before .before .before .before .before .before .before .before .before .before .before .before .before .before .before .before .before .before .before .args .self .inner .table) refl (port-here c)) (w .5 .ensures) (w .18 ∙ w .6 .ensures) (w .11 .ensures) (sym (w .9 .ensures) ∙ w .10 .taken) (sym (w .13 .ensures) ∙ w .14 .left) (w .15))
+    (λ u2. ⊎-elim (λ w. call-written (planned (c .before .before .before .before .before .before .before .before .before .before .before .before)) (ticked (c .before .before .before .before .before .before .before .before .before)) (w .0 .taken) (runs-known c (w .0 .taken)) (w .3 .ensures) (held (c .before .before .before .before .before)) (traffic (c .before .before)) (w .4 .ensures (c .before .before .before .before .before .before .before .before .before .before .before .before .before .before .before .before .before .before .before .before .before .before .before .before .before .args .self .inner .table) refl (port-here c)) (w .5 .ensures) (w .16 ∙ w .6 .ensures) (rw (w .7 .ensures) at (w .11 .taken)) (w .12 .ensures) (rw (w .7 .ensures) at (w .13)))
+    (λ u3. ⊎-elim (λ w. call-passed (planned (c .before .before .before .before .before .before .before .before .before .before .before .before)) (ticked (c .before .before .before .before .before .before .before .before .before)) (w .0 .taken) (runs-known c (w .0 .taken)) (w .3 .ensures) (held (c .before .before .before .before .before)) (traffic (c .before .before)) (w .4 .ensures (c .before .before .before .before .before .before .before .before .before .before .before .before .before .before .before .before .before .before .before .before .before .before .before .before .before .args .self .inner .table) refl (port-here c)) (w .5 .ensures) (w .24 ∙ w .6 .ensures) (rw (w .8 .ensures) at (w .12 .taken)) (w .13 .ensures) (rw (w .8 .ensures) at (w .15 .ensures)) (rw (w .8 .ensures) at (w .16 .ensures)) (w .17 .taken) (w .19 .ensures) (rw (w .8 .ensures) at (w .21)))
+    (λ u4. ⊎-elim (λ w. call-moved (planned (c .before .before .before .before .before .before .before .before .before .before .before .before)) (ticked (c .before .before .before .before .before .before .before .before .before)) (w .0 .taken) (runs-known c (w .0 .taken)) (w .3 .ensures) (held (c .before .before .before .before .before)) (traffic (c .before .before)) (w .4 .ensures (c .before .before .before .before .before .before .before .before .before .before .before .before .before .before .before .before .before .before .before .before .before .before .before .before .before .args .self .inner .table) refl (port-here c)) (w .5 .ensures) (w .21 ∙ w .6 .ensures) (rw (w .8 .ensures) at (w .12 .taken)) (w .13 .ensures) (rw (w .8 .ensures) at (w .15 .ensures)) (rw (w .8 .ensures) at (w .16 .ensures)) (w .17 .left) (rw (w .8 .ensures) at (w .18)))
+    (λ u5. ⊎-elim (λ w. call-same (planned (c .before .before .before .before .before .before .before .before .before .before .before .before)) (ticked (c .before .before .before .before .before .before .before .before .before)) (w .0 .taken) (runs-known c (w .0 .taken)) (w .3 .ensures) (held (c .before .before .before .before .before)) (traffic (c .before .before)) (w .4 .ensures (c .before .before .before .before .before .before .before .before .before .before .before .before .before .before .before .before .before .before .before .before .before .before .before .before .before .args .self .inner .table) refl (port-here c)) (w .5 .ensures) (w .16 ∙ w .6 .ensures) (sym (w .9 .ensures) ∙ w .10 .left) (rw (w .7 .ensures) at (w .11 .left)) (rw (w .8 .ensures) at (w .12 .left)) (w .13))
+    (λ w. not-called (planned (c .before .before .before .before .before .before .before .before .before .before .before .before)) (ticked (c .before .before .before .before .before .before .before .before .before)) (w .0 .left) (w .1) (w .4 ∙ c .before .reply-with .ensures)) u5) u4) u3) u2) u1)
     (c .if8 .came)
 
 -- the running processes after it
@@ -129,6 +129,20 @@ runs-after c =
     (λ w. (follows-same f (ap parts (w .1)) (w .2), known-same k (ap parts (w .1)) (w .2))) u5) u4) u3) u2) u1)
     (c .if8 .came)
 
+-- and when something of a partition is due
+early-after : (c : tie.Joined8 Inv-loop2 μ-loop2 Inv-loop μ-loop) → Early (c .if8 .m) (c .if8 .soon)
+early-after c =
+    let f = c .before .before .before .before .before .before .before .before .before .before .before .loop2 .inv .6 in
+    let l = c .before .before .before .before .before .before .before .before .before .before .before .loop2 .inv .3 in
+    ⊎-elim (λ w. rw (w .21, w .23) (begins-early (w .18 .result)))
+    (λ u1. ⊎-elim (λ w. early-set f l (w .0 .taken) (w .11 .result) (omega arith) (ap parts (w .15)) (w .17))
+    (λ u2. ⊎-elim (λ w. early-same f (ap parts (w .13)) (w .15))
+    (λ u3. ⊎-elim (λ w. early-set f l (w .17 .taken) (w .19 .result) (omega arith) (ap parts (w .21)) (w .23))
+    (λ u4. ⊎-elim (λ w. early-same f (ap parts (w .18)) (w .20))
+    (λ u5. ⊎-elim (λ w. early-same f (ap parts (w .13)) (w .15))
+    (λ w. early-same f (ap parts (w .1)) (w .3)) u5) u4) u3) u2) u1)
+    (c .if8 .came)
+
 -- the running process shown
 shown : (c : tie.Joined14 Inv-loop2 μ-loop2 Inv-loop μ-loop) → c .if14 .running ≡ cond (sees (c .before .before .before .before .before .before .before .before .before .before .before .before .before .plan-of .result .request) (c .before .before .before .before .before .before .before .before .before .before .before .before .before .plan-of .result .current)) (runningIn (c .before .before .before .before .before .before .before .before .before .before .before .before .before .plan-of .result .current) (c .before .if8 .m)) 0
 shown c =
@@ -139,7 +153,7 @@ shown c =
     (c .if14 .came)
 
 loop-holds : tie.Need-loop-holds Inv-loop2 μ-loop2 Inv-loop μ-loop
-loop-holds c = (begins _ _ _ (search (needs, length-mapped)) (search (needs, length-mapped), search (needs, length-mapped)) (div-mul-le-self _ six) _ (c .before .no-answer .ensures), begins-unknown _, search (needs, length-mapped), c .lookup-at .ensures)
+loop-holds c = (begins _ _ _ (search (needs, length-mapped)) (search (needs, length-mapped), search (needs, length-mapped)) (div-mul-le-self _ six) _ (c .before .no-answer .ensures), begins-unknown _, search (needs, length-mapped), c .lookup-at .ensures, begins-early _)
 
 mul-at : tie.Need-mul-at Inv-loop2 μ-loop2 Inv-loop μ-loop
 mul-at c = let h = fits (c .before .loop .inv .0) (c .loop-test .taken) in omega (arith, h)
@@ -148,7 +162,7 @@ event-at-requires : tie.Need-event-at-requires Inv-loop2 μ-loop2 Inv-loop μ-lo
 event-at-requires c κs = fits (c .before .before .loop .inv .0) (c .before .loop-test .taken)
 
 loop2-holds : tie.Need-loop2-holds Inv-loop2 μ-loop2 Inv-loop μ-loop
-loop2-holds c = (omega arith, few-ticks (planned c), sym (tick-to-none _), c .before .before .before .before .before .before .before .before .loop .inv .0 .long, c .before .before .before .before .before .before .before .before .loop .inv .0 .held, follows-same (c .before .before .before .before .before .before .before .before .loop .inv .1) refl refl)
+loop2-holds c = (omega arith, few-ticks (planned c), sym (tick-to-none _), c .before .before .before .before .before .before .before .before .loop .inv .0 .long, c .before .before .before .before .before .before .before .before .loop .inv .0 .held, follows-same (c .before .before .before .before .before .before .before .before .loop .inv .1) refl refl, early-same (c .before .before .before .before .before .before .before .before .loop .inv .4) refl refl)
 
 loop2-less : tie.Need-loop2-less Inv-loop2 μ-loop2 Inv-loop μ-loop
 loop2-less c = omega arith
@@ -157,18 +171,22 @@ loop2-again : tie.Need-loop2-again Inv-loop2 μ-loop2 Inv-loop μ-loop
 loop2-again c =
     let v = c .before .before .before .loop2 .inv in
     let q = c .before .before .before .loop2 .m in
-    let j = c .before .before .before .loop2 .j in (
+    let j = c .before .before .before .loop2 .j in
+    let inside : j < partitionLimit = omega (arith, c .before .if2 .taken, v .1) in (
       omega arith,
       v .1,
-      ⊎-elim (λ w. tick-due j (q .t) _ q _ (v .2) refl _ (w .2 .ensures) (w .0 .taken) (w .3))
-          (λ w. tick-later j (q .t) _ q _ (v .2) refl (w .0 .left) (w .1))
+      ⊎-elim (λ w. tick-due j (q .t) _ q _ (v .2) refl _ (w .2 .ensures) (w .4))
+          (λ w. tick-later j (q .t) _ q _ (v .2) refl (early-tick (v .6) inside (w .0 .left)) (w .1))
           (c .if3 .came),
-      ⊎-elim (λ w. ap (λ (z : Module). length (z .partitions)) (w .3) ∙ length-set (q .partitions) j (w .2 .result) ∙ v .3)
+      ⊎-elim (λ w. ap (λ (z : Module). length (z .partitions)) (w .4) ∙ length-set (q .partitions) j (w .2 .result) ∙ v .3)
           (λ w. ap (λ (z : Module). length (z .partitions)) (w .1) ∙ v .3)
           (c .if3 .came),
-      ⊎-elim (λ w. rw (w .3) (v .4)) (λ w. rw (w .1) (v .4)) (c .if3 .came),
-      ⊎-elim (λ w. follows-set (v .5) (v .3) (omega (arith, c .before .if2 .taken, v .1)) (w .2 .result) (λ n. absurd (n refl)) (ap parts (w .3)) (w .4))
+      ⊎-elim (λ w. rw (w .4) (v .4)) (λ w. rw (w .1) (v .4)) (c .if3 .came),
+      ⊎-elim (λ w. follows-set (v .5) (v .3) inside (w .2 .result) (λ n. absurd (n refl)) (ap parts (w .4)) (w .5))
           (λ w. follows-same (v .5) (ap parts (w .1)) (w .2))
+          (c .if3 .came),
+      ⊎-elim (λ w. early-set (v .6) (v .3) inside (w .2 .result) (omega (arith, w .3 .ensures)) (ap parts (w .4)) (w .6))
+          (λ w. early-same (v .6) (ap parts (w .1)) (w .3))
           (c .if3 .came),
     )
 
@@ -192,6 +210,7 @@ loop-again c =
       runs-after (c .before .before .before .before .before) .0,
       c .before .before .before .before .before .before .before .before .before .before .before .before .before .before .before .before .before .before .before .before .before .before .before .before .before .loop .inv .2,
       window (c .before .before .before .before .before .before .before .before .before .before .before .before .before .before .before .before .before .before) ∙ ap (lookup (c .before .before .before .before .before .before .before .before .before .before .before .before .before .before .before .before .before .before .before .before .before .before .before .before .before .before .before .before .before .before .args .self .inner .table)) (sym (a .clock ∙ ap (λ (v : Plan). v .time) (c .before .before .before .before .before .before .before .before .before .before .before .before .before .before .before .before .before .plan-of .ensures (c .before .before .before .before .before .before .before .before .before .before .before .before .before .before .before .before .before .before .before .before .before .before .before .before .before .before .before .before .before .before .args .self .inner .table) refl))),
+      early-after (c .before .before .before .before .before),
     )
 
 same-length : tie.Need-same-length Inv-loop2 μ-loop2 Inv-loop μ-loop
@@ -240,6 +259,9 @@ run-list-spec =
     (λ _ _. tt)
     (λ c. search needs)
     (λ c. search needs)
+    (λ _ _. tt)
+    (λ c. search needs)
+    (λ c. search needs)
     (λ c. search needs)
     (λ c. search needs)
     loop2-less
@@ -277,6 +299,8 @@ run-list-spec =
     (λ _ _. tt)
     (λ c. search (needs, c .before .before .before .before .before .before .before .before .before .before .before .if8 .taken))
     (λ c. search (needs, c .before .before .before .before .before .before .before .before .before .before .before .if8 .taken))
+    (λ c. search (needs, c .before .before .before .before .before .before .before .before .before .before .before .if8 .taken))
+    (λ c. search (needs, c .before .before .before .before .before .before .before .before .before .before .before .if8 .taken))
     (λ _ _. tt)
     (λ c. search (needs, c .before .before .before .before .before .before .before .before .before .before .before .before .if8 .taken))
     (λ _ _. tt)
@@ -299,6 +323,8 @@ run-list-spec =
     (λ c. omega (arith, c .if13 .taken))
     (λ c. search (needs, c .if13 .taken))
     (λ _ _. tt)
+    (λ c. omega (arith, c .before .before .if13 .taken))
+    (λ c. search (needs, c .before .before .if13 .taken))
     (λ c. omega (arith, c .before .before .if13 .taken))
     (λ c. search (needs, c .before .before .if13 .taken))
     (λ _ _. tt)

@@ -1,7 +1,7 @@
 use native.Mathlib.Omega.{arith}
 use borrow.Author.Needs.{needs}
-use Rattle.process.proofs.sooner_of.Statement.{statement}
-use Rattle.process.proofs.sooner_of.Tie as tie
+use Rattle.partition.proofs.sooner_of.Statement.{statement}
+use Rattle.partition.proofs.sooner_of.Tie as tie
 
 returns-2 : tie.Need-returns-2
 returns-2 c = rw (c .before .before .a .given .1) (omega arith)

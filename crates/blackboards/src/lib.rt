@@ -3,6 +3,11 @@ ghost use mathlib.Core.Path.{_≡_};
 ghost use lib.ListN.{take};
 ghost use Rattle.machine.specs.Partition.{emptyBlackboard, blackboard};
 ghost use Rattle.machine.specs.Blackboards.{blackboardNamed, createBlackboard, show, readBlackboard, clear};
+ghost use Prim.Native.Nat.{ℕ};
+ghost use Rattle.machine.specs.declared.Context.{Context as ContextT};
+ghost use Rattle.machine.specs.declared.Partition.{Partition as PartitionT};
+ghost use Rattle.decisions.specs.Views.{Shows};
+use decisions::View;
 use machine::Blackboard;
 use machine::Change;
 use machine::Context;
@@ -14,7 +19,7 @@ use machine::Time;
 use machine::Wait;
 
 // A blackboard that shows nothing.
-fn empty_blackboard(name: u16) -> Blackboard
+pub fn empty_blackboard(name: u16) -> Blackboard
     ensures { λ r. ⌜ r ≡ emptyBlackboard name ⌝ }
 {
     Blackboard {
@@ -49,15 +54,15 @@ pub fn is_blackboard_named(p: Partition, name: Field) -> bool
 }
 
 // 26 CREATE_BLACKBOARD
-pub fn create_blackboard(p: Partition, name: Field) -> Decision
-    ensures { λ r. ⌜ r ≡ createBlackboard name p ⌝ }
+pub fn create_blackboard(v: View, name: Field) -> Decision
+    ensures { λ r. ⌜ ((p : PartitionT) (c : ContextT) (id : ℕ) → Shows v c id p → v .taken ≡ blackboardNamed name (take (p .blackboardCount) (p .blackboards)) → r ≡ createBlackboard name p) ⌝ }
 {
-    let n = p.blackboardCount as u32;
+    let n = v.blackboards as u32;
     let code = decisions::creation_code(
         Module::BLACKBOARDS as u32 <= n,
-        is_blackboard_named(p, name),
+        decisions::taken_in(v),
         fields::is_name(name),
-        p.mode == 3,
+        v.mode == 3,
     );
     if code != 0 {
         return Decision::Refused(code);
@@ -68,16 +73,16 @@ pub fn create_blackboard(p: Partition, name: Field) -> Decision
 }
 
 // 27 SHOW
-pub fn show_blackboard(p: Partition, k: u32, m: Field) -> Decision
-    ensures { λ r. ⌜ r ≡ show k m p ⌝ }
+pub fn show_blackboard(v: View, k: u32, m: Field) -> Decision
+    ensures { λ r. ⌜ ((p : PartitionT) (c : ContextT) → Shows v c k p → r ≡ show k m p) ⌝ }
 {
-    if decisions::is_unknown(k, p.blackboardCount) {
+    if decisions::is_unknown(k, v.blackboards) {
         return Decision::Refused(3);
     }
     if !fields::is_message(m) {
         return Decision::Refused(3);
     }
-    let old = blackboard_at(p, k);
+    let old = decisions::blackboard_in(v);
     let message = fields::number_of(m);
     let b = Blackboard {
         name: old.name,
@@ -93,15 +98,15 @@ pub fn show_blackboard(p: Partition, k: u32, m: Field) -> Decision
 }
 
 // 28 READ_BLACKBOARD
-pub fn read_blackboard(p: Partition, c: Context, k: u32, a: Field) -> Decision
-    ensures { λ r. ⌜ r ≡ readBlackboard c k a p ⌝ }
+pub fn read_blackboard(v: View, c: Context, k: u32, a: Field) -> Decision
+    ensures { λ r. ⌜ ((p : PartitionT) → Shows v c k p → r ≡ readBlackboard c k a p) ⌝ }
 {
-    let unknown = decisions::is_unknown(k, p.blackboardCount);
-    let code = decisions::wait_code(unknown, p.mode != 3, fields::is_timeout(a));
-    let b = blackboard_at(p, k);
+    let unknown = decisions::is_unknown(k, v.blackboards);
+    let code = decisions::wait_code(unknown, v.mode != 3, fields::is_timeout(a));
+    let b = decisions::blackboard_in(v);
     let success = Decision::Unchanged(b.message, Time::At(0));
     objects::awaited(
-        p,
+        v,
         c,
         code,
         a,
@@ -112,12 +117,12 @@ pub fn read_blackboard(p: Partition, c: Context, k: u32, a: Field) -> Decision
 }
 
 // 29 CLEAR
-pub fn clear_blackboard(p: Partition, k: u32) -> Decision
-    ensures { λ r. ⌜ r ≡ clear k p ⌝ }
+pub fn clear_blackboard(v: View, k: u32) -> Decision
+    ensures { λ r. ⌜ ((p : PartitionT) (c : ContextT) → Shows v c k p → r ≡ clear k p) ⌝ }
 {
-    if decisions::is_unknown(k, p.blackboardCount) {
+    if decisions::is_unknown(k, v.blackboards) {
         return Decision::Refused(3);
     }
-    let old = blackboard_at(p, k);
+    let old = decisions::blackboard_in(v);
     decisions::changed(Change::StoredBlackboard(k, empty_blackboard(old.name)))
 }

@@ -4,8 +4,15 @@ ghost use mathlib.Core.Bool.{_&&_};
 ghost use lib.ListN.{take};
 ghost use Rattle.machine.specs.Limits.{messageLimit};
 ghost use Rattle.machine.specs.Fields.{isName, between};
-ghost use Rattle.machine.specs.Partition.{buffer};
-ghost use Rattle.machine.specs.Buffers.{bufferNamed, createBuffer, hasRoom, sendBuffer, receiveBuffer};
+ghost use Rattle.machine.specs.Partition.{buffer, firstWaiter};
+ghost use Rattle.machine.specs.Buffers.{bufferNamed, createBuffer, sendBuffer, receiveBuffer};
+ghost use Prim.Native.Nat.{ℕ};
+ghost use Rattle.machine.specs.declared.Context.{Context as ContextT};
+ghost use Rattle.machine.specs.declared.Partition.{Partition as PartitionT};
+ghost use Rattle.decisions.specs.Views.{Shows};
+ghost use Rattle.machine.specs.Process.{object};
+ghost use Rattle.machine.specs.declared.Wait.the-variants.{Sending, Receiving};
+use decisions::View;
 use machine::Buffer;
 use machine::Change;
 use machine::Context;
@@ -51,15 +58,15 @@ fn is_buffer_admitted(name: Field, limit: Field) -> bool
 }
 
 // 23 CREATE_BUFFER
-pub fn create_buffer(p: Partition, name: Field, limit: Field) -> Decision
-    ensures { λ r. ⌜ r ≡ createBuffer name limit p ⌝ }
+pub fn create_buffer(v: View, name: Field, limit: Field) -> Decision
+    ensures { λ r. ⌜ ((p : PartitionT) (c : ContextT) (id : ℕ) → Shows v c id p → v .taken ≡ bufferNamed name (take (p .bufferCount) (p .buffers)) → r ≡ createBuffer name limit p) ⌝ }
 {
-    let n = p.bufferCount as u32;
+    let n = v.buffers as u32;
     let code = decisions::creation_code(
         Module::BUFFERS as u32 <= n,
-        is_buffer_named(p, name),
+        decisions::taken_in(v),
         is_buffer_admitted(name, limit),
-        p.mode == 3,
+        v.mode == 3,
     );
     if code != 0 {
         return Decision::Refused(code);
@@ -73,43 +80,33 @@ pub fn create_buffer(p: Partition, name: Field, limit: Field) -> Decision
     Decision::Changed(change, Change::Nothing, k)
 }
 
-// Whether there is room for one more message.
-fn has_room(b: Buffer) -> bool
-    ensures { λ r. ⌜ r ≡ hasRoom b ⌝ }
-{
-    let q = b.queue;
-    q.len < b.limit
-}
-
 // 24 SEND_BUFFER
-pub fn send_buffer(p: Partition, c: Context, k: u32, m: Field, a: Field) -> Decision
-    ensures { λ r. ⌜ r ≡ sendBuffer c k m a p ⌝ }
+pub fn send_buffer(v: View, c: Context, k: u32, m: Field, a: Field) -> Decision
+    ensures { λ r. ⌜ ((p : PartitionT) → Shows v c k p → v .waiter ≡ firstWaiter (object (Receiving k)) p → r ≡ sendBuffer c k m a p) ⌝ }
 {
-    let unknown = decisions::is_unknown(k, p.bufferCount);
-    let code = decisions::wait_code(unknown, p.mode != 3, objects::is_sending_admitted(m, a));
+    let unknown = decisions::is_unknown(k, v.buffers);
+    let code = decisions::wait_code(unknown, v.mode != 3, objects::is_sending_admitted(m, a));
     let id = objects::short_id(k);
-    let receiver = partition::first_waiter(p, process::object_of(Wait::Receiving(id)));
+    let receiver = decisions::waiter_in(v);
     let n = fields::number_of(m);
     let success = decisions::changed(Change::Moved(k, messages::sent_to(receiver, n)));
-    let passes = has_room(buffer_at(p, k));
-    objects::awaited(p, c, code, a, passes, success, Wait::Sending(id, n))
+    let passes = decisions::has_room(v);
+    objects::awaited(v, c, code, a, passes, success, Wait::Sending(id, n))
 }
 
 // 25 RECEIVE_BUFFER
-pub fn receive_buffer(p: Partition, c: Context, k: u32, a: Field) -> Decision
-    ensures { λ r. ⌜ r ≡ receiveBuffer c k a p ⌝ }
+pub fn receive_buffer(v: View, c: Context, k: u32, a: Field) -> Decision
+    ensures { λ r. ⌜ ((p : PartitionT) → Shows v c k p → v .waiter ≡ firstWaiter (object (Sending k 0)) p → r ≡ receiveBuffer c k a p) ⌝ }
 {
-    let unknown = decisions::is_unknown(k, p.bufferCount);
-    let code = decisions::wait_code(unknown, p.mode != 3, fields::is_timeout(a));
+    let unknown = decisions::is_unknown(k, v.buffers);
+    let code = decisions::wait_code(unknown, v.mode != 3, fields::is_timeout(a));
     let id = objects::short_id(k);
-    let sender = partition::first_waiter(p, process::object_of(Wait::Sending(id, 0)));
-    let m = process::carried_by(partition::process_at(p, sender as u32));
-    let b = buffer_at(p, k);
-    let q = b.queue;
+    let sender = decisions::waiter_in(v);
+    let m = process::carried_by(decisions::served_in(v));
     let success = Decision::Changed(
         Change::Moved(k, messages::received_from(sender, m)),
         Change::Nothing,
-        messages::first_of(q),
+        decisions::first_in(v),
     );
-    objects::awaited(p, c, code, a, 0 < q.len, success, Wait::Receiving(id))
+    objects::awaited(v, c, code, a, 0 < v.len, success, Wait::Receiving(id))
 }

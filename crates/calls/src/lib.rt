@@ -1,5 +1,6 @@
 // Calls 1 to 13 and 32 to 34: what each decides.
 ghost use mathlib.Core.Path.{_≡_};
+ghost use Prim.Native.Nat.{ℕ};
 ghost use mathlib.Core.Bool.{cond, not, _&&_, _||_};
 ghost use lib.Dec.{eqb};
 ghost use lib.ListN.{take};
@@ -8,7 +9,11 @@ ghost use Rattle.machine.specs.Fields.{isNumber, isMinusOne, between, isDuratio
 ghost use Rattle.machine.specs.Process.{periodic};
 ghost use Rattle.machine.specs.declared.Change.the-variants.{Nothing, Last};
 ghost use Rattle.machine.specs.Decisions.{dormant};
+ghost use Rattle.machine.specs.declared.Context.{Context as ContextT};
+ghost use Rattle.machine.specs.declared.Partition.{Partition as PartitionT};
+ghost use Rattle.decisions.specs.Views.{Shows};
 ghost use Rattle.machine.specs.Calls.{setMode, processNamed, isMultiple, above, isPriority, admissible, createProcess, reaches, start, stop, stopSelf, suspend, suspendSelf, timedWait, periodicWait, resume, setPriority, status, getStatus, lockPreemption, unlockPreemption, getTicksLeft};
+use decisions::View;
 use machine::Change;
 use machine::Context;
 use machine::Decision;
@@ -33,22 +38,22 @@ fn is_warm_from_cold(mode: u8, a: Field) -> bool
 }
 
 // 1 SET_PARTITION_MODE; the messages are erased with the module.
-pub fn set_mode(p: Partition, c: Context, a: Field) -> Decision
-    ensures { λ r. ⌜ r ≡ setMode c a p ⌝ }
+pub fn set_mode(v: View, c: Context, a: Field) -> Decision
+    ensures { λ r. ⌜ ((p : PartitionT) (id : ℕ) → Shows v c id p → r ≡ setMode c a p) ⌝ }
 {
     if !fields::is_between(a, 0, Module::MODE) {
         return Decision::Refused(3);
     }
     if fields::is_number(a, 3) {
-        if p.mode == 3 {
+        if v.mode == 3 {
             return Decision::Refused(1);
         }
-        if p.processCount == 0 {
+        if v.count == 0 {
             return Decision::Refused(5);
         }
         return decisions::changed(Change::Entered(c));
     }
-    if is_warm_from_cold(p.mode, a) {
+    if is_warm_from_cold(v.mode, a) {
         return Decision::Refused(5);
     }
     let mode = fields::number_of(a) as u8;
@@ -144,16 +149,16 @@ pub fn is_admissible(r: Request, c: Context) -> bool
 }
 
 // 2 CREATE_PROCESS.
-pub fn create_process(p: Partition, c: Context, r: Request) -> Decision
-    ensures { λ d. ⌜ d ≡ createProcess c r p ⌝ }
+pub fn create_process(v: View, c: Context, r: Request) -> Decision
+    ensures { λ d. ⌜ ((p : PartitionT) (id : ℕ) → Shows v c id p → v .taken ≡ processNamed (r .a) (take (p .processCount) (p .processes)) → d ≡ createProcess c r p) ⌝ }
 {
-    let n = p.processCount as u32;
+    let n = v.count as u32;
     let name = r.a;
     let code = decisions::creation_code(
         Module::PROCESSES as u32 <= n,
-        is_process_named(p, name),
+        decisions::taken_in(v),
         is_admissible(r, c),
-        p.mode == 3,
+        v.mode == 3,
     );
     if code != 0 {
         return Decision::Refused(code);
@@ -186,13 +191,13 @@ fn is_delay_refused(x: Process, delay: Field) -> bool
 }
 
 // 3 START, with delay 0, and 4 DELAYED_START.
-pub fn start_process(p: Partition, c: Context, id: u32, delay: Field) -> Decision
-    ensures { λ r. ⌜ r ≡ start c id delay p ⌝ }
+pub fn start_process(v: View, c: Context, id: u32, delay: Field) -> Decision
+    ensures { λ r. ⌜ ((p : PartitionT) → Shows v c id p → r ≡ start c id delay p) ⌝ }
 {
-    if decisions::is_unknown(id, p.processCount) {
+    if decisions::is_unknown(id, v.count) {
         return Decision::Refused(3);
     }
-    let x = partition::process_at(p, id);
+    let x = decisions::named_in(v);
     if is_delay_refused(x, delay) {
         return Decision::Refused(3);
     }
@@ -200,23 +205,23 @@ pub fn start_process(p: Partition, c: Context, id: u32, delay: Field) -> Decisio
         return Decision::Refused(1);
     }
     let n = fields::number_of(delay);
-    if p.mode == 3 {
+    if v.mode == 3 {
         return decisions::changed(Change::Stored(id, process::start(x, c, n)));
     }
     decisions::changed(Change::Stored(id, process::start_early(x, n)))
 }
 
 // 5 STOP.
-pub fn stop_process(p: Partition, c: Context, id: u32) -> Decision
-    ensures { λ r. ⌜ r ≡ stop c id p ⌝ }
+pub fn stop_process(v: View, c: Context, id: u32) -> Decision
+    ensures { λ r. ⌜ ((p : PartitionT) → Shows v c id p → r ≡ stop c id p) ⌝ }
 {
-    if decisions::is_unknown(id, p.processCount) {
+    if decisions::is_unknown(id, v.count) {
         return Decision::Refused(3);
     }
     if id == decisions::caller_of(c) {
         return Decision::Refused(3);
     }
-    let x = partition::process_at(p, id);
+    let x = decisions::named_in(v);
     if !x.started {
         return Decision::Refused(1);
     }
@@ -224,14 +229,14 @@ pub fn stop_process(p: Partition, c: Context, id: u32) -> Decision
 }
 
 // 6 STOP_SELF; it ends a preemption lock.
-pub fn stop_self(p: Partition, c: Context) -> Decision
-    ensures { λ r. ⌜ r ≡ stopSelf c p ⌝ }
+pub fn stop_self(v: View, c: Context) -> Decision
+    ensures { λ r. ⌜ ((p : PartitionT) (id : ℕ) → Shows v c id p → r ≡ stopSelf c p) ⌝ }
 {
-    if p.mode != 3 {
+    if v.mode != 3 {
         return Decision::Refused(5);
     }
     let id = decisions::caller_of(c);
-    let x = partition::process_at(p, id);
+    let x = decisions::calling_in(v);
     Decision::Changed(
         Change::LevelSet(0, 0),
         Change::Stored(id, process::stop(x)),
@@ -250,16 +255,16 @@ fn is_unsuspendable(x: Process) -> bool
 }
 
 // 7 SUSPEND.
-pub fn suspend_process(p: Partition, c: Context, id: u32) -> Decision
-    ensures { λ r. ⌜ r ≡ suspend c id p ⌝ }
+pub fn suspend_process(v: View, c: Context, id: u32) -> Decision
+    ensures { λ r. ⌜ ((p : PartitionT) → Shows v c id p → r ≡ suspend c id p) ⌝ }
 {
-    if decisions::is_unknown(id, p.processCount) {
+    if decisions::is_unknown(id, v.count) {
         return Decision::Refused(3);
     }
     if id == decisions::caller_of(c) {
         return Decision::Refused(3);
     }
-    let x = partition::process_at(p, id);
+    let x = decisions::named_in(v);
     if is_unsuspendable(x) {
         return Decision::Refused(5);
     }
@@ -270,65 +275,65 @@ pub fn suspend_process(p: Partition, c: Context, id: u32) -> Decision
 }
 
 // 8 SUSPEND_SELF.
-pub fn suspend_self(p: Partition, c: Context, a: Field) -> Decision
-    ensures { λ r. ⌜ r ≡ suspendSelf c a p ⌝ }
+pub fn suspend_self(v: View, c: Context, a: Field) -> Decision
+    ensures { λ r. ⌜ ((p : PartitionT) (id : ℕ) → Shows v c id p → r ≡ suspendSelf c a p) ⌝ }
 {
-    if p.mode != 3 {
+    if v.mode != 3 {
         return Decision::Refused(5);
     }
     let id = decisions::caller_of(c);
-    let x = partition::process_at(p, id);
+    let x = decisions::calling_in(v);
     if process::is_periodic(x) {
         return Decision::Refused(5);
     }
     if !fields::is_timeout(a) {
         return Decision::Refused(3);
     }
-    if 0 < p.level {
+    if 0 < v.level {
         return Decision::Refused(5);
     }
     if fields::is_number(a, 0) {
         return Decision::Unchanged(0, Time::At(0));
     }
     let wake = process::later_time(Time::At(c.time), fields::time_of(a));
-    decisions::block(p.level, c.caller, process::suspended_until(x, wake))
+    decisions::block(v.level, c.caller, process::suspended_until(x, wake))
 }
 
 // 9 TIMED_WAIT.
-pub fn timed_wait(p: Partition, c: Context, a: Field) -> Decision
-    ensures { λ r. ⌜ r ≡ timedWait c a p ⌝ }
+pub fn timed_wait(v: View, c: Context, a: Field) -> Decision
+    ensures { λ r. ⌜ ((p : PartitionT) (id : ℕ) → Shows v c id p → r ≡ timedWait c a p) ⌝ }
 {
-    if p.mode != 3 {
+    if v.mode != 3 {
         return Decision::Refused(5);
     }
     if !fields::is_duration(a) {
         return Decision::Refused(3);
     }
-    if 0 < p.level {
+    if 0 < v.level {
         return Decision::Refused(5);
     }
     if fields::is_number(a, 0) {
         return decisions::changed(Change::Last(c.caller));
     }
     let id = decisions::caller_of(c);
-    let x = partition::process_at(p, id);
+    let x = decisions::calling_in(v);
     let wake = process::later_time(Time::At(c.time), fields::time_of(a));
     decisions::block(
-        p.level,
+        v.level,
         c.caller,
         process::waiting_for(x, Wait::Timed, wake),
     )
 }
 
 // 10 PERIODIC_WAIT.
-pub fn periodic_wait(p: Partition, c: Context) -> Decision
-    ensures { λ r. ⌜ r ≡ periodicWait c p ⌝ }
+pub fn periodic_wait(v: View, c: Context) -> Decision
+    ensures { λ r. ⌜ ((p : PartitionT) (id : ℕ) → Shows v c id p → r ≡ periodicWait c p) ⌝ }
 {
-    if p.mode != 3 {
+    if v.mode != 3 {
         return Decision::Refused(5);
     }
     let id = decisions::caller_of(c);
-    let x = partition::process_at(p, id);
+    let x = decisions::calling_in(v);
     if !process::is_periodic(x) {
         return Decision::Refused(5);
     }
@@ -337,20 +342,20 @@ pub fn periodic_wait(p: Partition, c: Context) -> Decision
     let times = x.times;
     let last = times.release;
     let release = process::later_time(last, period);
-    decisions::block(p.level, c.caller, process::wait_for_release(x, release))
+    decisions::block(v.level, c.caller, process::wait_for_release(x, release))
 }
 
 // 11 RESUME.
-pub fn resume_process(p: Partition, c: Context, id: u32) -> Decision
-    ensures { λ r. ⌜ r ≡ resume c id p ⌝ }
+pub fn resume_process(v: View, c: Context, id: u32) -> Decision
+    ensures { λ r. ⌜ ((p : PartitionT) → Shows v c id p → r ≡ resume c id p) ⌝ }
 {
-    if decisions::is_unknown(id, p.processCount) {
+    if decisions::is_unknown(id, v.count) {
         return Decision::Refused(3);
     }
     if id == decisions::caller_of(c) {
         return Decision::Refused(3);
     }
-    let x = partition::process_at(p, id);
+    let x = decisions::named_in(v);
     if is_unsuspendable(x) {
         return Decision::Refused(5);
     }
@@ -373,16 +378,16 @@ fn last_if(ready: bool, id: u8) -> Change
 }
 
 // 12 SET_PRIORITY.
-pub fn set_priority(p: Partition, id: u32, a: Field) -> Decision
-    ensures { λ r. ⌜ r ≡ setPriority id a p ⌝ }
+pub fn set_priority(v: View, id: u32, a: Field) -> Decision
+    ensures { λ r. ⌜ ((p : PartitionT) (c : ContextT) → Shows v c id p → r ≡ setPriority id a p) ⌝ }
 {
-    if decisions::is_unknown(id, p.processCount) {
+    if decisions::is_unknown(id, v.count) {
         return Decision::Refused(3);
     }
     if !is_priority(a) {
         return Decision::Refused(3);
     }
-    let x = partition::process_at(p, id);
+    let x = decisions::named_in(v);
     if !x.started {
         return Decision::Refused(5);
     }
@@ -412,48 +417,48 @@ pub fn status_of(x: Process, c: Context, id: u32) -> u32
 }
 
 // 13 GET_PROCESS_STATUS.
-pub fn get_status(p: Partition, c: Context, id: u32) -> Decision
-    ensures { λ r. ⌜ r ≡ getStatus c id p ⌝ }
+pub fn get_status(v: View, c: Context, id: u32) -> Decision
+    ensures { λ r. ⌜ ((p : PartitionT) → Shows v c id p → r ≡ getStatus c id p) ⌝ }
 {
-    if decisions::is_unknown(id, p.processCount) {
+    if decisions::is_unknown(id, v.count) {
         return Decision::Refused(3);
     }
-    let x = partition::process_at(p, id);
+    let x = decisions::named_in(v);
     let times = x.times;
     let deadline = times.deadline;
     Decision::Unchanged(status_of(x, c, id), deadline)
 }
 
 // 32 LOCK_PREEMPTION. The process that raises the level from 0 is the holder.
-pub fn lock_preemption(p: Partition, c: Context) -> Decision
-    ensures { λ r. ⌜ r ≡ lockPreemption c p ⌝ }
+pub fn lock_preemption(v: View, c: Context) -> Decision
+    ensures { λ r. ⌜ ((p : PartitionT) (id : ℕ) → Shows v c id p → r ≡ lockPreemption c p) ⌝ }
 {
-    if p.mode != 3 {
+    if v.mode != 3 {
         return Decision::Refused(1);
     }
-    if Module::LEVEL <= p.level {
+    if Module::LEVEL <= v.level {
         return Decision::Refused(4);
     }
-    let level = p.level + 1;
-    if 0 < p.level {
-        return decisions::changed(Change::LevelSet(level, p.holder));
+    let level = v.level + 1;
+    if 0 < v.level {
+        return decisions::changed(Change::LevelSet(level, v.holder));
     }
     decisions::changed(Change::LevelSet(level, c.caller))
 }
 
 // 33 UNLOCK_PREEMPTION. At level 0 there is no holder.
-pub fn unlock_preemption(p: Partition) -> Decision
-    ensures { λ r. ⌜ r ≡ unlockPreemption p ⌝ }
+pub fn unlock_preemption(v: View) -> Decision
+    ensures { λ r. ⌜ ((p : PartitionT) (id : ℕ) (c : ContextT) → Shows v c id p → r ≡ unlockPreemption p) ⌝ }
 {
-    if p.mode != 3 {
+    if v.mode != 3 {
         return Decision::Refused(1);
     }
-    if p.level == 0 {
+    if v.level == 0 {
         return Decision::Refused(1);
     }
-    let level = p.level - 1;
+    let level = v.level - 1;
     if 0 < level {
-        return decisions::changed(Change::LevelSet(level, p.holder));
+        return decisions::changed(Change::LevelSet(level, v.holder));
     }
     decisions::changed(Change::LevelSet(level, 0))
 }

@@ -5,15 +5,18 @@ ghost use mathlib.Core.List.{[], _∷_};
 ghost use lib.Dec.{eqb, ltb};
 ghost use Rattle.machine.specs.Fields.{isNumber};
 ghost use Rattle.machine.specs.Decisions.{coded, codeOf, replyOf, noMessage, changed, blocked, creationChecks, waitChecks, unknown};
-ghost use Rattle.machine.specs.Questions.{changes, restarts, messageAt, messageOf, transferAt, transferOf};
+ghost use Rattle.machine.specs.Questions.{changes, restarts, modeOf, firstChange, secondChange, messageAt, messageOf, transferAt, transferOf};
+use machine::Blackboard;
 use machine::Change;
 use machine::Context;
 use machine::Decision;
+use machine::EventState;
 use machine::Field;
 use machine::Message;
 use machine::Module;
 use machine::Process;
 use machine::Reply;
+use machine::Semaphore;
 use machine::Time;
 use machine::Transfer;
 
@@ -75,6 +78,53 @@ pub fn is_restart(d: Decision) -> bool
         Decision::Restarted(_) => true,
         Decision::Written(_, _) => false,
         Decision::Passed(_, _, _) => false,
+    }
+}
+
+// Its mode; 0 for another decision.
+pub fn mode_of(d: Decision) -> u8
+    ensures { λ r. ⌜ r ≡ modeOf d ⌝ }
+{
+    match d {
+        Decision::Refused(_) => 0,
+        Decision::Unchanged(_, _) => 0,
+        Decision::Ticked => 0,
+        Decision::Blocked(_, _) => 0,
+        Decision::Changed(_, _, _) => 0,
+        Decision::Restarted(mode) => mode,
+        Decision::Written(_, _) => 0,
+        Decision::Passed(_, _, _) => 0,
+    }
+}
+
+// The two changes that it makes of the caller's partition, in order, where it is no restart.
+pub fn first_change(d: Decision) -> Change
+    ensures { λ r. ⌜ r ≡ firstChange d ⌝ }
+{
+    match d {
+        Decision::Refused(_) => Change::Nothing,
+        Decision::Unchanged(_, _) => Change::Nothing,
+        Decision::Ticked => Change::Nothing,
+        Decision::Blocked(id, x) => Change::Stored(id as u32, x),
+        Decision::Changed(a, _, _) => a,
+        Decision::Restarted(_) => Change::Nothing,
+        Decision::Written(_, _) => Change::Nothing,
+        Decision::Passed(_, _, _) => Change::Nothing,
+    }
+}
+
+pub fn second_change(d: Decision) -> Change
+    ensures { λ r. ⌜ r ≡ secondChange d ⌝ }
+{
+    match d {
+        Decision::Refused(_) => Change::Nothing,
+        Decision::Unchanged(_, _) => Change::Nothing,
+        Decision::Ticked => Change::Nothing,
+        Decision::Blocked(_, _) => Change::Nothing,
+        Decision::Changed(_, b, _) => b,
+        Decision::Restarted(_) => Change::Nothing,
+        Decision::Written(_, _) => Change::Nothing,
+        Decision::Passed(_, _, _) => Change::Nothing,
     }
 }
 
@@ -239,4 +289,89 @@ pub fn has_no_caller(mode: u8, running: u8) -> bool
         return running == 0;
     }
     false
+}
+
+// ---------------------------------------------------------------- what a call sees of its partition
+// Mode and preemption lock; how many there are of each kind; whether the name in field a is taken among its kind; the records of what field a
+// names, of a buffer its limit, how many messages it holds and the first of them, and the caller's; the first process that waits for the object that the call looks at, 0 for none, and its record.
+pub struct View {
+    pub mode: u8,
+    pub level: u8,
+    pub holder: u8,
+    pub count: u8,
+    pub semaphores: u8,
+    pub events: u8,
+    pub buffers: u8,
+    pub blackboards: u8,
+    pub taken: bool,
+    pub named: Process,
+    pub calling: Process,
+    pub semaphore: Semaphore,
+    pub event: EventState,
+    pub limit: u8,
+    pub len: u8,
+    pub first: u32,
+    pub blackboard: Blackboard,
+    pub waiter: u8,
+    pub served: Process,
+}
+
+pub fn named_in(v: View) -> Process
+    ensures { λ r. ⌜ r ≡ v .named ⌝ }
+{
+    v.named
+}
+
+pub fn calling_in(v: View) -> Process
+    ensures { λ r. ⌜ r ≡ v .calling ⌝ }
+{
+    v.calling
+}
+
+pub fn semaphore_in(v: View) -> Semaphore
+    ensures { λ r. ⌜ r ≡ v .semaphore ⌝ }
+{
+    v.semaphore
+}
+
+pub fn event_in(v: View) -> EventState
+    ensures { λ r. ⌜ r ≡ v .event ⌝ }
+{
+    v.event
+}
+
+pub fn has_room(v: View) -> bool
+    ensures { λ r. ⌜ r ≡ ltb (v .len) (v .limit) ⌝ }
+{
+    v.len < v.limit
+}
+
+pub fn first_in(v: View) -> u32
+    ensures { λ r. ⌜ r ≡ v .first ⌝ }
+{
+    v.first
+}
+
+pub fn blackboard_in(v: View) -> Blackboard
+    ensures { λ r. ⌜ r ≡ v .blackboard ⌝ }
+{
+    v.blackboard
+}
+
+pub fn served_in(v: View) -> Process
+    ensures { λ r. ⌜ r ≡ v .served ⌝ }
+{
+    v.served
+}
+
+pub fn waiter_in(v: View) -> u8
+    ensures { λ r. ⌜ r ≡ v .waiter ⌝ }
+{
+    v.waiter
+}
+
+pub fn taken_in(v: View) -> bool
+    ensures { λ r. ⌜ r ≡ v .taken ⌝ }
+{
+    v.taken
 }

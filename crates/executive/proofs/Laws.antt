@@ -52,9 +52,9 @@ use Rattle.machine.proofs.Tests.{by-test, codesIn, Passed, code-refuses, code-p
 use Rattle.places.specs.Placed.{placedAt}
 use Rattle.places.specs.declared.Placed.{Placed}
 use Rattle.queuing.proofs.Laws.{placed}
-use Rattle.executive.specs.Executive.{turned, answerOf}
-use Rattle.executive.specs.Lists.{callChecks, tickCount, slotOf, callSlot, takesStartRule, releaseFor, shownSlot, planned, planOf}
-use Rattle.executive.specs.declared.Plan.{Plan}
+use Rattle.events.specs.Plans.{callChecks, tickCount, slotOf, callSlot, takesStartRule, releaseFor, shownSlot, planned, planOf, answerOf}
+use Rattle.events.specs.declared.Plan.{Plan}
+use Rattle.executive.specs.Executive.{turned}
 
 -- ---------------------------------------------------------------- lists of checks
 checked-more : {A : Type 0} (f : ℕ → A) (l k : List (Bool × ℕ)) (x : A) → checked f l (checked f k x) ≡ checked f (l ++ k) x
@@ -159,6 +159,9 @@ tick-keeps : (P : Module → Type 0) → ((i : ℕ) (p : Partition) (q : Module)
 unfolding tickTo tickAt
 tick-keeps P f zero m h = h
 tick-keeps P f (suc n) m h = f n _ (tickTo n m) (tick-keeps P f n m h)
+
+pub tick-table : (n : ℕ) (m : Module) → tickTo n m .table ≡ m .table
+tick-table n m = tick-keeps (λ (v : Module). v .table ≡ m .table) (λ i p v h. h) n m refl
 
 -- the record has a place for the message and for the queue of each channel
 abbrev pub Held : Module → Type 0
@@ -334,6 +337,9 @@ module _ {m : Module} {e : Event} {T : Table} {x : Plan} (f : Planned m e T x) w
   pub slot-spot : x .slot < partitionLimit → x .slot ≡ x .spot
   slot-spot h = let c = calls h in c .slot ∙ sym (spot-is ∙ ap slotOf (c .now) ∙ rw (c .some))
 
+  pub slot-own : x .slot < partitionLimit → x .own - 1 ≡ x .slot
+  slot-own h = ap (λ (n : ℕ). n - 1) own-is ∙ sym (calls h .slot)
+
   -- q is the record after the ticks
   module _ {q : Module} (ticked : q ≡ tickTo (x .ticks) (withTime (x .time) m)) where
     still : tickCount (m .table) (x .code) k ≡ 0 → time ≡ m .t → q ≡ m
@@ -379,19 +385,19 @@ module _ {m : Module} {e : Event} {T : Table} {x : Plan} (f : Planned m e T x) w
       called-same = let c = calls inside in still (rw (c .none, c .some)) (time-called (m .table) (m .t) now r (c .some))
 
       -- what the code decides is the machine's decision
-      module _ {caller v : ℕ} {hold : Message} {port : Port} {d : Decision} (runs : caller ≡ running (part q (x .slot))) (point : v ≡ releaseFor T (q .t) (x .own) (x .call)) (lies : hold ≡ message q (x .place))
-          {view : Traffic} (shows : view ≡ seenTraffic T q (x .own) (x .place)) (sees-port : port ≡ portAt T (x .own) (x .request .a) hold view)
-          (made : d ≡ called (record { time = q .t; frame = T .frame; left = x .left; release = v; caller = caller }) port (x .call) (x .request) (part q (x .slot))) where
-        made-is : d ≡ decision m r
-        made-is =
-            let c = calls inside in
-            let w = called-same in
-            let shown : called (record { time = q .t; frame = T .frame; left = x .left; release = v; caller = caller }) port (x .call) (x .request) (part q (x .slot)) ≡ called (record { time = q .t; frame = T .frame; left = x .left; release = releasePoint T (q .t) (x .own); caller = caller }) port (x .call) (x .request) (part q (x .slot)) =
-            rw point (release-shown T (q .t) (x .own) (x .left) caller (x .call) port (x .request) (part q (x .slot))) in
-            made ∙ shown ∙ rw (runs, sees-port, lies, shows, w, ← f .same, request-is, own-is, call-is, place-is, left-seen (c .some), c .slot) (sym (place-passed m r (f .long) now seen (x .code) code-is (c .none) ∙ rw (c .some)))
+      pub made-is : (caller v : ℕ) (hold : Message) (view : Traffic) (port : Port) {d : Decision} → caller ≡ running (part q (x .slot)) → v ≡ releaseFor T (q .t) (x .own) (x .call) → hold ≡ message q (x .place)
+          → view ≡ seenTraffic T q (x .own) (x .place) → port ≡ portAt T (x .own) (x .request .a) hold view
+          → d ≡ called (record { time = q .t; frame = T .frame; left = x .left; release = v; caller = caller }) port (x .call) (x .request) (part q (x .slot)) → d ≡ decision m r
+      made-is caller v hold view port runs point lies shows sees-port made =
+          let c = calls inside in
+          let w = called-same in
+          let shown : called (record { time = q .t; frame = T .frame; left = x .left; release = v; caller = caller }) port (x .call) (x .request) (part q (x .slot)) ≡ called (record { time = q .t; frame = T .frame; left = x .left; release = releasePoint T (q .t) (x .own); caller = caller }) port (x .call) (x .request) (part q (x .slot)) =
+          rw point (release-shown T (q .t) (x .own) (x .left) caller (x .call) port (x .request) (part q (x .slot))) in
+          made ∙ shown ∙ rw (runs, sees-port, lies, shows, w, ← f .same, request-is, own-is, call-is, place-is, left-seen (c .some), c .slot) (sym (place-passed m r (f .long) now seen (x .code) code-is (c .none) ∙ rw (c .some)))
 
+      module _ {d : Decision} (made-so : d ≡ decision m r) where
         made-called : d ≡ called (contextOf m k) (portOf m k r) (numberOf (r .call)) r (part m (k - 1))
-        made-called = made-is ∙ place-passed m r (f .long) now seen (x .code) code-is (calls inside .none) ∙ chosen (calls inside .some)
+        made-called = made-so ∙ place-passed m r (f .long) now seen (x .code) code-is (calls inside .none) ∙ chosen (calls inside .some)
           where
             chosen : ticks r ≡ false → accepted m r (f .long) ≡ called (contextOf m k) (portOf m k r) (numberOf (r .call)) r (part m (k - 1))
             chosen z = rw z
@@ -401,7 +407,7 @@ module _ {m : Module} {e : Event} {T : Table} {x : Plan} (f : Planned m e T x) w
 
         module _ {b : Reply} (says : b ≡ replyOf d) where
           stores : {y : Module} → y ≡ moduleAfter m k d → length (y .partitions) ≡ partitionLimit → Held y → y .table ≡ q .table → y .t ≡ q .t → After m (x .request) (x .current) (x .time) y b
-          stores {y} g l l′ a t = record { state = rw (request-is) (g ∙ ap (moduleAfter m k) made-is); reply = rw (request-is) (says ∙ ap replyOf made-is); long = l; held = l′; window = window-is y a t; clock = t ∙ ap (λ (z : Module). z .t) called-same ∙ sym (time-is ∙ time-called (m .table) (m .t) now r (calls inside .some)) }
+          stores {y} g l l′ a t = record { state = rw (request-is) (g ∙ ap (moduleAfter m k) made-so); reply = rw (request-is) (says ∙ ap replyOf made-so); long = l; held = l′; window = window-is y a t; clock = t ∙ ap (λ (z : Module). z .t) called-same ∙ sym (time-is ∙ time-called (m .table) (m .t) now r (calls inside .some)) }
 
           pub call-same : changes d ≡ false → channelLimit ≤ messageAt d → channelLimit ≤ transferAt d → {y : Module} → y ≡ q → After m (x .request) (x .current) (x .time) y b
           call-same c h h′ {y} g =
@@ -456,6 +462,11 @@ module _ {m : Module} {e : Event} {T : Table} {x : Plan} (f : Planned m e T x) w
                 (ap (λ (v : Module). length (v .partitions)) g ∙ z .partitions ∙ rw w (length-set (m .partitions) (x .slot) p ∙ f .long))
                 (ap (λ (v : Module). length (v .messages)) g ∙ z .messages ∙ rw (kept, w) (kept-long T (x .own) channelLimit (m .messages) ∙ f .held .0), ap (λ (v : Module). length (v .queues)) g ∙ z .queues ∙ rw w (f .held .1))
                 (ap (λ (v : Module). v .table) g ∙ refilled-table (x .own) channelLimit u) (ap (λ (v : Module). v .t) g ∙ refilled-time (x .own) channelLimit u)
+
+  -- what is decided of the event: of a call the machine's decision, and of no call its code
+  pub record Decides (d : Decision) : Type 0 where
+    pub call : x .slot < partitionLimit → d ≡ decision m r
+    pub none : partitionLimit ≤ x .slot → d ≡ Refused (x .code)
 
   -- ------------------------------------------------------------ the answer
   pub shown-spot : x .shown < partitionLimit → x .shown ≡ x .spot

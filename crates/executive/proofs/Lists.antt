@@ -1,4 +1,4 @@
--- The running processes looked up so far, when something of a partition is due, and a list of events done in place. Assumes nothing.
+-- When something of a partition is due, and a list of events done in place. Assumes nothing.
 use Prim.Native.Nat.{ℕ, zero, suc, _+_, _-_, _*_, _/_, _≤_, _<_}
 use mathlib.Core.List.{List, [], _∷_, _++_, append-assoc, append-nil}
 use mathlib.Core.Path.{_≡_, refl, sym, ap, _∙_}
@@ -13,7 +13,7 @@ use borrow.Author.Tests.{eqb-true, eqb-false}
 use Rattle.machine.specs.Runs.{next, after, answers}
 use Rattle.machine.specs.Limits.{partitionLimit}
 use Rattle.machine.specs.Module.{noPartition, part}
-use Rattle.machine.specs.Partition.{running, tickPartition}
+use Rattle.machine.specs.Partition.{tickPartition}
 use Rattle.machine.specs.Replay.{answerNumbers}
 use Rattle.machine.specs.Step.{step}
 use Rattle.machine.specs.declared.Answer.{Answer}
@@ -24,68 +24,11 @@ use Rattle.machine.proofs.Answers.{step-table}
 use Rattle.machine.proofs.Either.{either}
 use Rattle.partition.specs.Soonest.{soonestOf}
 use Rattle.partition.proofs.Soonest.{tick-same}
-use Rattle.executive.specs.Executive.{turned, noAnswer}
-use Rattle.executive.specs.Lists.{notLooked, Follows, Early, six, eventAt, firstEvents, eventNumbers, numbersIn, eventsIn, afterList, answeredList, lastAnswer}
+use Rattle.events.specs.Plans.{noAnswer}
+use Rattle.executive.specs.Executive.{turned}
+use Rattle.executive.specs.Lists.{Early, six, eventAt, firstEvents, eventNumbers, numbersIn, eventsIn, afterList, answeredList, lastAnswer}
 use Rattle.executive.specs.declared.Turn.{Turn}
 use Rattle.executive.proofs.Laws.{Held}
-
--- ---------------------------------------------------------------- running processes
--- the one at i is known, where there is such a partition
-pub record Known (m : Module) (l : List ℕ) (i : ℕ) : Type 0 where
-  pub is : i < partitionLimit → getD l i 0 ≡ running (part m i)
-
-module _ {m : Module} {l : List ℕ} (f : Follows m l) where
-  pub follows-same : {y : Module} {k : List ℕ} → y .partitions ≡ m .partitions → k ≡ l → Follows y k
-  follows-same g h = rw h (record { long = f .long; each = λ j k n. rw g (f .each j k n) })
-
-  -- partition i is stored, and with it its running process, or that it has not been looked up
-  module _ (long : length (m .partitions) ≡ partitionLimit) {i : ℕ} (h : i < partitionLimit) (p : Partition) {n : ℕ} (e : (n ≡ notLooked → ⊥) → n ≡ running p) where
-    pub follows-set : {y : Module} {k : List ℕ} → y .partitions ≡ set (m .partitions) i p → k ≡ set l i n → Follows y k
-    follows-set {y} {k} g s = rw s (record {
-      long = length-set l i n ∙ f .long;
-      each = λ j b. either (eqb j i)
-          (λ z. rw (eqb-true j i z, g, getD-set-same l i n 0 (rw (f .long) h), getD-set-same (m .partitions) i p noPartition (rw long h)) e)
-          (λ z. rw (g, getD-set-other l i j n 0 (eqb-false j i z), getD-set-other (m .partitions) i j p noPartition (eqb-false j i z)) (f .each j b));
-    })
-
-  -- the running process of partition i is looked up
-  pub follows-looked : {i n : ℕ} → i < partitionLimit → n ≡ running (part m i) → {k : List ℕ} → k ≡ set l i n → Follows m k
-  follows-looked {i} {n} h e {k} s = rw s (record {
-    long = length-set l i n ∙ f .long;
-    each = λ j b. either (eqb j i)
-        (λ z. rw (eqb-true j i z, getD-set-same l i n 0 (rw (f .long) h)) (λ _. e))
-        (λ z. rw (getD-set-other l i j n 0 (eqb-false j i z)) (f .each j b));
-  })
-
-  pub known-looked : {i n : ℕ} → i < partitionLimit → n ≡ running (part m i) → {k : List ℕ} → k ≡ set l i n → Known m k i
-  known-looked {i} {n} h e s = record { is = λ b. rw (s, getD-set-same l i n 0 (rw (f .long) h)) e }
-
-  pub known-before : {i : ℕ} → (getD l i 0 ≡ notLooked → ⊥) → {k : List ℕ} → k ≡ l → Known m k i
-  known-before {i} n s = record { is = λ b. rw s (f .each i b n) }
-
-pub begins-unknown : (m : Module) → Follows m (replicate partitionLimit notLooked)
-begins-unknown m = record { long = refl; each = λ i h n. absurd (n (getD-replicate partitionLimit i notLooked 0 h)) }
-
--- past the last there is none to know
-pub known-past : {m : Module} {l : List ℕ} {i : ℕ} → partitionLimit ≤ i → Known m l i
-known-past h = record { is = λ b. absurd (omega (arith, h, b)) }
-
--- the partition is stored at the place that is known
-pub known-set : {m : Module} {l : List ℕ} → Follows m l → length (m .partitions) ≡ partitionLimit → {i j : ℕ} → i < partitionLimit → i ≡ j → (p : Partition) {n : ℕ} → n ≡ running p
-    → {y : Module} {k : List ℕ} → y .partitions ≡ set (m .partitions) i p → k ≡ set l i n → Known y k j
-known-set {m} {l} f long {i} {j} h e p {n} r {y} {k} g s = record { is = λ b. rw (← e, s, g, getD-set-same l i n 0 (rw (f .long) h), getD-set-same (m .partitions) i p noPartition (rw long h)) r }
-
--- a partition is stored, at that place or another
-pub known-put : {m : Module} {l : List ℕ} → Follows m l → length (m .partitions) ≡ partitionLimit → {i j : ℕ} → Known m l j → i < partitionLimit → (p : Partition) {n : ℕ} → n ≡ running p
-    → {y : Module} {k : List ℕ} → y .partitions ≡ set (m .partitions) i p → k ≡ set l i n → Known y k j
-known-put {m} {l} f long {i} {j} known h p {n} r {y} {k} g s = record {
-  is = λ b. either (eqb j i)
-      (λ z. rw (eqb-true j i z, s, g, getD-set-same l i n 0 (rw (f .long) h), getD-set-same (m .partitions) i p noPartition (rw long h)) r)
-      (λ z. rw (s, g, getD-set-other l i j n 0 (eqb-false j i z), getD-set-other (m .partitions) i j p noPartition (eqb-false j i z)) (known .is b));
-}
-
-pub known-same : {m : Module} {l : List ℕ} {i : ℕ} → Known m l i → {y : Module} {k : List ℕ} → y .partitions ≡ m .partitions → k ≡ l → Known y k i
-known-same f g s = record { is = λ b. rw (s, g) (f .is b) }
 
 -- ---------------------------------------------------------------- when something of a partition is due
 -- 0 is such a number of every partition

@@ -1,28 +1,28 @@
 // The executive: a module that comes only from table reading and from events.
 ghost use mathlib.Core.Path.{_≡_};
-ghost use Prim.Native.Nat.{_+_, _≤_};
+ghost use Prim.Native.Nat.{_+_, _-_, _≤_};
 ghost use lib.ListN.{length};
 ghost use lib.Seq.{sets};
-ghost use Rattle.machine.specs.Fields.{numberOf};
-ghost use Rattle.machine.specs.Step.{sees, step};
+ghost use Rattle.machine.specs.Partition.{nothingCreated};
+ghost use Rattle.machine.specs.Step.{restarted, step};
 ghost use Rattle.machine.specs.Replay.{timeNumber, answerNumbers, unread};
 ghost use Rattle.machine.specs.Table.{readTable};
 ghost use Rattle.machine.specs.Windows.{waitingOf};
-ghost use Rattle.machine.specs.declared.Table.{Table as TableT};
-ghost use Rattle.executive.specs.Executive.{turned, opened, noAnswer, answerOf};
-ghost use Rattle.executive.specs.Lists.{six, eventAt, placeCode, tickCount, slotOf, callSlot, takesStartRule, releaseFor, shownSlot, planned, afterList, answeredList, lastAnswer, eventsIn};
+ghost use Rattle.events.specs.Plans.{noAnswer};
+ghost use Rattle.executive.specs.Executive.{turned, opened};
+ghost use Rattle.executive.specs.Lists.{six, eventAt, afterList, answeredList, lastAnswer, eventsIn};
 use channels::Messages;
+use decisions::View;
 use machine::Answer;
+use machine::Change;
 use machine::Context;
+use machine::Decision;
 use machine::Event;
-use machine::Lookup;
 use machine::Module;
-use machine::Reply;
-use machine::Request;
-use machine::Table;
+use machine::Partition;
+use machine::Process;
 use machine::Time;
 use machine::Waiting;
-use places::Placed;
 
 pub struct Executive {
     inner: Module,
@@ -42,161 +42,29 @@ pub struct Opening {
     pub lines: u32,
 }
 
-// ---------------------------------------------------------------- what an event does, before its partition is looked at
-// The code of the places that need no partition, the time, the current partition and the ticks left after the event, how many
-// partitions are ticked, and where these lie: the channel that a call may name, the current partition, the one that makes a call,
-// the one whose running process is shown; past the last for none.
-struct Plan {
-    request: Request,
-    own: u32,
-    call: u32,
-    place: usize,
-    code: u8,
-    time: u32,
-    current: u8,
-    left: u32,
-    ticks: usize,
-    spot: usize,
-    slot: usize,
-    shown: usize,
+// ---------------------------------------------------------------- a restart
+fn one_less(k: u32) -> u32
+    ensures { λ r. ⌜ r ≡ k - 1 ⌝ }
+{
+    if k == 0 { 0 } else { k - 1 }
 }
 
-// 8 for a call, and 9 for a partition that the record has no place for; n where it is another code already.
-fn call_code(n: u8, k: u32, current: u8) -> u8
-    ensures { λ r. ⌜ r ≡ placeCode n k current ⌝ }
+// Partition k is restarted in this mode: nothing is created, the messages on channels into it are erased, and the queues into it filled anew.
+fn restart(m: Module, k: u32, mode: u8) -> Module
+    ensures { λ r. ⌜ r ≡ restarted k (nothingCreated mode) m ⌝ }
 {
-    if n != 0 {
-        return n;
+    let mut r = m;
+    let table = r.table;
+    let items = r.messages;
+    let e = channels::erase_into(Messages { items }, table, k);
+    let kept = e.items;
+    r.messages = kept;
+    let slot = one_less(k) as usize;
+    if slot < Module::PARTITIONS {
+        let p = partition::nothing_created(mode);
+        r.partitions[slot] = p;
     }
-    if k == 0 {
-        return 0;
-    }
-    if current as u32 != k {
-        return 8;
-    }
-    if (Module::PARTITIONS as u32) < k {
-        9
-    } else {
-        0
-    }
-}
-
-// Of a table of this size.
-fn tick_count(size: u8, code: u8, k: u32) -> usize
-    ensures { λ n. ⌜ ((T : TableT) → T .size ≡ size → n ≡ tickCount T code k) ⌝ }
-{
-    if code != 0 {
-        return 0;
-    }
-    if k != 0 {
-        return 0;
-    }
-    ticks::count(size)
-}
-
-// Where partition k lies, past the last for none.
-fn slot_of(k: u32) -> usize
-    ensures { λ i. ⌜ i ≡ slotOf k ⌝ }
-{
-    if k == 0 {
-        return Module::PARTITIONS;
-    }
-    (k - 1) as usize
-}
-
-// Whether a call takes the start rule: 1 SET_PARTITION_MODE, 3 START, 4 DELAYED_START.
-fn takes_start_rule(call: u32) -> bool
-    ensures { λ r. ⌜ r ≡ takesStartRule call ⌝ }
-{
-    if call == 1 {
-        return true;
-    }
-    if call == 3 {
-        return true;
-    }
-    call == 4
-}
-
-// The release point that a call of partition k is shown: it is looked up only for one that takes the start rule.
-fn release_for(table: Table, t: u32, k: u32, call: u32) -> u32
-    ensures { λ r. ⌜ r ≡ releaseFor table t k call ⌝ }
-{
-    if takes_start_rule(call) {
-        return windows::release_point(table, t, k);
-    }
-    0
-}
-
-fn call_slot(code: u8, k: u32) -> usize
-    ensures { λ i. ⌜ i ≡ callSlot code k ⌝ }
-{
-    if code != 0 {
-        return Module::PARTITIONS;
-    }
-    slot_of(k)
-}
-
-// Whether an event of this partition is shown the running process of partition k.
-fn is_shown(r: Request, k: u8) -> bool
-    ensures { λ b. ⌜ b ≡ sees r k ⌝ }
-{
-    let own = r.partition;
-    fields::is_number(own, 0) || fields::is_number(own, k as u32)
-}
-
-fn shown_slot(r: Request, k: u8) -> usize
-    ensures { λ i. ⌜ i ≡ shownSlot r k ⌝ }
-{
-    if is_shown(r, k) {
-        return slot_of(k as u32);
-    }
-    Module::PARTITIONS
-}
-
-// Of a request so placed, over a table of this size, with the window at the time after it.
-fn plan_of(size: u8, request: Request, first: Placed, window: Lookup) -> Plan
-    ensures { λ x. ⌜ ((T : TableT) → T .size ≡ size → x ≡ planned T request (numberOf (request .partition)) first window) ⌝ }
-{
-    let partition = request.partition;
-    let own = fields::number_of(partition);
-    let call = request.call;
-    let a = request.a;
-    let code = call_code(first.code, own, window.partition);
-    Plan {
-        request,
-        own,
-        call: fields::number_of(call),
-        place: channels::place_of(a) as usize,
-        code,
-        time: first.time,
-        current: window.partition,
-        left: window.left,
-        ticks: tick_count(size, code, own),
-        spot: slot_of(window.partition as u32),
-        slot: call_slot(code, own),
-        shown: shown_slot(request, window.partition),
-    }
-}
-
-// ---------------------------------------------------------------- the answer
-fn answer_of(reply: Reply, t: u32, current: u8, running: u8) -> Answer
-    ensures { λ a. ⌜ a ≡ answerOf reply t current running ⌝ }
-{
-    let extra = reply.extra;
-    Answer {
-        code: reply.code,
-        value: reply.value,
-        extra,
-        t,
-        current,
-        running,
-    }
-}
-
-fn no_answer() -> Answer
-    ensures { λ a. ⌜ a ≡ noAnswer ⌝ }
-{
-    answer_of(decisions::reply_with(0), 0, 0, 0)
+    queuing::refill(r, k)
 }
 
 // ---------------------------------------------------------------- the lent list
@@ -241,9 +109,6 @@ fn put_answer(list: &mut [i64], at: usize, a: Answer)
     list[at + 5] = a.running as i64;
 }
 
-// What stands for a running process that has not been looked up.
-const UNKNOWN: u8 = 255;
-
 impl Executive {
     // Reads a table at the front of an input.
     pub fn open(input: &[u8]) -> Opening
@@ -266,12 +131,15 @@ impl Executive {
     {
         let mut m = self.inner;
         let table = m.table;
-        let mut runs = [UNKNOWN; Module::PARTITIONS];
-        // No wake time or deadline of a partition comes before its number.
-        let mut soon = [0u32; Module::PARTITIONS];
-        let mut last = no_answer();
+        let mut last = events::no_answer();
         let n = list.len() / SIX;
         let mut window = windows::lookup_at(table, m.t);
+        let mut spot = Module::PARTITIONS;
+        let mut here = Partition::empty();
+        let mut currents = [0u8; Module::PROCESSES];
+        let mut objects = [0u16; Module::PROCESSES];
+        let mut run: u8 = 0;
+        let mut soon = [0u32; Module::PARTITIONS];
         let mut i: usize = 0;
         while i < n {
             let at = i * SIX;
@@ -280,100 +148,289 @@ impl Executive {
             if first.time != m.t {
                 window = windows::lookup_at(table, first.time);
             }
-            let x = plan_of(table.size, asked, first, window);
+            let x = events::plan_of(table.size, asked, first, window);
             m.t = x.time;
+            let mut stale = false;
             let mut j: usize = 0;
             while j < x.ticks {
                 if soon[j] <= m.t {
-                    let p = m.partitions[j];
-                    let q = partition::ticked(p, m.t);
-                    m.partitions[j] = q;
-                    soon[j] = partition::soonest_of(q);
-                    runs[j] = UNKNOWN;
+                    if j == spot {
+                        here = partition::ticked(here, m.t);
+                        soon[j] = partition::soonest_of(here);
+                        stale = true;
+                    } else {
+                        let p = m.partitions[j];
+                        let q = partition::ticked(p, m.t);
+                        m.partitions[j] = q;
+                        soon[j] = partition::soonest_of(q);
+                    }
                 }
                 j += 1;
             }
-            let spot = x.spot;
-            if spot < Module::PARTITIONS {
-                if runs[spot] == UNKNOWN {
-                    let p = m.partitions[spot];
-                    runs[spot] = partition::running_process(p);
+            if x.spot != spot {
+                if spot < Module::PARTITIONS {
+                    m.partitions[spot] = here;
                 }
+                spot = x.spot;
+                if spot < Module::PARTITIONS {
+                    here = m.partitions[spot];
+                }
+                stale = true;
             }
-            let place = x.place;
-            let mut held = decisions::no_message();
-            let mut channel = channels::no_channel();
-            if place < Module::CHANNELS {
-                held = m.messages[place];
-                channel = table.channels[place];
+            if stale {
+                resident::fill(here, &mut currents, &mut objects);
+                let ready = here.arrival;
+                run = resident::running(here.mode, here.level, here.holder, ready, &currents);
             }
-            let seen = queuing::seen_slot(table.channelCount, channel, x.own, place);
-            let mut traffic = queuing::no_traffic();
-            if seen < Module::PARTITIONS {
-                let object = queuing::other_object(channel, x.own, place);
-                let q = m.queues[place];
-                let p = m.partitions[seen];
-                traffic = queuing::traffic_of(q, object, p);
-            }
-            let mut reply = decisions::reply_with(x.code);
+            let mut d = Decision::Refused(x.code);
             let slot = x.slot;
             if slot < Module::PARTITIONS {
                 let request = x.request;
                 let a = request.a;
-                let was = m.partitions[slot];
+                let place = x.place;
+                let mut held = decisions::no_message();
+                let mut channel = channels::no_channel();
+                if place < Module::CHANNELS {
+                    held = m.messages[place];
+                    channel = table.channels[place];
+                }
+                let seen = queuing::seen_slot(table.channelCount, channel, x.own, place);
+                let mut traffic = queuing::no_traffic();
+                if seen < Module::PARTITIONS {
+                    let object = queuing::other_object(channel, x.own, place);
+                    let q = m.queues[place];
+                    if seen == spot {
+                        traffic = queuing::traffic_of(q, object, here);
+                    } else {
+                        let p = m.partitions[seen];
+                        traffic = queuing::traffic_of(q, object, p);
+                    }
+                }
                 let context = Context {
                     time: m.t,
                     frame: table.frame,
                     left: x.left,
-                    release: release_for(table, m.t, x.own, x.call),
-                    caller: runs[slot],
+                    release: events::release_for(table, m.t, x.own, x.call),
+                    caller: run,
                 };
                 let port = channels::port_at(table.channelCount, channel, x.own, a, held, traffic);
-                let d = services::call(was, context, port, x.call, request);
-                reply = decisions::reply_of(d);
-                let put = decisions::message_at(d);
-                let pass = decisions::transfer_at(d);
-                if decisions::does_change(d) {
-                    let q = partition::after(was, d);
-                    m.partitions[slot] = q;
-                    soon[slot] = 0;
-                    runs[slot] = partition::running_process(q);
-                    if decisions::is_restart(d) {
-                        let items = m.messages;
-                        let e = channels::erase_into(Messages { items }, table, x.own);
-                        let kept = e.items;
-                        m.messages = kept;
-                        m = queuing::refill(m, x.own);
-                        let own = m.partitions[slot];
-                        soon = [0; Module::PARTITIONS];
-                        runs = [UNKNOWN; Module::PARTITIONS];
-                        runs[slot] = partition::running_process(own);
+                let id = fields::number_of(a);
+                let mut named = Process::blank();
+                let named_at = partition::slot(id, Module::PROCESSES);
+                if named_at < Module::PROCESSES {
+                    named = here.processes[named_at];
+                }
+                let mut calling = Process::blank();
+                let calling_at = partition::slot(run as u32, Module::PROCESSES);
+                if calling_at < Module::PROCESSES {
+                    calling = here.processes[calling_at];
+                }
+                let mut semaphore = objects::no_semaphore();
+                let mut event = objects::no_event();
+                let mut limit: u8 = 0;
+                let mut len: u8 = 0;
+                let mut first_held: u32 = 0;
+                let mut blackboard = blackboards::empty_blackboard(0);
+                let object_at = partition::slot(id, Module::SEMAPHORES);
+                if object_at < Module::SEMAPHORES {
+                    semaphore = here.semaphores[object_at];
+                    event = here.events[object_at];
+                    let buffer = here.buffers[object_at];
+                    let queue = buffer.queue;
+                    limit = buffer.limit;
+                    len = queue.len;
+                    first_held = messages::first_of(queue);
+                    blackboard = here.blackboards[object_at];
+                }
+                let mut waiter: u8 = 0;
+                let object = services::object_for(x.call, id);
+                if object != 0 {
+                    let waiting = here.waiting;
+                    waiter = resident::first_on(waiting, &objects, object);
+                }
+                let mut served = Process::blank();
+                let served_at = partition::slot(waiter as u32, Module::PROCESSES);
+                if served_at < Module::PROCESSES {
+                    served = here.processes[served_at];
+                }
+                let mut taken = false;
+                if services::does_create(x.call) {
+                    taken = services::is_taken(here, x.call, a);
+                }
+                let view = View {
+                    mode: here.mode,
+                    level: here.level,
+                    holder: here.holder,
+                    count: here.processCount,
+                    semaphores: here.semaphoreCount,
+                    events: here.eventCount,
+                    buffers: here.bufferCount,
+                    blackboards: here.blackboardCount,
+                    taken,
+                    named,
+                    calling,
+                    semaphore,
+                    event,
+                    limit,
+                    len,
+                    first: first_held,
+                    blackboard,
+                    waiter,
+                    served,
+                };
+                d = services::call(view, context, port, x.call, request);
+            }
+            let reply = decisions::reply_of(d);
+            let put = decisions::message_at(d);
+            let pass = decisions::transfer_at(d);
+            let mut changed = false;
+            stale = false;
+            if decisions::is_restart(d) {
+                m = restart(m, x.own, decisions::mode_of(d));
+                here = m.partitions[slot];
+                soon = [0; Module::PARTITIONS];
+                stale = true;
+                changed = true;
+            } else if decisions::does_change(d) {
+                let mut change = decisions::first_change(d);
+                let second = decisions::second_change(d);
+                let mut turn: u8 = 0;
+                while turn < 2 {
+                    match change {
+                        Change::Nothing => {}
+                        Change::Stored(id, y) => {
+                            let k = partition::slot(id, Module::PROCESSES);
+                            if k < Module::PROCESSES {
+                                let old = here.processes[k];
+                                here.processes[k] = y;
+                                here.arrival = partition::arrival_with(here.arrival, old, y, id);
+                                here.waiting = partition::waiting_with(here.waiting, old, y, id);
+                                currents[k] = y.current;
+                                objects[k] = resident::object_of(y);
+                            }
+                        }
+                        Change::Created(id, y) => {
+                            here = partition::create(here, id, y);
+                            stale = true;
+                        }
+                        Change::Last(id) => here.arrival = partition::last_in(here.arrival, id),
+                        Change::StoredSemaphore(id, y) => {
+                            let k = partition::slot(id, Module::SEMAPHORES);
+                            if k < Module::SEMAPHORES {
+                                here.semaphores[k] = y;
+                                here.semaphoreCount = partition::counted(here.semaphoreCount, id);
+                            }
+                        }
+                        Change::StoredEvent(id, y) => {
+                            let k = partition::slot(id, Module::EVENTS);
+                            if k < Module::EVENTS {
+                                here.events[k] = y;
+                                here.eventCount = partition::counted(here.eventCount, id);
+                            }
+                        }
+                        Change::CreatedBuffer(id, name, limit) => here = partition::create_buffer(
+                            here,
+                            id,
+                            name,
+                            limit,
+                        ),
+                        Change::Moved(id, y) => {
+                            let k = partition::slot(id, Module::BUFFERS);
+                            if k < Module::BUFFERS {
+                                let mut v = here.buffers[k];
+                                v.queue = messages::change(v.queue, y);
+                                here.buffers[k] = v;
+                                here.bufferCount = partition::counted(here.bufferCount, id);
+                            }
+                            let other = partition::ended_id(y);
+                            let l = partition::slot(other, Module::PROCESSES);
+                            if l < Module::PROCESSES {
+                                let old = here.processes[l];
+                                let ended = partition::ended_as(old, y);
+                                here.processes[l] = ended;
+                                here.arrival = partition::arrival_with(
+                                    here.arrival,
+                                    old,
+                                    ended,
+                                    other,
+                                );
+                                here.waiting = partition::waiting_with(
+                                    here.waiting,
+                                    old,
+                                    ended,
+                                    other,
+                                );
+                                currents[l] = ended.current;
+                                objects[l] = resident::object_of(ended);
+                            }
+                        }
+                        Change::StoredBlackboard(id, y) => {
+                            let k = partition::slot(id, Module::BLACKBOARDS);
+                            if k < Module::BLACKBOARDS {
+                                here.blackboards[k] = y;
+                                here.blackboardCount = partition::counted(here.blackboardCount, id);
+                            }
+                        }
+                        Change::Ended(o) => {
+                            here = partition::end_queue(here, o, false, 0);
+                            stale = true;
+                        }
+                        Change::Handed(o, y) => {
+                            here = partition::end_queue(here, o, true, y);
+                            stale = true;
+                        }
+                        Change::LevelSet(level, holder) => {
+                            here.level = level;
+                            here.holder = holder;
+                        }
+                        Change::Entered(y) => {
+                            here = partition::enter_normal(here, y);
+                            stale = true;
+                        }
                     }
-                } else if put < Module::CHANNELS {
-                    let message = decisions::message_of(d);
-                    m.messages[put] = message;
-                } else if pass < Module::CHANNELS {
-                    let a = decisions::transfer_of(d);
-                    let q = m.queues[pass];
-                    m.queues[pass] = messages::change(q, a);
-                    let end = queuing::ended_slot(table, x.own, pass, a);
-                    if end < Module::PARTITIONS {
+                    change = second;
+                    turn += 1;
+                }
+                soon[slot] = 0;
+                changed = true;
+            } else if put < Module::CHANNELS {
+                let message = decisions::message_of(d);
+                m.messages[put] = message;
+            } else if pass < Module::CHANNELS {
+                let transfer = decisions::transfer_of(d);
+                let q = m.queues[pass];
+                m.queues[pass] = messages::change(q, transfer);
+                let end = queuing::ended_slot(table, x.own, pass, transfer);
+                if end < Module::PARTITIONS {
+                    soon[end] = 0;
+                    if end == spot {
+                        here = partition::after_transfer(here, transfer);
+                        stale = true;
+                        changed = true;
+                    } else {
                         let p = m.partitions[end];
-                        let q = partition::after_transfer(p, a);
+                        let q = partition::after_transfer(p, transfer);
                         m.partitions[end] = q;
-                        soon[end] = 0;
-                        runs[end] = partition::running_process(q);
                     }
                 }
             }
-            let shown = x.shown;
-            let mut running: u8 = 0;
-            if shown < Module::PARTITIONS {
-                running = runs[shown];
+            if stale {
+                resident::fill(here, &mut currents, &mut objects);
             }
-            last = answer_of(reply, m.t, x.current, running);
+            if changed {
+                let ready = here.arrival;
+                run = resident::running(here.mode, here.level, here.holder, ready, &currents);
+            }
+            let mut running: u8 = 0;
+            if x.shown < Module::PARTITIONS {
+                running = run;
+            }
+            last = events::answer_of(reply, m.t, x.current, running);
             put_answer(list, at, last);
             i += 1;
+        }
+        if spot < Module::PARTITIONS {
+            m.partitions[spot] = here;
         }
         let executive = Executive { inner: m };
         Turn {

@@ -1,6 +1,8 @@
 -- What the code asks of a decision, for the contracts of `decisions`. The machine asks none of it.
 use Prim.Native.Nat.{ℕ}
 use mathlib.Core.Bool.{Bool, true, false}
+use Rattle.machine.specs.declared.Change.{Change}
+use Rattle.machine.specs.declared.Change.the-variants.{Nothing, Stored}
 use Rattle.machine.specs.declared.Message.{Message}
 use Rattle.machine.specs.declared.Transfer.{Transfer}
 use Rattle.machine.specs.declared.Transfer.the-variants.{Taken}
@@ -30,6 +32,38 @@ restarts (Changed a b value) = false
 restarts (Restarted mode) = true
 restarts (Written i x) = false
 restarts (Passed i a value) = false
+
+-- the mode then
+abbrev pub modeOf : Decision → ℕ
+modeOf (Refused code) = 0
+modeOf (Unchanged value extra) = 0
+modeOf Ticked = 0
+modeOf (Blocked id x) = 0
+modeOf (Changed a b value) = 0
+modeOf (Restarted mode) = mode
+modeOf (Written i x) = 0
+modeOf (Passed i a value) = 0
+
+-- the two changes that it makes otherwise, in order
+abbrev pub firstChange : Decision → Change
+firstChange (Refused code) = Nothing
+firstChange (Unchanged value extra) = Nothing
+firstChange Ticked = Nothing
+firstChange (Blocked id x) = Stored id x
+firstChange (Changed a b value) = a
+firstChange (Restarted mode) = Nothing
+firstChange (Written i x) = Nothing
+firstChange (Passed i a value) = Nothing
+
+abbrev pub secondChange : Decision → Change
+secondChange (Refused code) = Nothing
+secondChange (Unchanged value extra) = Nothing
+secondChange Ticked = Nothing
+secondChange (Blocked id x) = Nothing
+secondChange (Changed a b value) = b
+secondChange (Restarted mode) = Nothing
+secondChange (Written i x) = Nothing
+secondChange (Passed i a value) = Nothing
 
 -- the place of the channel on which it leaves a message; past the last for none
 abbrev pub messageAt : Decision → ℕ

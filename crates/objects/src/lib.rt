@@ -1,6 +1,6 @@
 // Semaphores and events of a partition: calls 14 to 20.
 ghost use mathlib.Core.Path.{_≡_};
-ghost use Prim.Native.Nat.{_-_};
+ghost use Prim.Native.Nat.{ℕ, _-_};
 ghost use mathlib.Core.Bool.{cond, _&&_};
 ghost use lib.Dec.{eqb, leb};
 ghost use lib.ListN.{take};
@@ -8,9 +8,15 @@ ghost use Rattle.machine.specs.Limits.{valueLimit};
 ghost use Rattle.machine.specs.Fields.{isName, isMessage, isTimeout, between, numberOf};
 ghost use Rattle.machine.specs.declared.Decision.the-variants.{Refused};
 ghost use Rattle.machine.specs.declared.Change.the-variants.{StoredSemaphore, StoredEvent};
-ghost use Rattle.machine.specs.Partition.{semaphore, event, noSemaphore, noEvent, waiters};
+ghost use Rattle.machine.specs.Partition.{semaphore, event, noSemaphore, noEvent, waiters, firstWaiter};
 ghost use Rattle.machine.specs.Objects.{semaphoreNamed, eventNamed, createSemaphore, createEvent, waitSemaphore, waitEvent, oneMore, signalled, signal, setEvent, resetEvent};
 ghost use Rattle.machine.specs.Decisions.{queued};
+ghost use Rattle.machine.specs.declared.Context.{Context as ContextT};
+ghost use Rattle.machine.specs.declared.Partition.{Partition as PartitionT};
+ghost use Rattle.machine.specs.Process.{object};
+ghost use Rattle.machine.specs.declared.Wait.the-variants.{Semaphore as SemaphoreW};
+ghost use Rattle.decisions.specs.Views.{Shows};
+use decisions::View;
 use machine::Change;
 use machine::Context;
 use machine::Decision;
@@ -23,7 +29,7 @@ use machine::Semaphore;
 use machine::Time;
 use machine::Wait;
 
-fn no_semaphore() -> Semaphore
+pub fn no_semaphore() -> Semaphore
     ensures { λ r. ⌜ r ≡ noSemaphore ⌝ }
 {
     Semaphore {
@@ -33,7 +39,7 @@ fn no_semaphore() -> Semaphore
     }
 }
 
-fn no_event() -> EventState
+pub fn no_event() -> EventState
     ensures { λ r. ⌜ r ≡ noEvent ⌝ }
 {
     EventState { name: 0, up: false }
@@ -117,18 +123,18 @@ fn is_semaphore_admitted(r: Request) -> bool
 }
 
 // 14 CREATE_SEMAPHORE
-pub fn create_semaphore(p: Partition, r: Request) -> Decision
-    ensures { λ x. ⌜ x ≡ createSemaphore r p ⌝ }
+pub fn create_semaphore(v: View, r: Request) -> Decision
+    ensures { λ x. ⌜ ((p : PartitionT) (c : ContextT) (id : ℕ) → Shows v c id p → v .taken ≡ semaphoreNamed (r .a) (take (p .semaphoreCount) (p .semaphores)) → x ≡ createSemaphore r p) ⌝ }
 {
-    let n = p.semaphoreCount as u32;
+    let n = v.semaphores as u32;
     let name = r.a;
     let start = r.b;
     let max = r.c;
     let code = decisions::creation_code(
         Module::SEMAPHORES as u32 <= n,
-        is_semaphore_named(p, name),
+        decisions::taken_in(v),
         is_semaphore_admitted(r),
-        p.mode == 3,
+        v.mode == 3,
     );
     if code != 0 {
         return Decision::Refused(code);
@@ -143,15 +149,15 @@ pub fn create_semaphore(p: Partition, r: Request) -> Decision
 }
 
 // 17 CREATE_EVENT
-pub fn create_event(p: Partition, name: Field) -> Decision
-    ensures { λ x. ⌜ x ≡ createEvent name p ⌝ }
+pub fn create_event(v: View, name: Field) -> Decision
+    ensures { λ x. ⌜ ((p : PartitionT) (c : ContextT) (id : ℕ) → Shows v c id p → v .taken ≡ eventNamed name (take (p .eventCount) (p .events)) → x ≡ createEvent name p) ⌝ }
 {
-    let n = p.eventCount as u32;
+    let n = v.events as u32;
     let code = decisions::creation_code(
         Module::EVENTS as u32 <= n,
-        is_event_named(p, name),
+        decisions::taken_in(v),
         fields::is_name(name),
-        p.mode == 3,
+        v.mode == 3,
     );
     if code != 0 {
         return Decision::Refused(code);
@@ -165,15 +171,15 @@ pub fn create_event(p: Partition, name: Field) -> Decision
 }
 
 // Waits on an object, last in its queue.
-fn wait_queued(p: Partition, c: Context, a: Field, wait: Wait) -> Decision
-    ensures { λ r. ⌜ r ≡ queued c a wait p ⌝ }
+fn wait_queued(v: View, c: Context, a: Field, wait: Wait) -> Decision
+    ensures { λ r. ⌜ ((p : PartitionT) (id : ℕ) → Shows v c id p → r ≡ queued c a wait p) ⌝ }
 {
     if fields::is_number(a, 0) {
         return Decision::Refused(2);
     }
-    let x = partition::process_at(p, decisions::caller_of(c));
+    let x = decisions::calling_in(v);
     let until = process::later_time(Time::At(c.time), fields::time_of(a));
-    decisions::block(p.level, c.caller, process::waiting_for(x, wait, until))
+    decisions::block(v.level, c.caller, process::waiting_for(x, wait, until))
 }
 
 // What a send that may wait admits.
@@ -189,7 +195,7 @@ pub fn is_sending_admitted(m: Field, a: Field) -> bool
 
 // A call that waits with time-out a, by the code of its checks: where it need not wait, success.
 pub fn awaited(
-    p: Partition,
+    v: View,
     c: Context,
     code: u8,
     a: Field,
@@ -197,7 +203,7 @@ pub fn awaited(
     success: Decision,
     wait: Wait,
 ) -> Decision
-    ensures { λ r. ⌜ r ≡ cond (eqb code 0) (cond passes success (queued c a wait p)) (Refused code) ⌝ }
+    ensures { λ r. ⌜ ((p : PartitionT) (id : ℕ) → Shows v c id p → r ≡ cond (eqb code 0) (cond passes success (queued c a wait p)) (Refused code)) ⌝ }
 {
     if code != 0 {
         return Decision::Refused(code);
@@ -205,7 +211,7 @@ pub fn awaited(
     if passes {
         return success;
     }
-    wait_queued(p, c, a, wait)
+    wait_queued(v, c, a, wait)
 }
 
 // The id of an object in 8 bits; 0 for one that no object has.
@@ -222,15 +228,15 @@ fn one_less(n: u16) -> u16
 }
 
 // 15 WAIT_SEMAPHORE
-pub fn wait_semaphore(p: Partition, c: Context, k: u32, a: Field) -> Decision
-    ensures { λ r. ⌜ r ≡ waitSemaphore c k a p ⌝ }
+pub fn wait_semaphore(v: View, c: Context, k: u32, a: Field) -> Decision
+    ensures { λ r. ⌜ ((p : PartitionT) → Shows v c k p → r ≡ waitSemaphore c k a p) ⌝ }
 {
-    let unknown = decisions::is_unknown(k, p.semaphoreCount);
-    let code = decisions::wait_code(unknown, p.mode != 3, fields::is_timeout(a));
-    let s = semaphore_at(p, k);
+    let unknown = decisions::is_unknown(k, v.semaphores);
+    let code = decisions::wait_code(unknown, v.mode != 3, fields::is_timeout(a));
+    let s = decisions::semaphore_in(v);
     let success = decisions::changed(with_value(k, s, one_less(s.value)));
     awaited(
-        p,
+        v,
         c,
         code,
         a,
@@ -241,14 +247,14 @@ pub fn wait_semaphore(p: Partition, c: Context, k: u32, a: Field) -> Decision
 }
 
 // 20 WAIT_EVENT
-pub fn wait_event(p: Partition, c: Context, k: u32, a: Field) -> Decision
-    ensures { λ r. ⌜ r ≡ waitEvent c k a p ⌝ }
+pub fn wait_event(v: View, c: Context, k: u32, a: Field) -> Decision
+    ensures { λ r. ⌜ ((p : PartitionT) → Shows v c k p → r ≡ waitEvent c k a p) ⌝ }
 {
-    let unknown = decisions::is_unknown(k, p.eventCount);
-    let code = decisions::wait_code(unknown, p.mode != 3, fields::is_timeout(a));
-    let e = event_at(p, k);
+    let unknown = decisions::is_unknown(k, v.events);
+    let code = decisions::wait_code(unknown, v.mode != 3, fields::is_timeout(a));
+    let e = decisions::event_in(v);
     let success = Decision::Unchanged(0, Time::At(0));
-    awaited(p, c, code, a, e.up, success, Wait::Event(short_id(k)))
+    awaited(v, c, code, a, e.up, success, Wait::Event(short_id(k)))
 }
 
 fn one_more(n: u16) -> u16
@@ -257,54 +263,52 @@ fn one_more(n: u16) -> u16
     if n < Module::GREATEST { n + 1 } else { n }
 }
 
-// The first waiter's wait on this object ends; none: the value rises by one.
-fn signal_change(p: Partition, k: u32, o: u16) -> Change
-    ensures { λ r. ⌜ r ≡ signalled (waiters o p) k p ⌝ }
+// The first waiter's wait on an object ends; none: the value rises by one.
+fn signal_change(v: View, k: u32) -> Change
+    ensures { λ r. ⌜ ((p : PartitionT) (c : ContextT) (o : ℕ) → Shows v c k p → v .waiter ≡ firstWaiter o p → (o ≡ 0 → ⊥) → r ≡ signalled (waiters o p) k p) ⌝ }
 {
-    let q = partition::queue_of(p, o);
-    if q.len == 0 {
-        let s = semaphore_at(p, k);
+    let id = decisions::waiter_in(v);
+    if id == 0 {
+        let s = decisions::semaphore_in(v);
         return with_value(k, s, one_more(s.value));
     }
-    let id = q.items[0] as u32;
-    let x = partition::process_at(p, id);
-    Change::Stored(id, process::wait_ended(x, 0))
+    let x = decisions::served_in(v);
+    Change::Stored(id as u32, process::wait_ended(x, 0))
 }
 
 // 16 SIGNAL
-pub fn signal_semaphore(p: Partition, k: u32) -> Decision
-    ensures { λ r. ⌜ r ≡ signal k p ⌝ }
+pub fn signal_semaphore(v: View, k: u32) -> Decision
+    ensures { λ r. ⌜ ((p : PartitionT) (c : ContextT) → Shows v c k p → v .waiter ≡ firstWaiter (object (SemaphoreW k)) p → r ≡ signal k p) ⌝ }
 {
-    if decisions::is_unknown(k, p.semaphoreCount) {
+    if decisions::is_unknown(k, v.semaphores) {
         return Decision::Refused(3);
     }
-    let s = semaphore_at(p, k);
+    let s = decisions::semaphore_in(v);
     if s.value == s.max {
         return Decision::Refused(1);
     }
-    let o = process::object_of(Wait::Semaphore(k as u8));
-    decisions::changed(signal_change(p, k, o))
+    decisions::changed(signal_change(v, k))
 }
 
 // 18 SET_EVENT
-pub fn set_event(p: Partition, k: u32) -> Decision
-    ensures { λ r. ⌜ r ≡ setEvent k p ⌝ }
+pub fn set_event(v: View, k: u32) -> Decision
+    ensures { λ r. ⌜ ((p : PartitionT) (c : ContextT) → Shows v c k p → r ≡ setEvent k p) ⌝ }
 {
-    if decisions::is_unknown(k, p.eventCount) {
+    if decisions::is_unknown(k, v.events) {
         return Decision::Refused(3);
     }
-    let e = event_at(p, k);
+    let e = decisions::event_in(v);
     let o = process::object_of(Wait::Event(k as u8));
     Decision::Changed(with_up(k, e, true), Change::Ended(o), 0)
 }
 
 // 19 RESET_EVENT
-pub fn reset_event(p: Partition, k: u32) -> Decision
-    ensures { λ r. ⌜ r ≡ resetEvent k p ⌝ }
+pub fn reset_event(v: View, k: u32) -> Decision
+    ensures { λ r. ⌜ ((p : PartitionT) (c : ContextT) → Shows v c k p → r ≡ resetEvent k p) ⌝ }
 {
-    if decisions::is_unknown(k, p.eventCount) {
+    if decisions::is_unknown(k, v.events) {
         return Decision::Refused(3);
     }
-    let e = event_at(p, k);
+    let e = decisions::event_in(v);
     decisions::changed(with_up(k, e, false))
 }

@@ -9,7 +9,7 @@ use native.Mathlib.Numerals.{add-one}
 use lib.ListN.{length, getD, set, take, drop, length-take, length-map}
 use lib.Seq.{take-append-le, take-all, take-suc, getD-take}
 use lib.Dec.{eqb}
-use borrow.Author.Tests.{eq-eqb, ne-eqb, eqb-true, eqb-false}
+use borrow.Author.Tests.{eq-eqb, ne-eqb, eqb-true, eqb-false, lt-ltb, le-ltb}
 use Rattle.machine.specs.declared.Ids.{Ids}
 use Rattle.machine.specs.declared.Process.{Process}
 use Rattle.machine.specs.declared.Semaphore.{Semaphore}
@@ -21,16 +21,16 @@ use Rattle.machine.specs.declared.Transfer.the-variants.{Put, HandedTo, Taken, 
 use Rattle.machine.specs.declared.Partition.{Partition}
 use Rattle.machine.specs.declared.Change.{Change}
 use Rattle.machine.specs.Limits.{messageLimit, processLimit, semaphoreLimit, eventLimit, bufferLimit, blackboardLimit}
-use Rattle.machine.specs.Ids.{members, idsOf, kept, follow}
+use Rattle.machine.specs.Ids.{members, idsOf, kept, appended, follow}
 use Rattle.machine.specs.Messages.{queueOf, put}
 use Rattle.machine.specs.Process.{blankProcess, due, ticked, ready, onObject}
 use Rattle.machine.specs.Partition.{within, byId, process, buffer, noBuffer, movedIn, withProcesses, withSemaphores, withEvents, withBuffers, withBlackboards, stored, created, storedSemaphore, storedEvent, storedBuffer, storedBlackboard, endedBy, applied, eachFrom}
 use Rattle.machine.proofs.Bounds.{inside, outside-zero, outside-high, named-in, named-out, stored-in, created-in, semaphore-in, event-in, buffer-in, blackboard-in, stored-out}
 use Rattle.machine.proofs.Either.{either}
-use Rattle.machine.proofs.Lists.{next-member, no-member, members-of, put-queueOf}
+use Rattle.machine.proofs.Lists.{scan-next, next-member, no-member, members-of, put-queueOf}
 use Rattle.machine.proofs.Quiet.{stored-same, ticked-same}
 use Rattle.machine.proofs.Tests.{or-left, or-right}
-use Rattle.partition.specs.Places.{slotOf}
+use Rattle.partition.specs.Places.{slotOf, inByte}
 use Rattle.partition.specs.Waits.{endedId, endedAs}
 
 -- a loop over the processes begins with all of them
@@ -39,6 +39,24 @@ each-start f n id p z =
     let a : n - id ≡ n = omega arith in
     let b : id + 1 ≡ 1 = omega arith in
     ap₂ (λ (x y : ℕ). eachFrom f x y p) a b
+
+-- ---------------------------------------------------------------- a list filled in place
+-- the ids before place i of which f says true were found; what the code makes of them where it says so of the next, and where not
+module _ (f : ℕ → Bool) (items : List ℕ) (i : ℕ) (found : Ids) (h : i < length items) (s : i < processLimit) (e : found ≡ idsOf (kept f (take i items))) where
+  pub kept-in : f (getD items i 0) ≡ true → found .len < processLimit → record { items = set (found .items) (found .len) (getD items i 0); len = found .len + 1 } ≡ idsOf (kept f (take (i + 1) items))
+  unfolding appended
+  kept-in t room =
+      let a : appended (getD items i 0) found ≡ idsOf (kept f (take (i + 1) items)) = ap (appended (getD items i 0)) e ∙ scan-next f items i h s true (sym t) in
+      rw (lt-ltb (found .len) processLimit room) at a
+
+  pub kept-full : f (getD items i 0) ≡ true → processLimit ≤ found .len → found ≡ idsOf (kept f (take (i + 1) items))
+  unfolding appended
+  kept-full t full =
+      let a : appended (getD items i 0) found ≡ idsOf (kept f (take (i + 1) items)) = ap (appended (getD items i 0)) e ∙ scan-next f items i h s true (sym t) in
+      rw (le-ltb (found .len) processLimit full) at a
+
+  pub kept-out : f (getD items i 0) ≡ false → found ≡ idsOf (kept f (take (i + 1) items))
+  kept-out t = e ∙ scan-next f items i h s false (sym t)
 
 -- ---------------------------------------------------------------- the first who wait
 -- the first id from place i on of which f says true
@@ -106,8 +124,9 @@ module _ (limit id k : ℕ) (e : k ≡ slotOf limit id) where
   slot-place : k < limit → id - 1 ≡ k
   slot-place h = sym (below (known h))
 
-  slot-id : k < limit → id ≡ k + 1
-  slot-id h = let b : k ≡ id - 1 = below (known h) in let n = known h in omega arith
+  -- a byte holds it
+  slot-byte : limit ≤ 255 → k < limit → inByte id ≡ id
+  slot-byte low h = let b : k ≡ id - 1 = below (known h) in let n = known h in omega arith
 
   pub slot-out : limit ≤ k → within limit id ≡ false
   slot-out h = either (eqb id 0)
@@ -135,37 +154,37 @@ module _ (id k : ℕ) (p : Partition) (x : Process) (e : k ≡ slotOf processLim
   read-out h r = r ∙ named-past processLimit id k e blankProcess (p .processes) h
 
   pub stored-at : (a w : Ids) → k < processLimit
-      → a ≡ follow (ready (getD (p .processes) k blankProcess)) (ready x) (k + 1) (p .arrival)
-      → w ≡ follow (onObject (getD (p .processes) k blankProcess)) (onObject x) (k + 1) (p .waiting)
+      → a ≡ follow (ready (getD (p .processes) k blankProcess)) (ready x) (inByte id) (p .arrival)
+      → w ≡ follow (onObject (getD (p .processes) k blankProcess)) (onObject x) (inByte id) (p .waiting)
       → withProcesses (set (p .processes) k x) (p .processCount) a w p ≡ stored id x p
   stored-at a w h ea ew =
       rw (ea, ew)
       (sym (stored-in id x p (slot-in processLimit id k e h)
       ∙ ap₂ (λ (j n : ℕ). let old = getD (p .processes) j blankProcess in withProcesses (set (p .processes) j x) (p .processCount) (follow (ready old) (ready x) n (p .arrival)) (follow (onObject old) (onObject x) n (p .waiting)) p)
-      (slot-place processLimit id k e h) (slot-id processLimit id k e h)))
+      (slot-place processLimit id k e h) (sym (slot-byte processLimit id k e (omega arith) h))))
 
 -- one of a kind stored at its place, with how many there are
-kind-at : {A : Type 0} (limit id k : ℕ) (e : k ≡ slotOf limit id) (h : k < limit) (l : List A) (a : A) (count n : ℕ) → n ≡ max count (k + 1) → (f : List A → ℕ → Partition) → f (set l k a) n ≡ f (set l (id - 1) a) (max count id)
-kind-at limit id k e h l a count n en f = rw en (sym (ap₂ (λ (j m : ℕ). f (set l j a) (max count m)) (slot-place limit id k e h) (slot-id limit id k e h)))
+kind-at : {A : Type 0} (limit id k : ℕ) (low : limit ≤ 255) (e : k ≡ slotOf limit id) (h : k < limit) (l : List A) (a : A) (count n : ℕ) → n ≡ max count (inByte id) → (f : List A → ℕ → Partition) → f (set l k a) n ≡ f (set l (id - 1) a) (max count id)
+kind-at limit id k low e h l a count n en f = rw en (sym (ap₂ (λ (j m : ℕ). f (set l j a) (max count m)) (slot-place limit id k e h) (sym (slot-byte limit id k e low h))))
 
 module _ (id k : ℕ) (p : Partition) where
-  pub created-at : (x : Process) (n : ℕ) → k ≡ slotOf processLimit id → k < processLimit → n ≡ max (p .processCount) (k + 1) → withProcesses (set (p .processes) k x) n (p .arrival) (p .waiting) p ≡ created id x p
-  created-at x n e h en = kind-at processLimit id k e h (p .processes) x (p .processCount) n en (λ l m. withProcesses l m (p .arrival) (p .waiting) p) ∙ sym (created-in id x p (slot-in processLimit id k e h))
+  pub created-at : (x : Process) (n : ℕ) → k ≡ slotOf processLimit id → k < processLimit → n ≡ max (p .processCount) (inByte id) → withProcesses (set (p .processes) k x) n (p .arrival) (p .waiting) p ≡ created id x p
+  created-at x n e h en = kind-at processLimit id k (omega arith) e h (p .processes) x (p .processCount) n en (λ l m. withProcesses l m (p .arrival) (p .waiting) p) ∙ sym (created-in id x p (slot-in processLimit id k e h))
 
-  pub semaphore-at : (s : Semaphore) (n : ℕ) → k ≡ slotOf semaphoreLimit id → k < semaphoreLimit → n ≡ max (p .semaphoreCount) (k + 1) → withSemaphores (set (p .semaphores) k s) n p ≡ storedSemaphore id s p
-  semaphore-at s n e h en = kind-at semaphoreLimit id k e h (p .semaphores) s (p .semaphoreCount) n en (λ l m. withSemaphores l m p) ∙ sym (semaphore-in id s p (slot-in semaphoreLimit id k e h))
+  pub semaphore-at : (s : Semaphore) (n : ℕ) → k ≡ slotOf semaphoreLimit id → k < semaphoreLimit → n ≡ max (p .semaphoreCount) (inByte id) → withSemaphores (set (p .semaphores) k s) n p ≡ storedSemaphore id s p
+  semaphore-at s n e h en = kind-at semaphoreLimit id k (omega arith) e h (p .semaphores) s (p .semaphoreCount) n en (λ l m. withSemaphores l m p) ∙ sym (semaphore-in id s p (slot-in semaphoreLimit id k e h))
 
-  pub event-at : (x : EventState) (n : ℕ) → k ≡ slotOf eventLimit id → k < eventLimit → n ≡ max (p .eventCount) (k + 1) → withEvents (set (p .events) k x) n p ≡ storedEvent id x p
-  event-at x n e h en = kind-at eventLimit id k e h (p .events) x (p .eventCount) n en (λ l m. withEvents l m p) ∙ sym (event-in id x p (slot-in eventLimit id k e h))
+  pub event-at : (x : EventState) (n : ℕ) → k ≡ slotOf eventLimit id → k < eventLimit → n ≡ max (p .eventCount) (inByte id) → withEvents (set (p .events) k x) n p ≡ storedEvent id x p
+  event-at x n e h en = kind-at eventLimit id k (omega arith) e h (p .events) x (p .eventCount) n en (λ l m. withEvents l m p) ∙ sym (event-in id x p (slot-in eventLimit id k e h))
 
-  pub buffer-at : (b : Buffer) (n : ℕ) → k ≡ slotOf bufferLimit id → k < bufferLimit → n ≡ max (p .bufferCount) (k + 1) → withBuffers (set (p .buffers) k b) n p ≡ storedBuffer id b p
-  buffer-at b n e h en = kind-at bufferLimit id k e h (p .buffers) b (p .bufferCount) n en (λ l m. withBuffers l m p) ∙ sym (buffer-in id b p (slot-in bufferLimit id k e h))
+  pub buffer-at : (b : Buffer) (n : ℕ) → k ≡ slotOf bufferLimit id → k < bufferLimit → n ≡ max (p .bufferCount) (inByte id) → withBuffers (set (p .buffers) k b) n p ≡ storedBuffer id b p
+  buffer-at b n e h en = kind-at bufferLimit id k (omega arith) e h (p .buffers) b (p .bufferCount) n en (λ l m. withBuffers l m p) ∙ sym (buffer-in id b p (slot-in bufferLimit id k e h))
 
-  pub blackboard-at : (b : Blackboard) (n : ℕ) → k ≡ slotOf blackboardLimit id → k < blackboardLimit → n ≡ max (p .blackboardCount) (k + 1) → withBlackboards (set (p .blackboards) k b) n p ≡ storedBlackboard id b p
-  blackboard-at b n e h en = kind-at blackboardLimit id k e h (p .blackboards) b (p .blackboardCount) n en (λ l m. withBlackboards l m p) ∙ sym (blackboard-in id b p (slot-in blackboardLimit id k e h))
+  pub blackboard-at : (b : Blackboard) (n : ℕ) → k ≡ slotOf blackboardLimit id → k < blackboardLimit → n ≡ max (p .blackboardCount) (inByte id) → withBlackboards (set (p .blackboards) k b) n p ≡ storedBlackboard id b p
+  blackboard-at b n e h en = kind-at blackboardLimit id k (omega arith) e h (p .blackboards) b (p .blackboardCount) n en (λ l m. withBlackboards l m p) ∙ sym (blackboard-in id b p (slot-in blackboardLimit id k e h))
 
   -- the messages of a buffer moved where they lie
-  pub moved-at : (a : Transfer) (o : Buffer) (n : ℕ) → k ≡ slotOf bufferLimit id → k < bufferLimit → n ≡ max (p .bufferCount) (k + 1) → withBuffers (set (p .buffers) k (movedIn a (getD (p .buffers) k o))) n p ≡ storedBuffer id (movedIn a (buffer id p)) p
+  pub moved-at : (a : Transfer) (o : Buffer) (n : ℕ) → k ≡ slotOf bufferLimit id → k < bufferLimit → n ≡ max (p .bufferCount) (inByte id) → withBuffers (set (p .buffers) k (movedIn a (getD (p .buffers) k o))) n p ≡ storedBuffer id (movedIn a (buffer id p)) p
   moved-at a o n e h en =
       rw (set-default (movedIn a) (p .buffers) k o noBuffer)
       (buffer-at (movedIn a (getD (p .buffers) k noBuffer)) n e h en ∙ ap (λ (b : Buffer). storedBuffer id (movedIn a b) p) (named-at bufferLimit id k e noBuffer (p .buffers) h))

@@ -1,11 +1,11 @@
 // A partition's record: its processes, the lists that follow them, the running process and the tick.
 ghost use mathlib.Core.Path.{_≡_};
-ghost use Prim.Native.Nat.{_+_, _≤_, _<_, max};
+ghost use Prim.Native.Nat.{_≤_, max};
 ghost use mathlib.Core.Bool.{cond, _||_};
 ghost use mathlib.Core.List.{map};
 ghost use lib.ListN.{length, take};
 ghost use lib.Dec.{eqb};
-ghost use Rattle.partition.specs.Places.{slotOf};
+ghost use Rattle.partition.specs.Places.{slotOf, inByte};
 ghost use Rattle.partition.specs.Soonest.{sooner, soonestOf};
 ghost use Rattle.partition.specs.Waits.{servedWith, endedId, endedAs};
 ghost use Rattle.machine.specs.Limits.{processLimit};
@@ -15,10 +15,8 @@ ghost use Rattle.machine.specs.Process as Pr;
 ghost use Rattle.machine.specs.Process.{carried, due, ready, onObject, ticked, served, entered};
 ghost use Rattle.machine.specs.Partition.{process, stored, arrivedLast, preferred, running, waiters, firstWaiter, changedAll, tickPartition, enteredNormal, nothingCreated, storedEvent, storedBuffer, emptyBuffer, created, endedBy, applied, partitionAfter};
 use machine::Buffer;
-use machine::Change;
 use machine::Choice;
 use machine::Context;
-use machine::Decision;
 use machine::EventState;
 use machine::Ids;
 use machine::Module;
@@ -34,8 +32,15 @@ fn wide(id: u8) -> u32
     id as u32
 }
 
+// An id in a byte; no record has one past 255.
+fn narrow(id: u32) -> u8
+    ensures { λ r. ⌜ r ≡ inByte id ⌝ }
+{
+    if id < 255 { id as u8 } else { 255 }
+}
+
 // How many ids a list holds, the array's length at most.
-fn count(q: Ids) -> usize
+pub fn count(q: Ids) -> usize
     ensures { λ r. ⌜ (r ≡ length (members q)) × (r ≤ processLimit) ⌝ }
 {
     let n = q.len as usize;
@@ -65,6 +70,7 @@ fn append_if(q: Ids, keep: bool, id: u8) -> Ids
     if keep { append(q, id) } else { q }
 }
 
+// A list without an id. It is filled where it lies: a function that gives a list would copy it at each turn.
 fn remove(q: Ids, id: u8) -> Ids
     ensures { λ r. ⌜ r ≡ removed id q ⌝ }
 {
@@ -76,10 +82,23 @@ fn remove(q: Ids, id: u8) -> Ids
     let mut i: usize = 0;
     while i < n {
         let x = q.items[i];
-        found = append_if(found, x != id, x);
+        if x != id {
+            let k = found.len as usize;
+            if k < Module::PROCESSES {
+                found.items[k] = x;
+                found.len = found.len + 1;
+            }
+        }
         i = i + 1;
     }
     found
+}
+
+// The list with this id at its end, and nowhere else.
+pub fn last_in(q: Ids, id: u8) -> Ids
+    ensures { λ r. ⌜ r ≡ appended id (removed id q) ⌝ }
+{
+    append(remove(q, id), id)
 }
 
 // The list after process id went from belonging to it or not (was) to belonging to it or not (now).
@@ -114,7 +133,7 @@ pub fn process_at(p: Partition, id: u32) -> Process
 }
 
 // The process chosen so far, or a later one of greater priority.
-fn or_later(c: Choice, id: u8, priority: u8) -> Choice
+pub fn or_later(c: Choice, id: u8, priority: u8) -> Choice
     ensures { λ r. ⌜ r ≡ preferred c id priority ⌝ }
 {
     if c.id == 0 {
@@ -273,28 +292,21 @@ pub fn soonest_of(p: Partition) -> u32
 }
 
 // ---------------------------------------------------------------- one record stored
-// The arrival list and the waiting list after the process at place i, which had the record old, has the record x.
-fn arrival_with(q: Ids, old: Process, x: Process, i: usize) -> Ids
-    requires { ⌜ i < processLimit ⌝ }
-    ensures { λ r. ⌜ r ≡ follow (ready old) (ready x) (i + 1) q ⌝ }
+// The arrival list and the waiting list after process id, which had the record old, has the record x.
+pub fn arrival_with(q: Ids, old: Process, x: Process, id: u32) -> Ids
+    ensures { λ r. ⌜ r ≡ follow (ready old) (ready x) (inByte id) q ⌝ }
 {
-    followed(
-        q,
-        process::is_ready(old),
-        process::is_ready(x),
-        (i + 1) as u8,
-    )
+    followed(q, process::is_ready(old), process::is_ready(x), narrow(id))
 }
 
-fn waiting_with(q: Ids, old: Process, x: Process, i: usize) -> Ids
-    requires { ⌜ i < processLimit ⌝ }
-    ensures { λ r. ⌜ r ≡ follow (onObject old) (onObject x) (i + 1) q ⌝ }
+pub fn waiting_with(q: Ids, old: Process, x: Process, id: u32) -> Ids
+    ensures { λ r. ⌜ r ≡ follow (onObject old) (onObject x) (inByte id) q ⌝ }
 {
     followed(
         q,
         process::is_on_object(old),
         process::is_on_object(x),
-        (i + 1) as u8,
+        narrow(id),
     )
 }
 
@@ -309,22 +321,21 @@ fn store(p: Partition, id: u32, x: Process) -> Partition
     let mut q = p;
     let old = q.processes[i];
     q.processes[i] = x;
-    q.arrival = arrival_with(q.arrival, old, x, i);
-    q.waiting = waiting_with(q.waiting, old, x, i);
+    q.arrival = arrival_with(q.arrival, old, x, id);
+    q.waiting = waiting_with(q.waiting, old, x, id);
     q
 }
 
-// How many there are with the one at place i among them.
-fn counted(n: u8, i: usize) -> u8
-    requires { ⌜ i < processLimit ⌝ }
-    ensures { λ r. ⌜ r ≡ max n (i + 1) ⌝ }
+// How many there are with this one among them.
+pub fn counted(n: u8, id: u32) -> u8
+    ensures { λ r. ⌜ r ≡ max n (inByte id) ⌝ }
 {
-    let k = (i + 1) as u8;
+    let k = narrow(id);
     if n < k { k } else { n }
 }
 
 // Process id is created with this record.
-fn create(p: Partition, id: u32, x: Process) -> Partition
+pub fn create(p: Partition, id: u32, x: Process) -> Partition
     ensures { λ r. ⌜ r ≡ created id x p ⌝ }
 {
     let i = slot(id, Module::PROCESSES);
@@ -333,25 +344,12 @@ fn create(p: Partition, id: u32, x: Process) -> Partition
     }
     let mut q = p;
     q.processes[i] = x;
-    q.processCount = counted(p.processCount, i);
-    q
-}
-
-fn store_event(p: Partition, k: u32, e: EventState) -> Partition
-    ensures { λ r. ⌜ r ≡ storedEvent k e p ⌝ }
-{
-    let i = slot(k, Module::EVENTS);
-    if Module::EVENTS <= i {
-        return p;
-    }
-    let mut q = p;
-    q.events[i] = e;
-    q.eventCount = counted(p.eventCount, i);
+    q.processCount = counted(p.processCount, id);
     q
 }
 
 // Buffer k is created, with nothing in it.
-fn create_buffer(p: Partition, k: u32, name: u16, limit: u8) -> Partition
+pub fn create_buffer(p: Partition, k: u32, name: u16, limit: u8) -> Partition
     ensures { λ r. ⌜ r ≡ storedBuffer k (emptyBuffer name limit) p ⌝ }
 {
     let i = slot(k, Module::BUFFERS);
@@ -361,18 +359,7 @@ fn create_buffer(p: Partition, k: u32, name: u16, limit: u8) -> Partition
     let b = Buffer::blank();
     let mut q = p;
     q.buffers[i] = Buffer { name, limit, ..b };
-    q.bufferCount = counted(p.bufferCount, i);
-    q
-}
-
-// Process id goes to the end of the arrival list.
-fn arrive_last(p: Partition, id: u8) -> Partition
-    ensures { λ r. ⌜ r ≡ arrivedLast id p ⌝ }
-{
-    let a = p.arrival;
-    let arrival = append(remove(a, id), id);
-    let mut q = p;
-    q.arrival = arrival;
+    q.bufferCount = counted(p.bufferCount, k);
     q
 }
 
@@ -412,6 +399,13 @@ fn end_waits(p: Partition, ids: Ids, hands: bool, m: u32) -> Partition
     q
 }
 
+// The waits of the queue of an object end.
+pub fn end_queue(p: Partition, object: u16, hands: bool, m: u32) -> Partition
+    ensures { λ r. ⌜ r ≡ changedAll (servedWith hands m) (waiters object p) p ⌝ }
+{
+    end_waits(p, queue_of(p, object), hands, m)
+}
+
 // The waits of the first n of the queue of an object end with wake code 0.
 pub fn let_in(p: Partition, object: u16, n: u8) -> Partition
     ensures { λ r. ⌜ r ≡ changedAll served (take n (waiters object p)) p ⌝ }
@@ -420,7 +414,7 @@ pub fn let_in(p: Partition, object: u16, n: u8) -> Partition
 }
 
 // The process whose wait a transfer ends, 0 for none.
-fn ended_id(a: Transfer) -> u32
+pub fn ended_id(a: Transfer) -> u32
     ensures { λ r. ⌜ r ≡ endedId a ⌝ }
 {
     match a {
@@ -432,7 +426,7 @@ fn ended_id(a: Transfer) -> u32
 }
 
 // Its record then.
-fn ended_as(x: Process, a: Transfer) -> Process
+pub fn ended_as(x: Process, a: Transfer) -> Process
     ensures { λ r. ⌜ r ≡ endedAs a x ⌝ }
 {
     match a {
@@ -498,7 +492,7 @@ fn enter_process(p: Partition, c: Context, id: u32) -> Partition
     store(p, id, process::enter(x, c))
 }
 
-fn enter_normal(p: Partition, c: Context) -> Partition
+pub fn enter_normal(p: Partition, c: Context) -> Partition
     ensures { λ r. ⌜ r ≡ enteredNormal c p ⌝ }
 {
     let n = wide(p.processCount);
@@ -515,95 +509,9 @@ fn enter_normal(p: Partition, c: Context) -> Partition
 }
 
 // A partition in this mode with nothing created.
-fn nothing_created(mode: u8) -> Partition
+pub fn nothing_created(mode: u8) -> Partition
     ensures { λ r. ⌜ r ≡ nothingCreated mode ⌝ }
 {
     let p = Partition::empty();
     Partition { mode, ..p }
-}
-
-// ---------------------------------------------------------------- decisions
-// The partition after two changes. The changes that come most often are made in place: a function would copy the partition at its entry
-// and at its end.
-fn change(p: Partition, a: Change, b: Change) -> Partition
-    ensures { λ r. ⌜ r ≡ applied b (applied a p) ⌝ }
-{
-    let mut q = p;
-    let mut c = a;
-    let mut n: u8 = 0;
-    while n < 2 {
-        match c {
-            Change::Nothing => {}
-            Change::Stored(id, x) => {
-                let i = slot(id, Module::PROCESSES);
-                if i < Module::PROCESSES {
-                    let old = q.processes[i];
-                    q.processes[i] = x;
-                    q.arrival = arrival_with(q.arrival, old, x, i);
-                    q.waiting = waiting_with(q.waiting, old, x, i);
-                }
-            }
-            Change::Created(id, x) => q = create(q, id, x),
-            Change::Last(id) => q = arrive_last(q, id),
-            Change::StoredSemaphore(k, s) => {
-                let i = slot(k, Module::SEMAPHORES);
-                if i < Module::SEMAPHORES {
-                    q.semaphores[i] = s;
-                    q.semaphoreCount = counted(q.semaphoreCount, i);
-                }
-            }
-            Change::StoredEvent(k, e) => q = store_event(q, k, e),
-            Change::CreatedBuffer(k, name, limit) => q = create_buffer(q, k, name, limit),
-            Change::Moved(k, m) => {
-                let i = slot(k, Module::BUFFERS);
-                if i < Module::BUFFERS {
-                    let mut v = q.buffers[i];
-                    v.queue = messages::change(v.queue, m);
-                    q.buffers[i] = v;
-                    q.bufferCount = counted(q.bufferCount, i);
-                }
-                let j = slot(ended_id(m), Module::PROCESSES);
-                if j < Module::PROCESSES {
-                    let old = q.processes[j];
-                    let x = ended_as(old, m);
-                    q.processes[j] = x;
-                    q.arrival = arrival_with(q.arrival, old, x, j);
-                    q.waiting = waiting_with(q.waiting, old, x, j);
-                }
-            }
-            Change::StoredBlackboard(k, b) => {
-                let i = slot(k, Module::BLACKBOARDS);
-                if i < Module::BLACKBOARDS {
-                    q.blackboards[i] = b;
-                    q.blackboardCount = counted(q.blackboardCount, i);
-                }
-            }
-            Change::Ended(o) => q = end_waits(q, queue_of(q, o), false, 0),
-            Change::Handed(o, m) => q = end_waits(q, queue_of(q, o), true, m),
-            Change::LevelSet(level, holder) => {
-                q.level = level;
-                q.holder = holder;
-            }
-            Change::Entered(x) => q = enter_normal(q, x),
-        }
-        c = b;
-        n += 1;
-    }
-    q
-}
-
-// The partition after a decision.
-pub fn after(p: Partition, d: Decision) -> Partition
-    ensures { λ r. ⌜ r ≡ partitionAfter d p ⌝ }
-{
-    match d {
-        Decision::Refused(_) => p,
-        Decision::Unchanged(_, _) => p,
-        Decision::Ticked => p,
-        Decision::Blocked(id, x) => change(p, Change::Stored(wide(id), x), Change::Nothing),
-        Decision::Changed(a, b, _) => change(p, a, b),
-        Decision::Restarted(mode) => nothing_created(mode),
-        Decision::Written(_, _) => p,
-        Decision::Passed(_, _, _) => p,
-    }
 }

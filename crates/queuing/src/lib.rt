@@ -1,6 +1,6 @@
 // Queuing channels: what a call sees of their traffic, calls 30 and 31, and queues that a restart fills anew.
 ghost use mathlib.Core.Path.{_≡_};
-ghost use Prim.Native.Nat.{_-_};
+ghost use Prim.Native.Nat.{ℕ, _-_};
 ghost use mathlib.Core.Bool.{cond, _&&_};
 ghost use mathlib.Core.List.{[]};
 ghost use lib.Dec.{eqb, ltb};
@@ -11,6 +11,9 @@ ghost use Rattle.machine.specs.Module.{channel};
 ghost use Rattle.machine.specs.Channels.{queuingAt, seesTraffic, otherEnd, otherQueue, noTraffic, trafficOf, queuingPort, send, receive, leadsInto, refilledAt, refilledTo};
 ghost use Rattle.machine.specs.declared.Table.{Table as TableT};
 ghost use Rattle.queuing.specs.Ports.{numberAt};
+ghost use Rattle.machine.specs.declared.Partition.{Partition as PartitionT};
+ghost use Rattle.decisions.specs.Views.{Shows};
+use decisions::View;
 use machine::Channel;
 use machine::Context;
 use machine::Decision;
@@ -170,34 +173,34 @@ fn code_after(before: u8, start: bool, admitted: bool) -> u8
 }
 
 // 30 SEND
-pub fn send_channel(p: Partition, c: Context, x: Port, m: Field, a: Field) -> Decision
-    ensures { λ d. ⌜ d ≡ send c x m a p ⌝ }
+pub fn send_channel(v: View, c: Context, x: Port, m: Field, a: Field) -> Decision
+    ensures { λ d. ⌜ ((p : PartitionT) (id : ℕ) → Shows v c id p → d ≡ send c x m a p) ⌝ }
 {
     let channel = x.channel;
     let traffic = x.traffic;
     let ends = channels::end_code(x, !is_queuing_port(x), channel.source);
-    let code = code_after(ends, p.mode != 3, objects::is_sending_admitted(m, a));
+    let code = code_after(ends, v.mode != 3, objects::is_sending_admitted(m, a));
     let n = fields::number_of(m);
     let success = Decision::Passed(x.place, messages::sent_to(traffic.waiter, n), 0);
     let wait = Wait::Source(number_at(x.place as usize), n);
-    objects::awaited(p, c, code, a, traffic.len < channel.size, success, wait)
+    objects::awaited(v, c, code, a, traffic.len < channel.size, success, wait)
 }
 
 // 31 RECEIVE
-pub fn receive_channel(p: Partition, c: Context, x: Port, a: Field) -> Decision
-    ensures { λ d. ⌜ d ≡ receive c x a p ⌝ }
+pub fn receive_channel(v: View, c: Context, x: Port, a: Field) -> Decision
+    ensures { λ d. ⌜ ((p : PartitionT) (id : ℕ) → Shows v c id p → d ≡ receive c x a p) ⌝ }
 {
     let channel = x.channel;
     let traffic = x.traffic;
     let ends = channels::end_code(x, !is_queuing_port(x), channel.destination);
-    let code = code_after(ends, p.mode != 3, fields::is_timeout(a));
+    let code = code_after(ends, v.mode != 3, fields::is_timeout(a));
     let success = Decision::Passed(
         x.place,
         messages::received_from(traffic.waiter, traffic.carried),
         traffic.first,
     );
     let wait = Wait::Destination(number_at(x.place as usize));
-    objects::awaited(p, c, code, a, 0 < traffic.len, success, wait)
+    objects::awaited(v, c, code, a, 0 < traffic.len, success, wait)
 }
 
 // ---------------------------------------------------------------- restarts

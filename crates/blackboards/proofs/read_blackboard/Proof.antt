@@ -10,7 +10,7 @@ use Rattle.blackboards.proofs.read_blackboard.Tie as tie
 
 returns : tie.Need-returns
 unfolding readBlackboard awaiting Passed
-returns c = c .awaited .ensures ∙ by-code _ (c .before .before .before .wait-code .result) _ _ (rw (c .before .before .before .before .before .before .is-unknown .ensures, c .before .before .before .before .is-timeout .ensures) at (c .before .before .before .wait-code .ensures)) refl (λ h. rw (c .before .before .blackboard-at .ensures, short-known (c .before .before .before .before .before .before .before .args .k) _ (c .before .before .before .before .before .before .before .args .p .blackboardCount) (c .before .short-id .ensures) (omega (arith, c .before .before .before .before .before .before .before .good)) (h .0)))
+returns c p s = c .awaited .ensures p _ s ∙ by-code _ (c .before .before .before .wait-code .result) _ _ (rw (c .before .before .before .before .before .before .is-unknown .ensures, c .before .before .before .before .is-timeout .ensures, s .blackboards, s .mode) at (c .before .before .before .wait-code .ensures)) refl (λ h. rw (c .before .before .blackboard-in .ensures ∙ s .blackboard, short-known (c .before .before .before .before .before .before .before .args .k) _ (p .blackboardCount) (c .before .short-id .ensures) (omega (arith, c .before .before .before .before .before .before .before .good, s .blackboards)) (h .0)))
 
 pub read-blackboard-spec : {M : Type 1} → statement M
 read-blackboard-spec =

@@ -13,7 +13,7 @@ use Rattle.buffers.proofs.create_buffer.Tie as tie
 
 returns : tie.Need-returns
 unfolding createBuffer
-returns c = refused-code _ _ (rw (c .before .before .before .before .is-buffer-named .ensures, c .before .before .before .is-buffer-admitted .ensures) at (c .before .creation-code .ensures)) _ (c .if1 .taken)
+returns c p k id s t = rw (← t, ← s .buffers, ← s .mode) (refused-code _ _ (rw (c .before .before .before .before .taken-in .ensures, c .before .before .before .is-buffer-admitted .ensures) at (c .before .creation-code .ensures)) _ (c .if1 .taken))
 
 cast-t13 : tie.Need-cast-t13
 cast-t13 c = let a = c .before .before .before .before .before .before .before .args in omega (arith, c .number-of .ensures, named-low (a .name) (and-left (isName (a .name)) _ (sym (c .before .before .before .before .is-buffer-admitted .ensures) ∙ admitted-code _ _ _ _ _ (c .before .before .creation-code .ensures) (c .before .if1 .left))))
@@ -23,7 +23,7 @@ cast-t15 c = let a = c .before .before .before .before .before .before .before .
 
 returns-2 : tie.Need-returns-2
 unfolding createBuffer
-returns-2 c = rw (c .number-of2 .ensures, c .before .number-of .ensures) (passed-code _ _ (rw (c .before .before .before .before .before .before .is-buffer-named .ensures, c .before .before .before .before .before .is-buffer-admitted .ensures) at (c .before .before .before .creation-code .ensures)) _ refl (c .before .before .if1 .left) .0)
+returns-2 c p k id s t = rw (← t, ← s .buffers, ← s .mode, c .number-of2 .ensures, c .before .number-of .ensures) (passed-code _ _ (rw (c .before .before .before .before .before .before .taken-in .ensures, c .before .before .before .before .before .is-buffer-admitted .ensures) at (c .before .before .before .creation-code .ensures)) _ refl (c .before .before .if1 .left) .0)
 
 pub create-buffer-spec : {M : Type 1} → statement M
 create-buffer-spec =

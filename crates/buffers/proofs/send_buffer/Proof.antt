@@ -10,14 +10,12 @@ use Rattle.buffers.proofs.send_buffer.Tie as tie
 
 returns : tie.Need-returns
 unfolding sendBuffer awaiting Passed
-returns c = c .awaited .ensures ∙ by-code _ (c .before .before .before .before .before .before .before .before .before .wait-code .result) _ _ (rw (c .before .before .before .before .before .before .before .before .before .before .before .before .is-unknown .ensures, c .before .before .before .before .before .before .before .before .before .before .is-sending-admitted .ensures) at (c .before .before .before .before .before .before .before .before .before .wait-code .ensures)) refl (λ h. rw (c .before .has-room .ensures, c .before .before .buffer-at .ensures, c .before .before .before .changed .ensures, c .before .before .before .before .sent-to .ensures, c .before .before .before .before .before .before .first-waiter .ensures, c .before .before .before .before .before .before .before .object-of .ensures, c .before .before .before .before .before .number-of .ensures, short-known (c .before .before .before .before .before .before .before .before .before .before .before .before .before .args .k) _ (c .before .before .before .before .before .before .before .before .before .before .before .before .before .args .p .bufferCount) (c .before .before .before .before .before .before .before .before .short-id .ensures) (omega (arith, c .before .before .before .before .before .before .before .before .before .before .before .before .before .good)) (h .0)))
+returns c p s w = c .awaited .ensures p _ s ∙ by-code _ (c .before .before .before .before .before .before .before .wait-code .result) _ _ (rw (c .before .before .before .before .before .before .before .before .before .before .is-unknown .ensures, c .before .before .before .before .before .before .before .before .is-sending-admitted .ensures, s .buffers, s .mode) at (c .before .before .before .before .before .before .before .wait-code .ensures)) refl (λ h. rw (c .before .has-room .ensures, s .len, s .limit, c .before .before .changed .ensures, c .before .before .before .sent-to .ensures, c .before .before .before .before .before .waiter-in .ensures ∙ w, c .before .before .before .before .number-of .ensures, short-known (c .before .before .before .before .before .before .before .before .before .before .before .args .k) _ (p .bufferCount) (c .before .before .before .before .before .before .short-id .ensures) (omega (arith, c .before .before .before .before .before .before .before .before .before .before .before .good, s .buffers)) (h .0)))
 
 pub send-buffer-spec : {M : Type 1} → statement M
 send-buffer-spec =
     tie.close
     (tie.spec
-    (λ _ _. tt)
-    (λ _ _. tt)
     (λ _ _. tt)
     (λ _ _. tt)
     (λ _ _. tt)

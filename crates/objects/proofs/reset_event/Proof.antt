@@ -5,11 +5,11 @@ use Rattle.objects.proofs.reset_event.Tie as tie
 
 returns : tie.Need-returns
 unfolding checked resetEvent
-returns c = rw (← c .before .is-unknown .ensures, c .if1 .taken)
+returns c p k s = rw (← s .events, ← s .event, ← c .before .is-unknown .ensures, c .if1 .taken)
 
 returns-2 : tie.Need-returns-2
 unfolding checked resetEvent
-returns-2 c = rw (c .changed .ensures, c .before .with-up .ensures, c .before .before .event-at .ensures, ← c .before .before .before .before .is-unknown .ensures, c .before .before .before .if1 .left)
+returns-2 c p k s = rw (← s .events, ← s .event, c .changed .ensures, c .before .with-up .ensures, c .before .before .event-in .ensures, ← c .before .before .before .before .is-unknown .ensures, c .before .before .before .if1 .left)
 
 pub reset-event-spec : {M : Type 1} → statement M
 reset-event-spec =

@@ -10,11 +10,11 @@ use Rattle.objects.proofs.wait_event.Tie as tie
 
 returns : tie.Need-returns
 unfolding waitEvent awaiting Passed
-returns c =
+returns c p s =
     let a = c .before .before .before .before .before .before .before .args in
-    c .awaited .ensures
-    ∙ by-code _ (c .before .before .before .wait-code .result) _ _ (rw (c .before .before .before .before .before .before .is-unknown .ensures, c .before .before .before .before .is-timeout .ensures) at (c .before .before .before .wait-code .ensures)) refl
-    (λ h. rw (short-known (a .k) _ (a .p .eventCount) (c .before .short-id .ensures) (omega (arith, c .before .before .before .before .before .before .before .good)) (h .0), c .before .before .event-at .ensures))
+    c .awaited .ensures p _ s
+    ∙ by-code _ (c .before .before .before .wait-code .result) _ _ (rw (c .before .before .before .before .before .before .is-unknown .ensures, c .before .before .before .before .is-timeout .ensures, s .events, s .mode) at (c .before .before .before .wait-code .ensures)) refl
+    (λ h. rw (short-known (a .k) _ (p .eventCount) (c .before .short-id .ensures) (omega (arith, c .before .before .before .before .before .before .before .good, s .events)) (h .0), c .before .before .event-in .ensures ∙ s .event))
 
 pub wait-event-spec : {M : Type 1} → statement M
 wait-event-spec =

@@ -5,10 +5,10 @@ use Rattle.queuing.proofs.receive_channel.Statement.{statement}
 use Rattle.queuing.proofs.receive_channel.Tie as tie
 
 returns : tie.Need-returns
-returns c =
+returns c p id s =
     let a = c .before .before .before .before .before .before .before .before .before .before .before .before .args in
-    c .awaited .ensures
-    ∙ (receives (a .c) (a .x) (a .a) (a .p) _ _ _ _ (c .before .before .number-at .ensures) (rw (c .before .before .before .before .before .before .before .before .before .is-queuing-port .ensures) at (c .before .before .before .before .before .before .before .before .end-code .ensures)) (rw (c .before .before .before .before .before .before .is-timeout .ensures) at (c .before .before .before .before .before .code-after .ensures)) (c .before .before .before .before .received-from .ensures))
+    c .awaited .ensures p id s
+    ∙ (receives (a .c) (a .x) (a .a) p _ _ _ _ (c .before .before .number-at .ensures) (rw (c .before .before .before .before .before .before .before .before .before .is-queuing-port .ensures) at (c .before .before .before .before .before .before .before .before .end-code .ensures)) (rw (c .before .before .before .before .before .before .is-timeout .ensures, s .mode) at (c .before .before .before .before .before .code-after .ensures)) (c .before .before .before .before .received-from .ensures))
 
 pub receive-channel-spec : {M : Type 1} → statement M
 receive-channel-spec =

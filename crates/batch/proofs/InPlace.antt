@@ -4,10 +4,10 @@ use mathlib.Core.Path.{◌≡◌, sym}
 use Rattle.machine.specs.declared.EventRecord.{EventRecord}
 use Rattle.executive.specs.Lists as L
 use Rattle.executive.specs.declared.Executive.{Executive}
-use Rattle.executive.proofs.Lists.{list-after, list-answered}
-use Rattle.batch.specs.Batch.{eventsOf, afterList, answeredList}
+use Rattle.executive.proofs.Lists.{list_after, list_answered}
+use Rattle.batch.specs.Batch.{events_of, after_list, answered_list}
 
 -- `Executive::run` over the numbers of a list's events leaves what `run` leaves, and the numbers of the answers that `run` keeps
-pub list-in-place : (m : Executive) (l : List EventRecord)
-    → (L.afterList m.inner (L.eventNumbers (eventsOf l)) ≡ (afterList m l).inner) × (L.answeredList m.inner (L.eventNumbers (eventsOf l)) ≡ L.numbersIn (answeredList m l))
-list-in-place m l = (list-after m.inner (eventsOf l), list-answered m.inner (eventsOf l))
+pub list_in_place : (m : Executive) (l : List EventRecord)
+    → (L.after_list m.inner (L.event_numbers (events_of l)) ≡ (after_list m l).inner) × (L.answered_list m.inner (L.event_numbers (events_of l)) ≡ L.numbers_in (answered_list m l))
+list_in_place m l = (list_after m.inner (events_of l), list_answered m.inner (events_of l))

@@ -3,23 +3,23 @@ use mathlib.Core.Path.{◌≡◌, refl, ap}
 use mathlib.Core.List.{List, [], ◌∷◌, ◌++◌}
 use Rattle.machine.specs.declared.Event.{Event}
 use Rattle.machine.specs.declared.EventRecord.{EventRecord}
-use Rattle.machine.proofs.Run.{after_more, answers-more}
+use Rattle.machine.proofs.Run.{after_more, answers_more}
 use Rattle.executive.specs.declared.Executive.{Executive}
-use Rattle.batch.specs.Batch.{eventsOf, answered, afterList, answeredList}
+use Rattle.batch.specs.Batch.{events_of, answered, after_list, answered_list}
 
 -- every record keeps its event, in its place
-pub events-kept : (m : Executive) (l : List EventRecord) → eventsOf (answeredList m l) ≡ eventsOf l
-events-kept m [] = refl
-events-kept m (x ∷ l) = ap (λ (es : List Event). x.event ∷ es) (events-kept (answered m x).executive l)
+pub events_kept : (m : Executive) (l : List EventRecord) → events_of (answered_list m l) ≡ events_of l
+events_kept m [] = refl
+events_kept m (x ∷ l) = ap (λ (es : List Event). x.event ∷ es) (events_kept (answered m x).executive l)
 
-events-of-both : (left right : List EventRecord) → eventsOf (left ++ right) ≡ eventsOf left ++ eventsOf right
-events-of-both [] right = refl
-events-of-both (x ∷ left) right = ap (λ (es : List Event). x.event ∷ es) (events-of-both left right)
+events_of_both : (left right : List EventRecord) → events_of (left ++ right) ≡ events_of left ++ events_of right
+events_of_both [] right = refl
+events_of_both (x ∷ left) right = ap (λ (es : List Event). x.event ∷ es) (events_of_both left right)
 
 -- a list run in two parts, one call after the other, is run as in one call
 pub in_parts : (m : Executive) (left right : List EventRecord)
-    → (afterList m (left ++ right) ≡ afterList (afterList m left) right) × (answeredList m (left ++ right) ≡ answeredList m left ++ answeredList (afterList m left) right)
+    → (after_list m (left ++ right) ≡ after_list (after_list m left) right) × (answered_list m (left ++ right) ≡ answered_list m left ++ answered_list (after_list m left) right)
 in_parts m left right = (
-  rw (events-of-both left right, after_more m.inner (eventsOf left) (eventsOf right)),
-  rw (events-of-both left right) (answers-more m.inner (eventsOf left) (eventsOf right)),
+  rw (events_of_both left right, after_more m.inner (events_of left) (events_of right)),
+  rw (events_of_both left right) (answers_more m.inner (events_of left) (events_of right)),
 )

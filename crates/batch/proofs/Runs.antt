@@ -9,13 +9,13 @@ use lib.Seq.{drop-cons, drop-set-lt, take-suc-set, append_snoc, take_all}
 use Rattle.machine.specs.declared.EventRecord.{EventRecord}
 use Rattle.executive.specs.declared.Executive.{Executive}
 use Rattle.batch.specs.declared.Answered.{Answered}
-use Rattle.batch.specs.Batch.{answered, afterList, answeredList}
+use Rattle.batch.specs.Batch.{answered, after_list, answered_list}
 
 pub record Kept (m : Executive) (ys : List EventRecord) (i : ℕ) (s : Executive) (l : List EventRecord) : Type 0 where
   pub le : i ≤ length ys
   pub len : length l ≡ length ys
-  pub executive : afterList s (drop i l) ≡ afterList m ys
-  pub list : take i l ++ answeredList s (drop i l) ≡ answeredList m ys
+  pub executive : after_list s (drop i l) ≡ after_list m ys
+  pub list : take i l ++ answered_list s (drop i l) ≡ answered_list m ys
 
 pub begins : (m : Executive) (ys : List EventRecord) → Kept m ys 0 m ys
 begins m ys = record { le = omega arith; len = refl; executive = refl; list = refl }
@@ -30,16 +30,16 @@ goes_on m ys i s l d r k h e =
     record {
       le = omega arith;
       len = length-set l i r.event ∙ k.len;
-      executive = rw (add-one, rest, e) (ap (afterList s) (sym now) ∙ k.executive);
+      executive = rw (add-one, rest, e) (ap (after_list s) (sym now) ∙ k.executive);
       list =
           rw (add-one, rest, front)
-          (append_snoc (take i l) r.event (answeredList r.executive (drop (suc i) l))
-          ∙ rw e (ap (λ (x : List EventRecord). take i l ++ answeredList s x) (sym now) ∙ k.list));
+          (append_snoc (take i l) r.event (answered_list r.executive (drop (suc i) l))
+          ∙ rw e (ap (λ (x : List EventRecord). take i l ++ answered_list s x) (sym now) ∙ k.list));
     }
 
-pub done-executive : (m : Executive) (ys : List EventRecord) (i : ℕ) (s : Executive) (l : List EventRecord) → Kept m ys i s l → length ys ≤ i → s ≡ afterList m ys
-done-executive m ys i s l k h = rw (drop_of_length-le l {i = i} (omega (arith, k.len))) at k.executive
+pub done_executive : (m : Executive) (ys : List EventRecord) (i : ℕ) (s : Executive) (l : List EventRecord) → Kept m ys i s l → length ys ≤ i → s ≡ after_list m ys
+done_executive m ys i s l k h = rw (drop_of_length-le l {i = i} (omega (arith, k.len))) at k.executive
 
-pub done-list : (m : Executive) (ys : List EventRecord) (i : ℕ) (s : Executive) (l : List EventRecord) → Kept m ys i s l → length ys ≤ i → l ≡ answeredList m ys
-done-list m ys i s l k h =
+pub done_list : (m : Executive) (ys : List EventRecord) (i : ℕ) (s : Executive) (l : List EventRecord) → Kept m ys i s l → length ys ≤ i → l ≡ answered_list m ys
+done_list m ys i s l k h =
     sym (append-nil l) ∙ rw (drop_of_length-le l {i = i} (omega (arith, k.len)), take_all i l (omega (arith, k.len))) at k.list

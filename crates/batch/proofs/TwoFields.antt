@@ -36,5 +36,5 @@ module _ {M : Type 1} {𝓤 : Ura M} {𝓛 : Logic 𝓤} {K : Type 0} {Γ : List
     pub first_of : Opd K 𝓛 Γ E (copy (place i (field 0 ∷ []))) v
     first_of = field_of 0 (tcons τ (tcons υ tnil)) (vcons v (vcons w vnil)) _ _ refl e f
 
-    pub second-of : Opd K 𝓛 Γ E (copy (place i (field 1 ∷ []))) w
-    second-of = field_of 1 (tcons τ (tcons υ tnil)) (vcons v (vcons w vnil)) _ _ refl e f
+    pub second_of : Opd K 𝓛 Γ E (copy (place i (field 1 ∷ []))) w
+    second_of = field_of 1 (tcons τ (tcons υ tnil)) (vcons v (vcons w vnil)) _ _ refl e f

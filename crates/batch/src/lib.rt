@@ -1,6 +1,6 @@
 // A lent list of event records, run in one call.
 ghost use Rattle.std.specs.Prelude.{◌≡◌};
-ghost use Rattle.batch.specs.Batch.{answered, afterList, answeredList};
+ghost use Rattle.batch.specs.Batch.{answered, after_list, answered_list};
 
 use executive::Executive;
 use machine::EventRecord;
@@ -28,7 +28,7 @@ fn answer(m: Executive, x: EventRecord) -> Answered
 
 // Every event of a lent list, in order; each answer is kept in its record.
 pub fn run(m: Executive, list: &mut [EventRecord]) -> Executive
-    ensures { (result ≡ afterList m list.old) × (list.new ≡ answeredList m list.old) }
+    ensures { (result ≡ after_list m list.old) × (list.new ≡ answered_list m list.old) }
 {
     let mut s = m;
     let mut i: usize = 0;

@@ -1,7 +1,7 @@
 // Runs a lent list of events again and again, for tests/bench. Standard input has a line whose first number is how often, a
 // table, and event lines; the answers of the last run are printed.
 ghost use Rattle.std.specs.Prelude.{◌≡◌};
-ghost use Rattle.batch.specs.Batch.{answeredList};
+ghost use Rattle.batch.specs.Batch.{answered_list};
 
 use executive::Executive;
 use libc::{STDIN_FILENO, STDOUT_FILENO};
@@ -21,7 +21,7 @@ struct Answered {
 
 // Lends the list.
 fn run(m: Executive, list: [EventRecord; EVENTS]) -> Answered
-    ensures { result.records ≡ answeredList m list }
+    ensures { result.records ≡ answered_list m list }
 {
     let mut records = list;
     batch::run(m, &mut records);

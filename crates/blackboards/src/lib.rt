@@ -1,7 +1,7 @@
 // Blackboards of a partition: calls 26 to 29.
 ghost use Rattle.std.specs.Prelude.{◌≡◌, take, ℕ};
-ghost use Rattle.machine.specs.Partition.{emptyBlackboard, blackboard};
-ghost use Rattle.machine.specs.Blackboards.{blackboardNamed, createBlackboard, show, readBlackboard, clear};
+ghost use Rattle.machine.specs.Partition.{empty_blackboard, blackboard};
+ghost use Rattle.machine.specs.Blackboards.{blackboard_named, create_blackboard, show, read_blackboard, clear};
 ghost use Rattle.machine.specs.declared.Partition.{Partition as PartitionT};
 ghost use Rattle.decisions.specs.Views.{Shows};
 
@@ -10,7 +10,7 @@ use machine::{Blackboard, Change, Context, Decision, Field, Module, Partition, T
 
 // A blackboard that shows nothing.
 pub fn empty_blackboard(name: u16) -> Blackboard
-    ensures { result ≡ emptyBlackboard name }
+    ensures { result ≡ empty_blackboard name }
 {
     Blackboard {
         name,
@@ -30,7 +30,7 @@ pub fn blackboard_at(p: Partition, k: u32) -> Blackboard
 }
 
 pub fn is_blackboard_named(p: Partition, name: Field) -> bool
-    ensures { result ≡ blackboardNamed name (take p.blackboardCount p.blackboards) }
+    ensures { result ≡ blackboard_named name (take p.blackboardCount p.blackboards) }
 {
     let mut i: usize = 0;
     while i < Module::BLACKBOARDS {
@@ -45,7 +45,7 @@ pub fn is_blackboard_named(p: Partition, name: Field) -> bool
 
 // 26 CREATE_BLACKBOARD
 pub fn create_blackboard(v: View, name: Field) -> Decision
-    ensures { (p : PartitionT) (id who : ℕ) → Shows v id who p → v.taken ≡ blackboardNamed name (take p.blackboardCount p.blackboards) → result ≡ createBlackboard name p }
+    ensures { (p : PartitionT) (id who : ℕ) → Shows v id who p → v.taken ≡ blackboard_named name (take p.blackboardCount p.blackboards) → result ≡ create_blackboard name p }
 {
     let n = v.blackboards as u32;
     let code = decisions::creation_code(
@@ -89,7 +89,7 @@ pub fn show_blackboard(v: View, k: u32, m: Field) -> Decision
 
 // 28 READ_BLACKBOARD
 pub fn read_blackboard(v: View, c: Context, k: u32, a: Field) -> Decision
-    ensures { (p : PartitionT) → Shows v k c.caller p → result ≡ readBlackboard c k a p }
+    ensures { (p : PartitionT) → Shows v k c.caller p → result ≡ read_blackboard c k a p }
 {
     let unknown = decisions::is_unknown(k, v.blackboards);
     let code = decisions::wait_code(unknown, v.mode != 3, fields::is_timeout(a));

@@ -1,9 +1,9 @@
 // Buffers of a partition: calls 23 to 25.
 ghost use Rattle.std.specs.Prelude.{◌≡◌, ◌&&◌, take, ℕ};
-ghost use Rattle.machine.specs.Limits.{messageLimit};
-ghost use Rattle.machine.specs.Fields.{isName, between};
-ghost use Rattle.machine.specs.Partition.{buffer, firstWaiter};
-ghost use Rattle.machine.specs.Buffers.{bufferNamed, createBuffer, sendBuffer, receiveBuffer};
+ghost use Rattle.machine.specs.Limits.{message_limit};
+ghost use Rattle.machine.specs.Fields.{is_name, between};
+ghost use Rattle.machine.specs.Partition.{buffer, first_waiter};
+ghost use Rattle.machine.specs.Buffers.{buffer_named, create_buffer, send_buffer, receive_buffer};
 ghost use Rattle.machine.specs.declared.Partition.{Partition as PartitionT};
 ghost use Rattle.decisions.specs.Views.{Shows};
 ghost use Rattle.machine.specs.Process.{object};
@@ -23,7 +23,7 @@ pub fn buffer_at(p: Partition, k: u32) -> Buffer
 }
 
 pub fn is_buffer_named(p: Partition, name: Field) -> bool
-    ensures { result ≡ bufferNamed name (take p.bufferCount p.buffers) }
+    ensures { result ≡ buffer_named name (take p.bufferCount p.buffers) }
 {
     let mut i: usize = 0;
     while i < Module::BUFFERS {
@@ -38,7 +38,7 @@ pub fn is_buffer_named(p: Partition, name: Field) -> bool
 
 // What CREATE_BUFFER admits.
 fn is_buffer_admitted(name: Field, limit: Field) -> bool
-    ensures { result ≡ isName name && between 1 messageLimit limit }
+    ensures { result ≡ is_name name && between 1 message_limit limit }
 {
     if fields::is_name(name) {
         fields::is_between(limit, 1, Module::MESSAGES as u32)
@@ -49,7 +49,7 @@ fn is_buffer_admitted(name: Field, limit: Field) -> bool
 
 // 23 CREATE_BUFFER
 pub fn create_buffer(v: View, name: Field, limit: Field) -> Decision
-    ensures { (p : PartitionT) (id who : ℕ) → Shows v id who p → v.taken ≡ bufferNamed name (take p.bufferCount p.buffers) → result ≡ createBuffer name limit p }
+    ensures { (p : PartitionT) (id who : ℕ) → Shows v id who p → v.taken ≡ buffer_named name (take p.bufferCount p.buffers) → result ≡ create_buffer name limit p }
 {
     let n = v.buffers as u32;
     let code = decisions::creation_code(
@@ -72,7 +72,7 @@ pub fn create_buffer(v: View, name: Field, limit: Field) -> Decision
 
 // 24 SEND_BUFFER
 pub fn send_buffer(v: View, c: Context, k: u32, m: Field, a: Field) -> Decision
-    ensures { (p : PartitionT) → Shows v k c.caller p → v.waiter ≡ firstWaiter (object (Receiving k)) p → result ≡ sendBuffer c k m a p }
+    ensures { (p : PartitionT) → Shows v k c.caller p → v.waiter ≡ first_waiter (object (Receiving k)) p → result ≡ send_buffer c k m a p }
 {
     let unknown = decisions::is_unknown(k, v.buffers);
     let code = decisions::wait_code(unknown, v.mode != 3, decisions::is_sending_admitted(m, a));
@@ -86,7 +86,7 @@ pub fn send_buffer(v: View, c: Context, k: u32, m: Field, a: Field) -> Decision
 
 // 25 RECEIVE_BUFFER
 pub fn receive_buffer(v: View, c: Context, k: u32, a: Field) -> Decision
-    ensures { (p : PartitionT) → Shows v k c.caller p → v.waiter ≡ firstWaiter (object (Sending k 0)) p → result ≡ receiveBuffer c k a p }
+    ensures { (p : PartitionT) → Shows v k c.caller p → v.waiter ≡ first_waiter (object (Sending k 0)) p → result ≡ receive_buffer c k a p }
 {
     let unknown = decisions::is_unknown(k, v.buffers);
     let code = decisions::wait_code(unknown, v.mode != 3, fields::is_timeout(a));

@@ -1,12 +1,12 @@
 // What a call sees of a channel; sampling channels: calls 21 and 22, and what a restart erases.
 ghost use Rattle.std.specs.Prelude.{◌≡◌, ◌-◌, cond, leb};
-ghost use Rattle.machine.specs.Limits.{partitionLimit, channelLimit};
+ghost use Rattle.machine.specs.Limits.{partition_limit, channel_limit};
 ghost use Rattle.machine.specs.Fields.{number_of};
 ghost use Rattle.machine.specs.Decisions.{code_of};
 ghost use Rattle.machine.specs.Partition.{within};
-ghost use Rattle.machine.specs.Module.{noChannel, channel};
+ghost use Rattle.machine.specs.Module.{no_channel, channel};
 ghost use Rattle.machine.specs.declared.Table.{Table as TableT};
-ghost use Rattle.machine.specs.Channels.{queuing, seen_at, portAt, apart, channelChecks, write, read, kept_to};
+ghost use Rattle.machine.specs.Channels.{queuing, seen_at, port_at, apart, channel_checks, write, read, kept_to};
 
 use machine::{Channel, Context, Decision, Field, Message, Module, Port, Table, Time, Traffic};
 
@@ -30,7 +30,7 @@ pub fn place_of(a: Field) -> u32
 
 // What stands for a channel where there is none.
 pub fn no_channel() -> Channel
-    ensures { result ≡ noChannel }
+    ensures { result ≡ no_channel }
 {
     Channel {
         source: 0,
@@ -61,7 +61,7 @@ fn seen_at(k: u32, c: Channel, x: Message) -> Message
 
 // What partition k sees of the channel that a names, which is this one of so many, on which x lies, with this traffic.
 pub fn port_at(count: u8, here: Channel, k: u32, a: Field, x: Message, traffic: Traffic) -> Port
-    ensures { (T : TableT) → T.channelCount ≡ count → here ≡ channel T (number_of a - 1) → result ≡ portAt T k a x traffic }
+    ensures { (T : TableT) → T.channelCount ≡ count → here ≡ channel T (number_of a - 1) → result ≡ port_at T k a x traffic }
 {
     let place = place_of(a);
     Port {
@@ -76,7 +76,7 @@ pub fn port_at(count: u8, here: Channel, k: u32, a: Field, x: Message, traffic: 
 
 // Whether the record has a place for partition k.
 fn has_place(k: u8) -> bool
-    ensures { result ≡ within partitionLimit k }
+    ensures { result ≡ within partition_limit k }
 {
     if k == 0 {
         return false;
@@ -110,7 +110,7 @@ pub fn is_apart(c: Channel, k: u32) -> bool
 // ---------------------------------------------------------------- the calls
 // 3 or 5 of a call on a channel, by whether it is one of the other kind and by the end that the caller's partition must be; 0 where neither refuses.
 pub fn end_code(x: Port, other: bool, wanted: u8) -> u8
-    ensures { result ≡ code_of (channelChecks x other wanted) }
+    ensures { result ≡ code_of (channel_checks x other wanted) }
 {
     let channel = x.channel;
     if !x.exists {
@@ -181,7 +181,7 @@ pub fn read_channel(c: Context, x: Port) -> Decision
 // ---------------------------------------------------------------- restarts
 // The messages without those on channels into partition k.
 pub fn erase_into(q: Messages, table: Table, k: u32) -> Messages
-    ensures { result.items ≡ kept_to table k channelLimit q.items }
+    ensures { result.items ≡ kept_to table k channel_limit q.items }
 {
     let mut p = q;
     let mut i: usize = 0;

@@ -9,36 +9,36 @@ use lib.ListN.{length, get_or, take, drop, drop_of_length-le}
 use lib.Seq.{drop-cons}
 use lib.Dec.{ltb, leb}
 use borrow.Author.Tests.{eq-eqb, ne_eqb, lt-ltb, le-ltb, le-leb, lt-leb, ltb-true, leb-true}
-use Rattle.machine.specs.Line.{lineFeed, space, zeroDigit, base}
+use Rattle.machine.specs.Line.{line_feed, space, zero_digit, base}
 use Rattle.machine.proofs.Either.{either}
 use Rattle.damaged_lines.specs.declared.Case.{Case}
 use Rattle.damaged_lines.specs.declared.Found.{Found}
 use Rattle.damaged_lines.specs.declared.Found.TheVariants.{At, Nothing}
-use Rattle.damaged_lines.specs.Container.{bytesBefore, place_of, longest, size_of, headerCase, case_at}
+use Rattle.damaged_lines.specs.Container.{bytes_before, place_of, longest, size_of, header_case, case_at}
 
 module _ (s : List ℕ) (b i r : ℕ) (q : place_of b s i ≡ r) where
   pub place_here : i < length s → get_or s i 0 ≡ b → i ≡ r
-  unfolding bytesBefore
+  unfolding bytes_before
   place_here h e = let z : place_of b s i ≡ i = rw (drop-cons s i 0 h, eq-eqb (get_or s i 0) b e) (omega arith) in sym z ∙ q
 
-  pub place-later : i < length s → (get_or s i 0 ≡ b → ⊥) → place_of b s (i + 1) ≡ r
-  unfolding bytesBefore
-  place-later h e = let z : place_of b s i ≡ place_of b s (i + 1) = rw (drop-cons s i 0 h, ne_eqb (get_or s i 0) b e, add-one) (omega arith) in sym z ∙ q
+  pub place_later : i < length s → (get_or s i 0 ≡ b → ⊥) → place_of b s (i + 1) ≡ r
+  unfolding bytes_before
+  place_later h e = let z : place_of b s i ≡ place_of b s (i + 1) = rw (drop-cons s i 0 h, ne_eqb (get_or s i 0) b e, add-one) (omega arith) in sym z ∙ q
 
   pub place_none : length s ≤ i → i ≡ r
-  unfolding bytesBefore
+  unfolding bytes_before
   place_none h = let z : place_of b s i ≡ i = rw (drop_of_length-le s {i = i} h) (omega arith) in sym z ∙ q
 
 module _ (s : List ℕ) (i v r : ℕ) (q : size_of (drop i s) v ≡ r) where
-  pub size-more : i < length s → (w : ℕ) → w ≡ min (v * base + (get_or s i 0 - zeroDigit)) longest → size_of (drop (i + 1) s) w ≡ r
+  pub size_more : i < length s → (w : ℕ) → w ≡ min (v * base + (get_or s i 0 - zero_digit)) longest → size_of (drop (i + 1) s) w ≡ r
   unfolding size_of
-  size-more h w e = rw (e, add-one) (rw (drop-cons s i 0 h) at q)
+  size_more h w e = rw (e, add-one) (rw (drop-cons s i 0 h) at q)
 
-  pub size-done : length s ≤ i → v ≡ r
+  pub size_done : length s ≤ i → v ≡ r
   unfolding size_of
-  size-done h = rw (drop_of_length-le s {i = i} h) at q
+  size_done h = rw (drop_of_length-le s {i = i} h) at q
 
-module _ (input : List ℕ) (at name end : ℕ) (p : name ≡ place_of space input at) (q : end ≡ place_of lineFeed input at) where
+module _ (input : List ℕ) (at name end : ℕ) (p : name ≡ place_of space input at) (q : end ≡ place_of line_feed input at) where
   pub no_name : end ≤ name → Nothing ≡ case_at input at
   no_name h = rw (← p, ← q, le-ltb name end h)
 
@@ -49,8 +49,8 @@ module _ (input : List ℕ) (at name end : ℕ) (p : name ≡ place_of space inp
     pub cut_short : length input - (end + 1) < size → Nothing ≡ case_at input at
     cut_short l = rw (← p, ← q, ← r, lt-ltb name end n, lt-ltb end (length input) h, lt-leb (end + 1 + size) (length input) (omega arith))
 
-    pub case-found : size ≤ length input - (end + 1) → At (record { name = name; body = end + 1; end = end + 1 + size }) ≡ case_at input at
-    case-found l = rw (← p, ← q, ← r, lt-ltb name end n, lt-ltb end (length input) h, le-leb (end + 1 + size) (length input) (omega arith))
+    pub case_found : size ≤ length input - (end + 1) → At (record { name = name; body = end + 1; end = end + 1 + size }) ≡ case_at input at
+    case_found l = rw (← p, ← q, ← r, lt-ltb name end n, lt-ltb end (length input) h, le-leb (end + 1 + size) (length input) (omega arith))
 
 -- where a case lies
 pub record Within (input : List ℕ) (at : ℕ) (c : Case) : Type 0 where
@@ -59,8 +59,8 @@ pub record Within (input : List ℕ) (at : ℕ) (c : Case) : Type 0 where
   pub sized : c.body ≤ c.end
   pub whole : c.end ≤ length input
 
-pub case-within : (input : List ℕ) (at : ℕ) (f : Found) (c : Case) → f ≡ case_at input at → f ≡ At c → Within input at c
-case-within input at f c e q =
+pub case_within : (input : List ℕ) (at : ℕ) (f : Found) (c : Case) → f ≡ case_at input at → f ≡ At c → Within input at c
+case_within input at f c e q =
     either (ltb name end && (ltb end (length input) && leb d.end (length input)))
     (λ t.
     let r = (and-eq-true_iff (ltb name end) (ltb end (length input) && leb d.end (length input))).0 t in
@@ -74,7 +74,7 @@ case-within input at f c e q =
     name = place_of space input at
 
     end : ℕ
-    end = place_of lineFeed input at
+    end = place_of line_feed input at
 
     d : Case
-    d = headerCase input name end
+    d = header_case input name end

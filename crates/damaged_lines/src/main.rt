@@ -1,7 +1,7 @@
 // Reads named cases from standard input and prints for each what table reading gives, NAME CODE VALUE LINES, and after an
 // accepted table the code of each line that follows it.
 ghost use Rattle.std.specs.Prelude.{◌≡◌, ◌-◌, min, ◌+◌, ◌*◌};
-ghost use Rattle.machine.specs.Line.{base, zeroDigit, lineCode};
+ghost use Rattle.machine.specs.Line.{base, zero_digit, line_code};
 ghost use Rattle.damaged_lines.specs.Container.{place_of, longest, size_of, case_at};
 
 use libc::{STDIN_FILENO, STDOUT_FILENO};
@@ -43,14 +43,14 @@ fn find(s: &[u8], at: usize, b: u8) -> usize
 
 // What a byte is worth as a digit: nothing below '0'.
 fn digit(b: u8) -> usize
-    ensures { result ≡ b - zeroDigit }
+    ensures { result ≡ b - zero_digit }
 {
     if b < b'0' { 0 } else { (b - b'0') as usize }
 }
 
 // The number with one more digit.
 fn with_digit(v: usize, b: u8) -> usize
-    ensures { result ≡ min (v * base + (b - zeroDigit)) longest }
+    ensures { result ≡ min (v * base + (b - zero_digit)) longest }
 {
     if LONGEST <= v {
         return LONGEST;
@@ -95,7 +95,7 @@ fn case_at(input: &[u8], at: usize) -> Found
 }
 
 fn code_of(l: Line) -> u8
-    ensures { result ≡ lineCode l }
+    ensures { result ≡ line_code l }
 {
     match l {
         Line::Six(_) => 0,

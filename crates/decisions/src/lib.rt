@@ -1,11 +1,11 @@
 // What an event decides: its reply, what it changes, the checks that several calls share, and a call that waits on an object.
 ghost use Rattle.std.specs.Prelude.{◌≡◌, ℕ, cond, ◌&&◌, ◌||◌, [], ◌∷◌, eqb, ltb, leb};
-ghost use Rattle.machine.specs.Fields.{is_number, isMessage, isTimeout};
-ghost use Rattle.machine.specs.Decisions.{coded, code_of, replyOf, noMessage, changed, blocked, creationChecks, waitChecks, unknown, queued};
+ghost use Rattle.machine.specs.Fields.{is_number, is_message, is_timeout};
+ghost use Rattle.machine.specs.Decisions.{coded, code_of, reply_of, no_message, changed, blocked, creation_checks, wait_checks, unknown, queued};
 ghost use Rattle.machine.specs.declared.Decision.TheVariants.{Refused};
 ghost use Rattle.machine.specs.declared.Partition.{Partition as PartitionT};
 ghost use Rattle.decisions.specs.Views.{Shows};
-ghost use Rattle.machine.specs.Questions.{changes, restarts, mode_of, firstChange, secondChange, nothing, turnsOf, messageAt, messageOf, transferAt, transferOf};
+ghost use Rattle.machine.specs.Questions.{changes, restarts, mode_of, first_change, second_change, nothing, turns_of, message_at, message_of, transfer_at, transfer_of};
 
 use machine::{
     Blackboard, Change, Context, Decision, EventState, Field, Message, Module, Process, Reply,
@@ -28,7 +28,7 @@ pub fn reply_with(code: u8) -> Reply
 
 // The numbers of a decision.
 pub fn reply_of(d: Decision) -> Reply
-    ensures { result ≡ replyOf d }
+    ensures { result ≡ reply_of d }
 {
     match d {
         Decision::Refused(code) => reply_with(code),
@@ -91,7 +91,7 @@ pub fn mode_of(d: Decision) -> u8
 
 // The two changes that it makes of the caller's partition, in order, where it is no restart.
 pub fn first_change(d: Decision) -> Change
-    ensures { result ≡ firstChange d }
+    ensures { result ≡ first_change d }
 {
     match d {
         Decision::Refused(_) => Change::Nothing,
@@ -106,7 +106,7 @@ pub fn first_change(d: Decision) -> Change
 }
 
 pub fn second_change(d: Decision) -> Change
-    ensures { result ≡ secondChange d }
+    ensures { result ≡ second_change d }
 {
     match d {
         Decision::Refused(_) => Change::Nothing,
@@ -142,7 +142,7 @@ fn is_nothing(c: Change) -> bool
 
 // How many of these two changes are to be made, where something may be due at a tick one.
 pub fn turns_of(d: Decision, due: bool) -> u8
-    ensures { result ≡ turnsOf d due }
+    ensures { result ≡ turns_of d due }
 {
     if due {
         return 1;
@@ -156,7 +156,7 @@ pub fn turns_of(d: Decision, due: bool) -> u8
 
 // The place of the channel on which it leaves a message, past the last for none.
 pub fn message_at(d: Decision) -> usize
-    ensures { result ≡ messageAt d }
+    ensures { result ≡ message_at d }
 {
     match d {
         Decision::Refused(_) => Module::CHANNELS,
@@ -171,7 +171,7 @@ pub fn message_at(d: Decision) -> usize
 }
 
 pub fn no_message() -> Message
-    ensures { result ≡ noMessage }
+    ensures { result ≡ no_message }
 {
     Message {
         present: false,
@@ -182,7 +182,7 @@ pub fn no_message() -> Message
 
 // The message that it leaves there.
 pub fn message_of(d: Decision) -> Message
-    ensures { result ≡ messageOf d }
+    ensures { result ≡ message_of d }
 {
     match d {
         Decision::Refused(_) => no_message(),
@@ -198,7 +198,7 @@ pub fn message_of(d: Decision) -> Message
 
 // The place of the channel on which it makes a transfer, past the last for none.
 pub fn transfer_at(d: Decision) -> usize
-    ensures { result ≡ transferAt d }
+    ensures { result ≡ transfer_at d }
 {
     match d {
         Decision::Refused(_) => Module::CHANNELS,
@@ -214,7 +214,7 @@ pub fn transfer_at(d: Decision) -> usize
 
 // The transfer that it makes there.
 pub fn transfer_of(d: Decision) -> Transfer
-    ensures { result ≡ transferOf d }
+    ensures { result ≡ transfer_of d }
 {
     match d {
         Decision::Refused(_) => Transfer::Taken,
@@ -247,7 +247,7 @@ pub fn block(level: u8, id: u8, x: Process) -> Decision
 
 // The code of the checks of a creation, or 0.
 pub fn creation_code(full: bool, taken: bool, admitted: bool, normal: bool) -> u8
-    ensures { result ≡ code_of (creationChecks full taken admitted normal) }
+    ensures { result ≡ code_of (creation_checks full taken admitted normal) }
 {
     if full {
         return 4;
@@ -266,7 +266,7 @@ pub fn creation_code(full: bool, taken: bool, admitted: bool, normal: bool) -> u
 
 // The code of the checks of a wait, or 0.
 pub fn wait_code(unknown: bool, start: bool, admitted: bool) -> u8
-    ensures { result ≡ code_of (waitChecks ((unknown, 3) ∷ []) start admitted []) }
+    ensures { result ≡ code_of (wait_checks ((unknown, 3) ∷ []) start admitted []) }
 {
     if unknown {
         return 3;
@@ -413,7 +413,7 @@ fn wait_queued(v: View, c: Context, a: Field, wait: Wait) -> Decision
 
 // What a send that may wait admits.
 pub fn is_sending_admitted(m: Field, a: Field) -> bool
-    ensures { result ≡ isMessage m && isTimeout a }
+    ensures { result ≡ is_message m && is_timeout a }
 {
     if fields::is_message(m) {
         fields::is_timeout(a)

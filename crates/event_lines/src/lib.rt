@@ -1,12 +1,12 @@
 // Event lines and answer lines: what a line gets, and the numbers of an answer.
 ghost use Rattle.std.specs.Prelude.{◌≡◌, ◌+◌, ◌-◌, ◌*◌, ◌/◌, ◌≤◌, length, take, drop};
 ghost use Rattle.std.proofs.lemmas.List.Edits.{sets};
-ghost use Rattle.machine.specs.Limits.{lineLength};
-ghost use Rattle.machine.specs.Line.{numbersOf, numberList};
-ghost use Rattle.machine.specs.Replay.{eventOf, timeNumber, answerNumbers, lineStep, refusalNumbers};
+ghost use Rattle.machine.specs.Limits.{line_length};
+ghost use Rattle.machine.specs.Line.{numbers_of, number_list};
+ghost use Rattle.machine.specs.Replay.{event_of, time_number, answer_numbers, line_step, refusal_numbers};
 ghost use Rattle.executive.specs.Executive.{turned};
-ghost use Rattle.executive.specs.Lists.{six, eventNumbers};
-ghost use Rattle.event_lines.specs.Blocks.{goodEvents, lineCount, roomedLine, printedSixes, overAt, blockEvents, blockText, block_of};
+ghost use Rattle.executive.specs.Lists.{six, event_numbers};
+ghost use Rattle.event_lines.specs.Blocks.{good_events, line_count, roomed_line, printed_sixes, over_at, block_events, block_text, block_of};
 
 use executive::{Executive, Turn};
 use machine::{Answer, Event, Line, Module, Numbers, Time};
@@ -30,7 +30,7 @@ pub struct Block {
 
 // An event is partition, call, a, b, c, e.
 pub fn event_of(n: Numbers) -> Event
-    ensures { result ≡ eventOf n }
+    ensures { result ≡ event_of n }
 {
     Event {
         partition: n.n1,
@@ -44,7 +44,7 @@ pub fn event_of(n: Numbers) -> Event
 
 // -1 is never.
 fn time_number(t: Time) -> i64
-    ensures { result ≡ timeNumber t }
+    ensures { result ≡ time_number t }
 {
     match t {
         Time::Never => -1,
@@ -54,7 +54,7 @@ fn time_number(t: Time) -> i64
 
 // Fields: code, value, extra, t, current, running.
 pub fn numbers_of(a: Answer) -> Numbers
-    ensures { result ≡ numbersOf (answerNumbers a) }
+    ensures { result ≡ numbers_of (answer_numbers a) }
 {
     let extra = a.extra;
     Numbers {
@@ -69,7 +69,7 @@ pub fn numbers_of(a: Answer) -> Numbers
 
 // A bad table prints one line: code, line number, four 0.
 pub fn refusal(code: u8, value: u32) -> Numbers
-    ensures { result ≡ numbersOf (refusalNumbers code value) }
+    ensures { result ≡ numbers_of (refusal_numbers code value) }
 {
     Numbers {
         n1: code as i64,
@@ -83,7 +83,7 @@ pub fn refusal(code: u8, value: u32) -> Numbers
 
 // What a line gets: an event is stepped, and any other line is answered with 11.
 pub fn step_line(e: Executive, l: Line) -> Turn
-    ensures { result ≡ turned (lineStep e.inner l) }
+    ensures { result ≡ turned (line_step e.inner l) }
 {
     match l {
         Line::Six(n) => e.step(event_of(n)),
@@ -97,7 +97,7 @@ pub fn step_line(e: Executive, l: Line) -> Turn
 // ---------------------------------------------------------------- a block of lines
 fn put_six(list: &mut [i64], at: usize, n: Numbers)
     requires { at + six ≤ length list.old }
-    ensures { list.new ≡ sets list.old at (numberList n) }
+    ensures { list.new ≡ sets list.old at (number_list n) }
 {
     let a = n.n1;
     let b = n.n2;
@@ -115,7 +115,7 @@ fn put_six(list: &mut [i64], at: usize, n: Numbers)
 
 fn six_at(list: &[i64], at: usize) -> Numbers
     requires { at + six ≤ length list.now }
-    ensures { result ≡ numbersOf (drop at list.now) }
+    ensures { result ≡ numbers_of (drop at list.now) }
 {
     Numbers {
         n1: list[at],
@@ -129,7 +129,7 @@ fn six_at(list: &[i64], at: usize) -> Numbers
 
 // As many lines as a block has, and as an output has room for from a position on.
 fn line_count(length: usize, to: usize) -> usize
-    ensures { result ≡ lineCount (length - to) }
+    ensures { result ≡ line_count (length - to) }
 {
     if length < to {
         return 0;
@@ -141,7 +141,7 @@ fn line_count(length: usize, to: usize) -> usize
 // Reads the good lines from a position of a text on, up to so many: how many they are. Their numbers stand at the front of the list.
 fn read_lines(text: &[u8], from: usize, limit: usize, list: &mut [i64]) -> usize
     requires { limit * six ≤ length list.old }
-    ensures { (result ≡ length (goodEvents limit (drop from text.now))) × (take (result * six) list.new ≡ eventNumbers (goodEvents limit (drop from text.now))) }
+    ensures { (result ≡ length (good_events limit (drop from text.now))) × (take (result * six) list.new ≡ event_numbers (good_events limit (drop from text.now))) }
 {
     let mut at = from;
     let mut n: usize = 0;
@@ -158,7 +158,7 @@ fn read_lines(text: &[u8], from: usize, limit: usize, list: &mut [i64]) -> usize
 
 // Prints a line at a position of the output, where there is room for one: how many bytes; none for a number out of range.
 pub fn print_line(out: &mut [u8], to: usize, n: Numbers) -> usize
-    ensures { (result ≡ length (roomedLine (length out.old - to) (numberList n))) × (out.new ≡ overAt to (roomedLine (length out.old - to) (numberList n)) out.old) }
+    ensures { (result ≡ length (roomed_line (length out.old - to) (number_list n))) × (out.new ≡ over_at to (roomed_line (length out.old - to) (number_list n)) out.old) }
 {
     if line::write_at(out, to, n) == 0 {
         return Module::LINE;
@@ -168,8 +168,8 @@ pub fn print_line(out: &mut [u8], to: usize, n: Numbers) -> usize
 
 // Prints a line for each six numbers of a list, from a position of the output on: how many bytes.
 fn print_lines(out: &mut [u8], from: usize, list: &[i64]) -> usize
-    requires { from + length list.now / six * lineLength ≤ length out.old }
-    ensures { (result ≡ length (printedSixes (length list.now / six) list.now)) × (out.new ≡ overAt from (printedSixes (length list.now / six) list.now) out.old) }
+    requires { from + length list.now / six * line_length ≤ length out.old }
+    ensures { (result ≡ length (printed_sixes (length list.now / six) list.now)) × (out.new ≡ over_at from (printed_sixes (length list.now / six) list.now) out.old) }
 {
     let n = list.len() / SIX;
     let mut to = from;
@@ -184,7 +184,7 @@ fn print_lines(out: &mut [u8], from: usize, list: &[i64]) -> usize
 // Runs the good lines from a position of a text on, as many as a block has and as the output has room for from a position on, and
 // prints their answers there. No line where the one at the position is bad or cut.
 pub fn run_lines(e: Executive, text: &[u8], from: usize, out: &mut [u8], to: usize) -> Block
-    ensures { (result ≡ block_of e.inner (blockEvents text.now from out.old to)) × (out.new ≡ overAt to (blockText e.inner (blockEvents text.now from out.old to)) out.old) }
+    ensures { (result ≡ block_of e.inner (block_events text.now from out.old to)) × (out.new ≡ over_at to (block_text e.inner (block_events text.now from out.old to)) out.old) }
 {
     let mut list = [0i64; NUMBERS];
     let lines = read_lines(text, from, line_count(out.len(), to), &mut list);

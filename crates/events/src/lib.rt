@@ -1,11 +1,11 @@
 // What an event does before its partition is looked at, and its answer.
 ghost use Rattle.std.specs.Prelude.{◌≡◌, ◌≤◌};
-ghost use Rattle.machine.specs.Limits.{partitionLimit};
-ghost use Rattle.machine.specs.Ticks.{partitionCount};
+ghost use Rattle.machine.specs.Limits.{partition_limit};
+ghost use Rattle.machine.specs.Ticks.{partition_count};
 ghost use Rattle.machine.specs.Fields.{number_of};
 ghost use Rattle.machine.specs.Step.{sees};
 ghost use Rattle.machine.specs.declared.Table.{Table as TableT};
-ghost use Rattle.events.specs.Plans.{placeCode, tickCount, slot_of, callSlot, takesStartRule, releaseFor, shownSlot, placeFor, planned, answer_of, noAnswer};
+ghost use Rattle.events.specs.Plans.{place_code, tick_count, slot_of, call_slot, takes_start_rule, release_for, shown_slot, place_for, planned, answer_of, no_answer};
 
 use machine::{Answer, Field, Lookup, Module, Reply, Request, Table};
 use places::Placed;
@@ -32,7 +32,7 @@ pub struct Plan {
 
 // 8 for a call, and 9 for a partition that the record has no place for; n where it is another code already.
 fn call_code(n: u8, k: u32, current: u8) -> u8
-    ensures { result ≡ placeCode n k current }
+    ensures { result ≡ place_code n k current }
 {
     if n != 0 {
         return n;
@@ -52,7 +52,7 @@ fn call_code(n: u8, k: u32, current: u8) -> u8
 
 // How many partitions a table of this size has, the array's length at most.
 fn count(size: u8) -> usize
-    ensures { ((T : TableT) → T.size ≡ size → result ≡ partitionCount T) × (result ≤ partitionLimit) }
+    ensures { ((T : TableT) → T.size ≡ size → result ≡ partition_count T) × (result ≤ partition_limit) }
 {
     let n = size as usize;
     if n <= Module::PARTITIONS {
@@ -64,7 +64,7 @@ fn count(size: u8) -> usize
 
 // Of a table of this size.
 fn tick_count(size: u8, code: u8, k: u32) -> usize
-    ensures { (T : TableT) → T.size ≡ size → result ≡ tickCount T code k }
+    ensures { (T : TableT) → T.size ≡ size → result ≡ tick_count T code k }
 {
     if code != 0 {
         return 0;
@@ -87,7 +87,7 @@ fn slot_of(k: u32) -> usize
 
 // Whether a call takes the start rule: 1 SET_PARTITION_MODE, 3 START, 4 DELAYED_START.
 fn takes_start_rule(call: u32) -> bool
-    ensures { result ≡ takesStartRule call }
+    ensures { result ≡ takes_start_rule call }
 {
     if call == 1 {
         return true;
@@ -100,7 +100,7 @@ fn takes_start_rule(call: u32) -> bool
 
 // The release point that a call of partition k is shown: it is looked up only for one that takes the start rule.
 pub fn release_for(table: Table, t: u32, k: u32, call: u32) -> u32
-    ensures { result ≡ releaseFor table t k call }
+    ensures { result ≡ release_for table t k call }
 {
     if takes_start_rule(call) {
         return windows::release_point(table, t, k);
@@ -109,7 +109,7 @@ pub fn release_for(table: Table, t: u32, k: u32, call: u32) -> u32
 }
 
 fn call_slot(code: u8, k: u32) -> usize
-    ensures { result ≡ callSlot code k }
+    ensures { result ≡ call_slot code k }
 {
     if code != 0 {
         return Module::PARTITIONS;
@@ -126,7 +126,7 @@ fn is_shown(r: Request, k: u8) -> bool
 }
 
 fn shown_slot(r: Request, k: u8) -> usize
-    ensures { result ≡ shownSlot r k }
+    ensures { result ≡ shown_slot r k }
 {
     if is_shown(r, k) {
         return slot_of(k as u32);
@@ -136,7 +136,7 @@ fn shown_slot(r: Request, k: u8) -> usize
 
 // The place of the channel that a call names; past the last for one that names none.
 fn place_for(call: Field, a: Field) -> usize
-    ensures { result ≡ placeFor (number_of call) a }
+    ensures { result ≡ place_for (number_of call) a }
 {
     if services::names_channel(fields::number_of(call)) {
         return channels::place_of(a) as usize;
@@ -185,7 +185,7 @@ pub fn answer_of(reply: Reply, t: u32, current: u8, running: u8) -> Answer
 }
 
 pub fn no_answer() -> Answer
-    ensures { result ≡ noAnswer }
+    ensures { result ≡ no_answer }
 {
     answer_of(decisions::reply_with(0), 0, 0, 0)
 }

@@ -13,20 +13,20 @@ use mir.Syntax.{w64}
 use mir.Val.{to_z, of_z, SFits}
 use mir.ValLaws.{to_z-of_z}
 use borrow.Author.Tests.{ne_eqb, lt-ltb, ltb-true, ltb-false, eqb-true, eqb-false, leb-true, not-false}
-use Rattle.machine.specs.Channels.{portAt, portOf, queuingAt, seesTraffic, otherEnd, otherQueue, noTraffic, trafficOf, leadsInto, kept_to}
-use Rattle.machine.specs.Queuing.{passed, refilledTo}
-use Rattle.machine.specs.Decisions.{noCallerAs, coded, checked, code_of, replyOf, noMessage}
-use Rattle.machine.specs.Questions.{changes, restarts, messageAt, messageOf, transferAt, transferOf}
-use Rattle.machine.specs.Messages.{noQueue, moved, endsWait}
-use Rattle.machine.specs.Fields.{requestOf, number_of}
-use Rattle.machine.specs.Limits.{partitionLimit, channelLimit}
-use Rattle.machine.specs.Module.{noPartition, channel, part, message, queue, current, ticksLeft, runningIn, withPart, withMessage, withQueue, withTime}
-use Rattle.machine.specs.Partition.{within, running, endedBy, partitionAfter}
-use Rattle.machine.specs.Places.{noCaller, ticks, eventChecks, firstChecks}
+use Rattle.machine.specs.Channels.{port_at, port_of, queuing_at, sees_traffic, other_end, other_queue, no_traffic, traffic_of, leads_into, kept_to}
+use Rattle.machine.specs.Queuing.{passed, refilled_to}
+use Rattle.machine.specs.Decisions.{no_caller_as, coded, checked, code_of, reply_of, no_message}
+use Rattle.machine.specs.Questions.{changes, restarts, message_at, message_of, transfer_at, transfer_of}
+use Rattle.machine.specs.Messages.{no_queue, moved, ends_wait}
+use Rattle.machine.specs.Fields.{request_of, number_of}
+use Rattle.machine.specs.Limits.{partition_limit, channel_limit}
+use Rattle.machine.specs.Module.{no_partition, channel, part, message, queue, current, ticks_left, running_in, with_part, with_message, with_queue, with_time}
+use Rattle.machine.specs.Partition.{within, running, ended_by, partition_after}
+use Rattle.machine.specs.Places.{no_caller, ticks, event_checks, first_checks}
 use Rattle.machine.specs.Services.{called}
-use Rattle.machine.specs.Step.{context_of, decision, moduleAfter, sees, answerTo, stepped, step}
-use Rattle.machine.specs.Ticks.{tickAt, tickTo, partitionCount, tickModule}
-use Rattle.machine.specs.Windows.{lookup, releasePoint, waitingOf}
+use Rattle.machine.specs.Step.{context_of, decision, module_after, sees, answer_to, stepped, step}
+use Rattle.machine.specs.Ticks.{tick_at, tick_to, partition_count, tick_module}
+use Rattle.machine.specs.Windows.{lookup, release_point, waiting_of}
 use Rattle.machine.specs.declared.Answer.{Answer}
 use Rattle.machine.specs.declared.Context.{Context}
 use Rattle.machine.specs.declared.Decision.{Decision}
@@ -44,156 +44,156 @@ use Rattle.machine.specs.declared.Reply.{Reply}
 use Rattle.machine.specs.declared.Request.{Request}
 use Rattle.machine.specs.declared.Table.{Table}
 use Rattle.machine.specs.declared.Waiting.{Waiting}
-use Rattle.machine.proofs.Applied.{NoTick, called-no-tick, after-changed, after-restarted, after-written, after-passed, after_same}
-use Rattle.machine.proofs.Reached.{refilled-table}
-use Rattle.machine.proofs.Restarts.{refilled-time, refilled-sizes}
-use Rattle.machine.proofs.Bounds.{within-out}
+use Rattle.machine.proofs.Applied.{NoTick, called_no_tick, after_changed, after_restarted, after_written, after_passed, after_same}
+use Rattle.machine.proofs.Reached.{refilled_table}
+use Rattle.machine.proofs.Restarts.{refilled_time, refilled_sizes}
+use Rattle.machine.proofs.Bounds.{within_out}
 use Rattle.machine.proofs.Either.{either}
-use Rattle.machine.proofs.EveryCall.{release-unseen}
-use Rattle.machine.proofs.Folds.{tick-to-none}
-use Rattle.machine.proofs.Tests.{by-test, codesIn, Passed, code-refuses, code-passes, and_left, and_right, or_left, or_right}
+use Rattle.machine.proofs.EveryCall.{release_unseen}
+use Rattle.machine.proofs.Folds.{tick_to_none}
+use Rattle.machine.proofs.Tests.{by_test, codes_in, Passed, code_refuses, code_passes, and_left, and_right, or_left, or_right}
 use Rattle.places.specs.Placed.{placed_at}
 use Rattle.places.specs.declared.Placed.{Placed}
 use Rattle.queuing.proofs.Laws.{placed}
-use Rattle.events.specs.Plans.{callChecks, tickCount, slot_of, callSlot, takesStartRule, releaseFor, shownSlot, placeFor, planned, plan_of, answer_of}
+use Rattle.events.specs.Plans.{call_checks, tick_count, slot_of, call_slot, takes_start_rule, release_for, shown_slot, place_for, planned, plan_of, answer_of}
 use Rattle.events.specs.declared.Plan.{Plan}
-use Rattle.services.specs.Looked.{namesChannel, asksWaiter}
-use Rattle.services.proofs.Ports.{port-unseen, withTraffic, waiter-unseen}
+use Rattle.services.specs.Looked.{names_channel, asks_waiter}
+use Rattle.services.proofs.Ports.{port_unseen, with_traffic, waiter_unseen}
 use Rattle.executive.specs.Executive.{turned}
 
 -- ---------------------------------------------------------------- lists of checks
-checked-more : {A : Type 0} (f : ℕ → A) (l k : List (Bool × ℕ)) (x : A) → checked f l (checked f k x) ≡ checked f (l ++ k) x
+checked_more : {A : Type 0} (f : ℕ → A) (l k : List (Bool × ℕ)) (x : A) → checked f l (checked f k x) ≡ checked f (l ++ k) x
 unfolding checked
-checked-more f [] k x = refl
-checked-more f ((true, n) ∷ l) k x = refl
-checked-more f ((false, n) ∷ l) k x = checked-more f l k x
+checked_more f [] k x = refl
+checked_more f ((true, n) ∷ l) k x = refl
+checked_more f ((false, n) ∷ l) k x = checked_more f l k x
 
 -- the code of a list by the code of its first part
-code-more : (l k : List (Bool × ℕ)) → codesIn (leb 1) l ≡ true → code_of ((not (eqb (code_of l) 0), code_of l) ∷ k) ≡ code_of (l ++ k)
+code_more : (l k : List (Bool × ℕ)) → codes_in (leb 1) l ≡ true → code_of ((not (eqb (code_of l) 0), code_of l) ∷ k) ≡ code_of (l ++ k)
 unfolding checked
-code-more [] k h = refl
-code-more ((true, n) ∷ l) k h = rw (ne_eqb n 0 (λ z. let g = leb-true 1 n (and_left (leb 1 n) (codesIn (leb 1) l) h) in omega arith))
-code-more ((false, n) ∷ l) k h = code-more l k (and_right (leb 1 n) (codesIn (leb 1) l) h)
+code_more [] k h = refl
+code_more ((true, n) ∷ l) k h = rw (ne_eqb n 0 (λ z. let g = leb-true 1 n (and_left (leb 1 n) (codes_in (leb 1) l) h) in omega arith))
+code_more ((false, n) ∷ l) k h = code_more l k (and_right (leb 1 n) (codes_in (leb 1) l) h)
 
 -- ---------------------------------------------------------------- the release point
 -- a call that takes no start rule may be shown another
-release-shown : (T : Table) (t k left caller n : ℕ) (x : Port) (r : Request) (p : Partition)
-    → called (record { time = t; frame = T.frame; left = left; release = releaseFor T t k n; caller = caller }) x n r p ≡ called (record { time = t; frame = T.frame; left = left; release = releasePoint T t k; caller = caller }) x n r p
-release-shown T t k left caller n x r p = either (takesStartRule n)
+release_shown : (T : Table) (t k left caller n : ℕ) (x : Port) (r : Request) (p : Partition)
+    → called (record { time = t; frame = T.frame; left = left; release = release_for T t k n; caller = caller }) x n r p ≡ called (record { time = t; frame = T.frame; left = left; release = release_point T t k; caller = caller }) x n r p
+release_shown T t k left caller n x r p = either (takes_start_rule n)
     (λ e. rw e)
     (λ e.
     let late = or_right (eqb n 1) _ e in
-    ap (checked Refused ((noCallerAs caller p, 9) ∷ []))
-    (release-unseen n (eqb-false n 1 (or_left (eqb n 1) _ e), eqb-false n 3 (or_left (eqb n 3) _ late), eqb-false n 4 (or_right (eqb n 3) _ late)) _ _ x r p))
+    ap (checked Refused ((no_caller_as caller p, 9) ∷ []))
+    (release_unseen n (eqb-false n 1 (or_left (eqb n 1) _ e), eqb-false n 3 (or_left (eqb n 3) _ late), eqb-false n 4 (or_right (eqb n 3) _ late)) _ _ x r p))
 
 -- a call that names no channel may be shown another port
-port-shown : (c : Context) (x y : Port) (n : ℕ) → namesChannel n ≡ false → (r : Request) (p : Partition) → called c x n r p ≡ called c y n r p
-port-shown c x y n h r p = ap (checked Refused ((noCallerAs c.caller p, 9) ∷ [])) (port-unseen n h c x y r p)
+port_shown : (c : Context) (x y : Port) (n : ℕ) → names_channel n ≡ false → (r : Request) (p : Partition) → called c x n r p ≡ called c y n r p
+port_shown c x y n h r p = ap (checked Refused ((no_caller_as c.caller p, 9) ∷ [])) (port_unseen n h c x y r p)
 
 -- and one that does not ask who waits at the other end, another traffic with as many messages
-waiter-shown : (c : Context) (x : Port) (t : Traffic) → t.len ≡ x.traffic.len → (n : ℕ) → asksWaiter n x.channel.size x.traffic.len ≡ false → (r : Request) (p : Partition)
-    → called c x n r p ≡ called c (withTraffic x t) n r p
-waiter-shown c x t e n h r p = ap (checked Refused ((noCallerAs c.caller p, 9) ∷ [])) (waiter-unseen c x t e n h r p)
+waiter_shown : (c : Context) (x : Port) (t : Traffic) → t.len ≡ x.traffic.len → (n : ℕ) → asks_waiter n x.channel.size x.traffic.len ≡ false → (r : Request) (p : Partition)
+    → called c x n r p ≡ called c (with_traffic x t) n r p
+waiter_shown c x t e n h r p = ap (checked Refused ((no_caller_as c.caller p, 9) ∷ [])) (waiter_unseen c x t e n h r p)
 
 -- ---------------------------------------------------------------- the places
 abbrev own : Request → ℕ
 own r = number_of r.partition
 
-abbrev placeChecks : Table → ℕ → ℕ → Request → List (Bool × ℕ)
-placeChecks T t now r = eventChecks T t r ++ callChecks (own r) now
+abbrev place_checks : Table → ℕ → ℕ → Request → List (Bool × ℕ)
+place_checks T t now r = event_checks T t r ++ call_checks (own r) now
 
-module _ (m : Module) (r : Request) (long : length m.partitions ≡ partitionLimit) where
+module _ (m : Module) (r : Request) (long : length m.partitions ≡ partition_limit) where
   abbrev accepted : Decision
-  accepted = cond (ticks r) Ticked (called (context_of m (own r)) (portOf m (own r) r) (number_of r.call) r (part m (own r - 1)))
+  accepted = cond (ticks r) Ticked (called (context_of m (own r)) (port_of m (own r) r) (number_of r.call) r (part m (own r - 1)))
 
   -- past the partitions none has a caller
-  past : partitionLimit < own r → noCaller (part m (own r - 1)) ≡ true
-  past h = let e : part m (own r - 1) ≡ noPartition = get_or-eq_default m.partitions noPartition (omega arith) in rw e
+  past : partition_limit < own r → no_caller (part m (own r - 1)) ≡ true
+  past h = let e : part m (own r - 1) ≡ no_partition = get_or-eq_default m.partitions no_partition (omega arith) in rw e
 
-  bound : accepted ≡ checked Refused ((not (ticks r) && ltb partitionLimit (own r), 9) ∷ []) accepted
+  bound : accepted ≡ checked Refused ((not (ticks r) && ltb partition_limit (own r), 9) ∷ []) accepted
   unfolding checked
   bound = either (ticks r)
       (λ z. rw z)
-      (λ z. either (ltb partitionLimit (own r))
-      (λ l. rw (z, l, past (ltb-true partitionLimit (own r) l)))
+      (λ z. either (ltb partition_limit (own r))
+      (λ l. rw (z, l, past (ltb-true partition_limit (own r) l)))
       (λ l. rw (z, l)))
 
   -- now is the current partition, but at a tick, which does not look at it
   module _ (now : ℕ) (seen : ticks r ≡ false → now ≡ current m) where
-    first-same : firstChecks m.table m.t (current m) r ≡ firstChecks m.table m.t now r
-    first-same = either (ticks r) (λ z. rw z) (λ z. rw (seen z))
+    first_same : first_checks m.table m.t (current m) r ≡ first_checks m.table m.t now r
+    first_same = either (ticks r) (λ z. rw z) (λ z. rw (seen z))
 
-    decided : decision m r ≡ checked Refused (placeChecks m.table m.t now r) accepted
+    decided : decision m r ≡ checked Refused (place_checks m.table m.t now r) accepted
     unfolding decision
-    decided = ap (λ (l : List (Bool × ℕ)). checked Refused l accepted) first-same
-        ∙ ap (checked Refused (firstChecks m.table m.t now r)) bound
-        ∙ checked-more Refused (firstChecks m.table m.t now r) _ accepted
+    decided = ap (λ (l : List (Bool × ℕ)). checked Refused l accepted) first_same
+        ∙ ap (checked Refused (first_checks m.table m.t now r)) bound
+        ∙ checked_more Refused (first_checks m.table m.t now r) _ accepted
 
-    module _ (n : ℕ) (e : n ≡ code_of (placeChecks m.table m.t now r)) where
-      place-refused : (n ≡ 0 → ⊥) → decision m r ≡ Refused n
-      place-refused h = decided ∙ sym (ap Refused e ∙ code-refuses Refused (placeChecks m.table m.t now r) accepted (λ z. h (e ∙ z)))
+    module _ (n : ℕ) (e : n ≡ code_of (place_checks m.table m.t now r)) where
+      place_refused : (n ≡ 0 → ⊥) → decision m r ≡ Refused n
+      place_refused h = decided ∙ sym (ap Refused e ∙ code_refuses Refused (place_checks m.table m.t now r) accepted (λ z. h (e ∙ z)))
 
-      place-passed : n ≡ 0 → decision m r ≡ accepted
-      place-passed z = decided ∙ sym (code-passes Refused (placeChecks m.table m.t now r) accepted refl (sym e ∙ z)).0
+      place_passed : n ≡ 0 → decision m r ≡ accepted
+      place_passed z = decided ∙ sym (code_passes Refused (place_checks m.table m.t now r) accepted refl (sym e ∙ z)).0
 
       -- what the places then tell of a call
-      place-calls : n ≡ 0 → ticks r ≡ false → (now ≡ own r) × (own r ≤ partitionLimit)
+      place_calls : n ≡ 0 → ticks r ≡ false → (now ≡ own r) × (own r ≤ partition_limit)
       unfolding Passed
-      place-calls z t =
-          let h : Passed (placeChecks m.table m.t now r) = (code-passes Refused (placeChecks m.table m.t now r) accepted refl (sym e ∙ z)).1 in
-          (eqb-true now (own r) (not-false _ (rw t at h.1.1.0)), ltb-false partitionLimit (own r) (rw t at h.1.1.1.0))
+      place_calls z t =
+          let h : Passed (place_checks m.table m.t now r) = (code_passes Refused (place_checks m.table m.t now r) accepted refl (sym e ∙ z)).1 in
+          (eqb-true now (own r) (not-false _ (rw t at h.1.1.0)), ltb-false partition_limit (own r) (rw t at h.1.1.1.0))
 
 -- a tick gets no code but 13 and 10
-tick_code : (T : Table) (t now : ℕ) (r : Request) → ticks r ≡ true → code_of (placeChecks T t now r) ≡ code_of (eventChecks T t r)
+tick_code : (T : Table) (t now : ℕ) (r : Request) → ticks r ≡ true → code_of (place_checks T t now r) ≡ code_of (event_checks T t r)
 unfolding checked
 tick_code T t now r z = rw z
 
 -- t + 1 after a tick that is taken, else t
 module _ (T : Table) (t now : ℕ) (r : Request) where
-  time-taken : code_of (placeChecks T t now r) ≡ 0 → ticks r ≡ true → (placed_at T t r).time ≡ t + 1
-  time-taken n z = rw (sym (tick_code T t now r z) ∙ n, z)
+  time_taken : code_of (place_checks T t now r) ≡ 0 → ticks r ≡ true → (placed_at T t r).time ≡ t + 1
+  time_taken n z = rw (sym (tick_code T t now r z) ∙ n, z)
 
-  time-called : ticks r ≡ false → (placed_at T t r).time ≡ t
-  time-called z = either (eqb (code_of (eventChecks T t r)) 0) (λ c. rw (c, z)) (λ c. rw c)
+  time_called : ticks r ≡ false → (placed_at T t r).time ≡ t
+  time_called z = either (eqb (code_of (event_checks T t r)) 0) (λ c. rw (c, z)) (λ c. rw c)
 
-  time-refused : (code_of (placeChecks T t now r) ≡ 0 → ⊥) → (placed_at T t r).time ≡ t
-  time-refused h = either (ticks r)
-      (λ z. rw (ne_eqb (code_of (eventChecks T t r)) 0 (λ c. h (tick_code T t now r z ∙ c))))
-      time-called
+  time_refused : (code_of (place_checks T t now r) ≡ 0 → ⊥) → (placed_at T t r).time ≡ t
+  time_refused h = either (ticks r)
+      (λ z. rw (ne_eqb (code_of (event_checks T t r)) 0 (λ c. h (tick_code T t now r z ∙ c))))
+      time_called
 
 -- erasing leaves every place
-kept-long : (T : Table) (k n : ℕ) (l : List Message) → length (kept_to T k n l) ≡ length l
+kept_long : (T : Table) (k n : ℕ) (l : List Message) → length (kept_to T k n l) ≡ length l
 unfolding kept_to
-kept-long T k zero l = refl
-kept-long T k (suc n) l = by-test (λ (v : List Message). length v ≡ length l) (leadsInto k (channel T n)) (λ _. length-set (kept_to T k n l) n noMessage ∙ kept-long T k n l) (λ _. kept-long T k n l)
+kept_long T k zero l = refl
+kept_long T k (suc n) l = by_test (λ (v : List Message). length v ≡ length l) (leads_into k (channel T n)) (λ _. length-set (kept_to T k n l) n no_message ∙ kept_long T k n l) (λ _. kept_long T k n l)
 
 -- ---------------------------------------------------------------- one event
 -- what storing a partition leaves, the tick of the partitions leaves
-tick-keeps : (P : Module → Type 0) → ((i : ℕ) (p : Partition) (q : Module) → P q → P (withPart i p q)) → (n : ℕ) (m : Module) → P m → P (tickTo n m)
-unfolding tickTo tickAt
-tick-keeps P f zero m h = h
-tick-keeps P f (suc n) m h = f n _ (tickTo n m) (tick-keeps P f n m h)
+tick_keeps : (P : Module → Type 0) → ((i : ℕ) (p : Partition) (q : Module) → P q → P (with_part i p q)) → (n : ℕ) (m : Module) → P m → P (tick_to n m)
+unfolding tick_to tick_at
+tick_keeps P f zero m h = h
+tick_keeps P f (suc n) m h = f n _ (tick_to n m) (tick_keeps P f n m h)
 
-pub tick-table : (n : ℕ) (m : Module) → (tickTo n m).table ≡ m.table
-tick-table n m = tick-keeps (λ (v : Module). v.table ≡ m.table) (λ i p v h. h) n m refl
+pub tick_table : (n : ℕ) (m : Module) → (tick_to n m).table ≡ m.table
+tick_table n m = tick_keeps (λ (v : Module). v.table ≡ m.table) (λ i p v h. h) n m refl
 
 -- the record has a place for the message and for the queue of each channel
 abbrev pub Held : Module → Type 0
-Held m = (length m.messages ≡ channelLimit) × (length m.queues ≡ channelLimit)
+Held m = (length m.messages ≡ channel_limit) × (length m.queues ≡ channel_limit)
 
 -- what partition k sees of the traffic of the channel at place i, by the table T
-abbrev pub seenTraffic : Table → Module → ℕ → ℕ → Traffic
-seenTraffic T q k i =
+abbrev pub seen_traffic : Table → Module → ℕ → ℕ → Traffic
+seen_traffic T q k i =
     let c = channel T i in
-    cond (seesTraffic T k i) (trafficOf (queue q i) (otherQueue k i c) (part q (otherEnd k c - 1))) noTraffic
+    cond (sees_traffic T k i) (traffic_of (queue q i) (other_queue k i c) (part q (other_end k c - 1))) no_traffic
 
 -- what the code has of it: all, or where call n does not ask who waits at the other end, as many messages
 abbrev pub Told : ℕ → ℕ → Traffic → Traffic → Type 0
-Told n size view real = (view ≡ real) ⊎ ((view.len ≡ real.len) × (asksWaiter n size real.len ≡ false))
+Told n size view real = (view ≡ real) ⊎ ((view.len ≡ real.len) × (asks_waiter n size real.len ≡ false))
 
 -- what a read of an array of queues would give past its end
-abbrev pub pastQueue : Queue
-pastQueue = record { items = []; len = 0 }
+abbrev pub past_queue : Queue
+past_queue = record { items = []; len = 0 }
 
 -- what stands at a place of a list, whatever would stand past its end
 get_d_any : {A : Type 0} (l : List A) (i : ℕ) (d e : A) → i < length l → get_or l i d ≡ get_or l i e
@@ -202,61 +202,61 @@ get_d_any (x ∷ l) zero d e h = refl
 get_d_any (x ∷ l) (suc i) d e h = get_d_any l i d e (omega arith)
 
 -- where the partition at the other end lies, past the last where no traffic is seen
-module _ (T : Table) (long : length T.channels ≡ channelLimit) (k i : ℕ) {n : ℕ} (e : n ≡ cond (seesTraffic T k i) (otherEnd k (channel T i) - 1) partitionLimit) where
-  sees-it : n < partitionLimit → seesTraffic T k i ≡ true
-  sees-it h = either (seesTraffic T k i) (λ t. t) (λ t. let z : n ≡ partitionLimit = e ∙ rw t in absurd (omega arith))
+module _ (T : Table) (long : length T.channels ≡ channel_limit) (k i : ℕ) {n : ℕ} (e : n ≡ cond (sees_traffic T k i) (other_end k (channel T i) - 1) partition_limit) where
+  sees_it : n < partition_limit → sees_traffic T k i ≡ true
+  sees_it h = either (sees_traffic T k i) (λ t. t) (λ t. let z : n ≡ partition_limit = e ∙ rw t in absurd (omega arith))
 
-  pub seen-place : n < partitionLimit → i < channelLimit
-  seen-place h = placed T i long (and_right (ltb i T.channelCount) _ (and_left (queuingAt T i) _ (sees-it h)))
+  pub seen_place : n < partition_limit → i < channel_limit
+  seen_place h = placed T i long (and_right (ltb i T.channelCount) _ (and_left (queuing_at T i) _ (sees_it h)))
 
-  pub seen_here : n < partitionLimit → (q : Module) → Held q → {o : ℕ} → o ≡ cond (ltb i channelLimit) (otherQueue k i (channel T i)) 0 → {v : Traffic} → v ≡ trafficOf (get_or q.queues i pastQueue) o (part q n) → v ≡ seenTraffic T q k i
+  pub seen_here : n < partition_limit → (q : Module) → Held q → {o : ℕ} → o ≡ cond (ltb i channel_limit) (other_queue k i (channel T i)) 0 → {v : Traffic} → v ≡ traffic_of (get_or q.queues i past_queue) o (part q n) → v ≡ seen_traffic T q k i
   seen_here h q l {o} is {v} g =
-      let at : n ≡ otherEnd k (channel T i) - 1 = e ∙ rw (sees-it h) in
-      let object : o ≡ otherQueue k i (channel T i) = is ∙ rw (lt-ltb i channelLimit (seen-place h)) in
-      let same : get_or q.queues i pastQueue ≡ queue q i = get_d_any q.queues i pastQueue noQueue (let z = seen-place h in omega (arith, l.1)) in
-      g ∙ rw (object, at, sees-it h, same)
+      let at : n ≡ other_end k (channel T i) - 1 = e ∙ rw (sees_it h) in
+      let object : o ≡ other_queue k i (channel T i) = is ∙ rw (lt-ltb i channel_limit (seen_place h)) in
+      let same : get_or q.queues i past_queue ≡ queue q i = get_d_any q.queues i past_queue no_queue (let z = seen_place h in omega (arith, l.1)) in
+      g ∙ rw (object, at, sees_it h, same)
 
-  pub seen_none : partitionLimit ≤ n → (q : Module) {v : Traffic} → v ≡ noTraffic → v ≡ seenTraffic T q k i
-  seen_none h q g = either (seesTraffic T k i) (λ t. absurd (near t)) (λ t. g ∙ rw t)
+  pub seen_none : partition_limit ≤ n → (q : Module) {v : Traffic} → v ≡ no_traffic → v ≡ seen_traffic T q k i
+  seen_none h q g = either (sees_traffic T k i) (λ t. absurd (near t)) (λ t. g ∙ rw t)
     where
-      near : seesTraffic T k i ≡ true → ⊥
+      near : sees_traffic T k i ≡ true → ⊥
       near t =
           let c = channel T i in
-          let z = and_right (ltb 0 c.size) _ (and_right (ltb i T.channelCount) _ (and_left (queuingAt T i) _ t)) in
-          let a = within-out partitionLimit c.source (and_left (within partitionLimit c.source) _ z) in
-          let b = within-out partitionLimit c.destination (and_right (within partitionLimit c.source) _ z) in
-          let at : n ≡ otherEnd k c - 1 = e ∙ rw t in
-          by-test (λ (j : ℕ). n ≡ j - 1 → ⊥) (eqb c.source k) (λ _ y. omega (arith, b.0, b.1)) (λ _ y. omega (arith, a.0, a.1)) at
+          let z = and_right (ltb 0 c.size) _ (and_right (ltb i T.channelCount) _ (and_left (queuing_at T i) _ t)) in
+          let a = within_out partition_limit c.source (and_left (within partition_limit c.source) _ z) in
+          let b = within_out partition_limit c.destination (and_right (within partition_limit c.source) _ z) in
+          let at : n ≡ other_end k c - 1 = e ∙ rw t in
+          by_test (λ (j : ℕ). n ≡ j - 1 → ⊥) (eqb c.source k) (λ _ y. omega (arith, b.0, b.1)) (λ _ y. omega (arith, a.0, a.1)) at
 
 -- past the last channel no traffic is seen
-pub none-far : (T : Table) → length T.channels ≡ channelLimit → (k i : ℕ) → channelLimit ≤ i → (q : Module) {v : Traffic} → v ≡ noTraffic → v ≡ seenTraffic T q k i
-none-far T long k i far q g = either (seesTraffic T k i)
-    (λ t. let z = placed T i long (and_right (ltb i T.channelCount) _ (and_left (queuingAt T i) _ t)) in absurd (omega (arith, z, far)))
+pub none_far : (T : Table) → length T.channels ≡ channel_limit → (k i : ℕ) → channel_limit ≤ i → (q : Module) {v : Traffic} → v ≡ no_traffic → v ≡ seen_traffic T q k i
+none_far T long k i far q g = either (sees_traffic T k i)
+    (λ t. let z = placed T i long (and_right (ltb i T.channelCount) _ (and_left (queuing_at T i) _ t)) in absurd (omega (arith, z, far)))
     (λ t. g ∙ rw t)
 
 -- record and reply after an event are the machine's, and the record has its places; the window was looked up as it is then
 pub record After (m : Module) (r : Request) (now t : ℕ) (q : Module) (b : Reply) : Type 0 where
-  pub state : q ≡ moduleAfter m (own r) (decision m r)
-  pub reply : b ≡ replyOf (decision m r)
-  pub long : length q.partitions ≡ partitionLimit
+  pub state : q ≡ module_after m (own r) (decision m r)
+  pub reply : b ≡ reply_of (decision m r)
+  pub long : length q.partitions ≡ partition_limit
   pub held : Held q
   pub window : now ≡ current q
   pub clock : q.t ≡ t
 
 -- the answer is read off the record after the event
-answered-is : (m : Module) (r : Request) (now t : ℕ) (y : Module) (b : Reply) → After m r now t y b → (n : ℕ) (a : Answer) → n ≡ cond (sees r now) (runningIn now y) 0 → a ≡ answer_of b y.t now n
+answered_is : (m : Module) (r : Request) (now t : ℕ) (y : Module) (b : Reply) → After m r now t y b → (n : ℕ) (a : Answer) → n ≡ cond (sees r now) (running_in now y) 0 → a ≡ answer_of b y.t now n
     → record { executive = record { inner = y }; answer = a } ≡ turned (stepped m r (decision m r))
-answered-is m r now t y b done n a shows says = rw (says, shows, done.window) (λ i. turned (record { state = done.state i; answer = answerTo r (done.reply i) (done.state i) }))
+answered_is m r now t y b done n a shows says = rw (says, shows, done.window) (λ i. turned (record { state = done.state i; answer = answer_to r (done.reply i) (done.state i) }))
 
 -- it is found in parts: the request, its place, and the window at the time after it
-pub plan-made : (T : Table) (t : ℕ) (e : Event) {r : Request} {first : Placed} {v : Lookup} {x : Plan} → r ≡ requestOf e → first ≡ placed_at T t r → v ≡ lookup T first.time → x ≡ planned T r (own r) first v → x ≡ plan_of T t e
+pub plan_made : (T : Table) (t : ℕ) (e : Event) {r : Request} {first : Placed} {v : Lookup} {x : Plan} → r ≡ request_of e → first ≡ placed_at T t r → v ≡ lookup T first.time → x ≡ planned T r (own r) first v → x ≡ plan_of T t e
 unfolding plan_of
-plan-made T t e {r} {first} {v} {x} is at seen made = made ∙ rw (seen, at, is)
+plan_made T t e {r} {first} {v} {x} is at seen made = made ∙ rw (seen, at, is)
 
 -- what is found of the event e before its partition is looked at; T is the table, which no event changes
 pub record Planned (m : Module) (e : Event) (T : Table) (x : Plan) : Type 0 where
   pub same : m.table ≡ T
-  pub long : length m.partitions ≡ partitionLimit
+  pub long : length m.partitions ≡ partition_limit
   pub held : Held m
   pub plan : x ≡ plan_of T m.t e
 
@@ -265,7 +265,7 @@ module _ {m : Module} {e : Event} {T : Table} {x : Plan} (f : Planned m e T x) w
   here = rw f.same f.plan
 
   abbrev r : Request
-  r = requestOf e
+  r = request_of e
 
   abbrev k : ℕ
   k = own r
@@ -277,75 +277,75 @@ module _ {m : Module} {e : Event} {T : Table} {x : Plan} (f : Planned m e T x) w
   now = (lookup m.table time).partition
 
   abbrev code : ℕ
-  code = code_of (placeChecks m.table m.t now r)
+  code = code_of (place_checks m.table m.t now r)
 
-  request-is : x.request ≡ r
+  request_is : x.request ≡ r
   unfolding plan_of
-  request-is = rw here
+  request_is = rw here
 
   pub own_is : x.own ≡ k
   unfolding plan_of
   own_is = rw here
 
-  call-is : x.call ≡ number_of r.call
+  call_is : x.call ≡ number_of r.call
   unfolding plan_of
-  call-is = rw here
+  call_is = rw here
 
-  place_is : x.place ≡ placeFor (number_of r.call) r.a
+  place_is : x.place ≡ place_for (number_of r.call) r.a
   unfolding plan_of
   place_is = rw here
 
   -- a call that names a channel looks at its place
-  place_at : namesChannel x.call ≡ true → x.place ≡ number_of r.a - 1
-  place_at t = place_is ∙ rw (← call-is, t)
+  place_at : names_channel x.call ≡ true → x.place ≡ number_of r.a - 1
+  place_at t = place_is ∙ rw (← call_is, t)
 
-  pub place-named : namesChannel x.call ≡ true → x.place ≡ number_of x.request.a - 1
-  place-named t = place_at t ∙ ap (λ (v : Request). number_of v.a - 1) (sym request-is)
+  pub place_named : names_channel x.call ≡ true → x.place ≡ number_of x.request.a - 1
+  place_named t = place_at t ∙ ap (λ (v : Request). number_of v.a - 1) (sym request_is)
 
-  code_is : x.code ≡ code
+  code_is_holds : x.code ≡ code
   unfolding plan_of
-  code_is = rw here (code-more (eventChecks m.table m.t r) (callChecks k now) refl)
+  code_is_holds = rw here (code_more (event_checks m.table m.t r) (call_checks k now) refl)
 
-  time-is : x.time ≡ time
+  time_is : x.time ≡ time
   unfolding plan_of
-  time-is = rw here
+  time_is = rw here
 
-  current-is : x.current ≡ now
+  current_is : x.current ≡ now
   unfolding plan_of
-  current-is = rw here
+  current_is = rw here
 
   left_is : x.left ≡ (lookup m.table time).left
   unfolding plan_of
   left_is = rw here
 
-  ticks-is : x.ticks ≡ tickCount m.table x.code k
+  ticks_is : x.ticks ≡ tick_count m.table x.code k
   unfolding plan_of
-  ticks-is = rw here
+  ticks_is = rw here
 
   spot_is : x.spot ≡ slot_of x.current
   unfolding plan_of
   spot_is = rw here
 
-  slot_is : x.slot ≡ callSlot x.code k
+  slot_is : x.slot ≡ call_slot x.code k
   unfolding plan_of
   slot_is = rw here
 
-  shown-is : x.shown ≡ shownSlot r x.current
+  shown_is : x.shown ≡ shown_slot r x.current
   unfolding plan_of
-  shown-is = rw here
+  shown_is = rw here
 
-  pub few-ticks : x.ticks ≤ partitionLimit
-  few-ticks = rw ticks-is (by-test (λ (n : ℕ). n ≤ partitionLimit) (eqb x.code 0) (λ _. by-test (λ (n : ℕ). n ≤ partitionLimit) (eqb k 0) (λ _. few m.table.size) (λ _. omega arith)) (λ _. omega arith))
+  pub few_ticks : x.ticks ≤ partition_limit
+  few_ticks = rw ticks_is (by_test (λ (n : ℕ). n ≤ partition_limit) (eqb x.code 0) (λ _. by_test (λ (n : ℕ). n ≤ partition_limit) (eqb k 0) (λ _. few m.table.size) (λ _. omega arith)) (λ _. omega arith))
     where
-      few : (n : ℕ) → cond (leb n partitionLimit) n partitionLimit ≤ partitionLimit
-      few n = by-test (λ (i : ℕ). i ≤ partitionLimit) (leb n partitionLimit) (λ h. leb-true n partitionLimit h) (λ _. omega arith)
+      few : (n : ℕ) → cond (leb n partition_limit) n partition_limit ≤ partition_limit
+      few n = by_test (λ (i : ℕ). i ≤ partition_limit) (leb n partition_limit) (λ h. leb-true n partition_limit h) (λ _. omega arith)
 
   -- a call looks at the window that is current
   seen : ticks r ≡ false → now ≡ current m
-  seen z = ap (λ (t : ℕ). (lookup m.table t).partition) (time-called m.table m.t now r z)
+  seen z = ap (λ (t : ℕ). (lookup m.table t).partition) (time_called m.table m.t now r z)
 
-  left-seen : ticks r ≡ false → x.left ≡ ticksLeft m
-  left-seen z = left_is ∙ ap (λ (t : ℕ). (lookup m.table t).left) (time-called m.table m.t now r z)
+  left_seen : ticks r ≡ false → x.left ≡ ticks_left m
+  left_seen z = left_is ∙ ap (λ (t : ℕ). (lookup m.table t).left) (time_called m.table m.t now r z)
 
   -- a call that no place refuses: its partition has a place, and is the current one
   pub record Called : Type 0 where
@@ -354,32 +354,32 @@ module _ {m : Module} {e : Event} {T : Table} {x : Plan} (f : Planned m e T x) w
     pub slot : x.slot ≡ k - 1
     pub now : x.current ≡ k
 
-  calls : x.slot < partitionLimit → Called
+  calls : x.slot < partition_limit → Called
   calls h = either (eqb x.code 0)
       (λ z. either (eqb k 0)
-      (λ o. let w : x.slot ≡ partitionLimit = slot_is ∙ rw (z, o) in absurd (omega arith))
-      (λ o. record { none = eqb-true x.code 0 z; some = o; slot = slot_is ∙ rw (z, o); now = current-is ∙ (place-calls m r f.long now seen x.code code_is (eqb-true x.code 0 z) o).0 }))
-      (λ z. let w : x.slot ≡ partitionLimit = slot_is ∙ rw z in absurd (omega arith))
+      (λ o. let w : x.slot ≡ partition_limit = slot_is ∙ rw (z, o) in absurd (omega arith))
+      (λ o. record { none = eqb-true x.code 0 z; some = o; slot = slot_is ∙ rw (z, o); now = current_is ∙ (place_calls m r f.long now seen x.code code_is_holds (eqb-true x.code 0 z) o).0 }))
+      (λ z. let w : x.slot ≡ partition_limit = slot_is ∙ rw z in absurd (omega arith))
 
   -- a call ticks nothing
-  pub call-no-ticks : x.slot < partitionLimit → x.ticks ≡ 0
-  call-no-ticks h = let c = calls h in ticks-is ∙ rw (c.none, c.some)
+  pub call_no_ticks : x.slot < partition_limit → x.ticks ≡ 0
+  call_no_ticks h = let c = calls h in ticks_is ∙ rw (c.none, c.some)
 
-  pub slot-own : x.slot < partitionLimit → x.own - 1 ≡ x.slot
-  slot-own h = ap (λ (n : ℕ). n - 1) own_is ∙ sym (calls h).slot
+  pub slot_own : x.slot < partition_limit → x.own - 1 ≡ x.slot
+  slot_own h = ap (λ (n : ℕ). n - 1) own_is ∙ sym (calls h).slot
 
   -- q is the record after the ticks
-  module _ {q : Module} (ticked : q ≡ tickTo x.ticks (withTime x.time m)) where
-    still : tickCount m.table x.code k ≡ 0 → time ≡ m.t → q ≡ m
-    still none stays = ticked ∙ rw (ticks-is, none, time-is, stays) (tick-to-none m)
+  module _ {q : Module} (ticked : q ≡ tick_to x.ticks (with_time x.time m)) where
+    still : tick_count m.table x.code k ≡ 0 → time ≡ m.t → q ≡ m
+    still none stays = ticked ∙ rw (ticks_is, none, time_is, stays) (tick_to_none m)
 
     -- no call: a tick, or refused
-    pub not-called : partitionLimit ≤ x.slot → {y : Module} {b : Reply} → y ≡ q → b ≡ coded x.code → After m x.request x.current x.time y b
-    not-called far {y} {b} g h = either (eqb x.code 0)
+    pub not_called : partition_limit ≤ x.slot → {y : Module} {b : Reply} → y ≡ q → b ≡ coded x.code → After m x.request x.current x.time y b
+    not_called far {y} {b} g h = either (eqb x.code 0)
         (λ z. either (eqb k 0)
         (λ o. taken (eqb-true x.code 0 z) o)
         (λ o.
-        let u = (place-calls m r f.long now seen x.code code_is (eqb-true x.code 0 z) o).1 in
+        let u = (place_calls m r f.long now seen x.code code_is_holds (eqb-true x.code 0 z) o).1 in
         let w : x.slot ≡ k - 1 = slot_is ∙ rw (z, o) in
         let v = eqb-false k 0 o in
         absurd (omega (arith, u, v))))
@@ -387,172 +387,172 @@ module _ {m : Module} {e : Event} {T : Table} {x : Plan} (f : Planned m e T x) w
       where
         refused : (x.code ≡ 0 → ⊥) → After m x.request x.current x.time y b
         refused z =
-            let d = place-refused m r f.long now seen x.code code_is z in
-            let t : time ≡ m.t = time-refused m.table m.t now r (λ c. z (code_is ∙ c)) in
+            let d = place_refused m r f.long now seen x.code code_is_holds z in
+            let t : time ≡ m.t = time_refused m.table m.t now r (λ c. z (code_is_holds ∙ c)) in
             let w : y ≡ m = g ∙ still (rw (ne_eqb x.code 0 z)) t in
-            record { state = rw (request-is, d) w; reply = rw (request-is, d) h; long = rw w f.long; held = rw w f.held; window = rw (current-is, w) (ap (λ (t : ℕ). (lookup m.table t).partition) t); clock = ap (λ (z : Module). z.t) w ∙ sym (time-is ∙ t) }
+            record { state = rw (request_is, d) w; reply = rw (request_is, d) h; long = rw w f.long; held = rw w f.held; window = rw (current_is, w) (ap (λ (t : ℕ). (lookup m.table t).partition) t); clock = ap (λ (z : Module). z.t) w ∙ sym (time_is ∙ t) }
 
         taken : x.code ≡ 0 → ticks r ≡ true → After m x.request x.current x.time y b
         taken z o =
-            let d : decision m r ≡ Ticked = place-passed m r f.long now seen x.code code_is z ∙ rw o in
-            let t : time ≡ m.t + 1 = time-taken m.table m.t now r (sym code_is ∙ z) o in
-            let w : y ≡ tickModule m = g ∙ ticked ∙ rw (ticks-is, time-is, t, z, o) in
+            let d : decision m r ≡ Ticked = place_passed m r f.long now seen x.code code_is_holds z ∙ rw o in
+            let t : time ≡ m.t + 1 = time_taken m.table m.t now r (sym code_is_holds ∙ z) o in
+            let w : y ≡ tick_module m = g ∙ ticked ∙ rw (ticks_is, time_is, t, z, o) in
             record {
-              state = rw (request-is, d) w;
-              reply = rw (request-is, d) (h ∙ ap coded z);
-              long = rw w (tick-keeps (λ (v : Module). length v.partitions ≡ partitionLimit) (λ i p v l. length-set v.partitions i p ∙ l) (partitionCount m.table) (withTime (m.t + 1) m) f.long);
-              held = rw w (tick-keeps Held (λ i p v l. l) (partitionCount m.table) (withTime (m.t + 1) m) f.held);
-              window = rw (current-is, w) (ap (λ (t : ℕ). (lookup m.table t).partition) t ∙ tick-keeps (λ (v : Module). (lookup m.table (m.t + 1)).partition ≡ current v) (λ i p v l. l) (partitionCount m.table) (withTime (m.t + 1) m) refl);
-              clock = ap (λ (z : Module). z.t) w ∙ tick-keeps (λ (v : Module). v.t ≡ m.t + 1) (λ i p v l. l) (partitionCount m.table) (withTime (m.t + 1) m) refl ∙ sym (time-is ∙ t);
+              state = rw (request_is, d) w;
+              reply = rw (request_is, d) (h ∙ ap coded z);
+              long = rw w (tick_keeps (λ (v : Module). length v.partitions ≡ partition_limit) (λ i p v l. length-set v.partitions i p ∙ l) (partition_count m.table) (with_time (m.t + 1) m) f.long);
+              held = rw w (tick_keeps Held (λ i p v l. l) (partition_count m.table) (with_time (m.t + 1) m) f.held);
+              window = rw (current_is, w) (ap (λ (t : ℕ). (lookup m.table t).partition) t ∙ tick_keeps (λ (v : Module). (lookup m.table (m.t + 1)).partition ≡ current v) (λ i p v l. l) (partition_count m.table) (with_time (m.t + 1) m) refl);
+              clock = ap (λ (z : Module). z.t) w ∙ tick_keeps (λ (v : Module). v.t ≡ m.t + 1) (λ i p v l. l) (partition_count m.table) (with_time (m.t + 1) m) refl ∙ sym (time_is ∙ t);
             }
 
     -- a call
-    module _ (inside : x.slot < partitionLimit) where
+    module _ (inside : x.slot < partition_limit) where
       -- the record is as it was
       called_same : q ≡ m
-      called_same = let c = calls inside in still (rw (c.none, c.some)) (time-called m.table m.t now r c.some)
+      called_same = let c = calls inside in still (rw (c.none, c.some)) (time_called m.table m.t now r c.some)
 
       -- what the code decides is the machine's decision
-      made-with : (caller v : ℕ) (port : Port) {d : Decision} → caller ≡ running (part q x.slot) → v ≡ releaseFor T q.t x.own x.call
-          → port ≡ portAt T x.own x.request.a (message q (number_of r.a - 1)) (seenTraffic T q x.own (number_of r.a - 1))
+      made_with : (caller v : ℕ) (port : Port) {d : Decision} → caller ≡ running (part q x.slot) → v ≡ release_for T q.t x.own x.call
+          → port ≡ port_at T x.own x.request.a (message q (number_of r.a - 1)) (seen_traffic T q x.own (number_of r.a - 1))
           → d ≡ called (record { time = q.t; frame = T.frame; left = x.left; release = v; caller = caller }) port x.call x.request (part q x.slot) → d ≡ decision m r
-      made-with caller v port runs point sees-port made =
+      made_with caller v port runs point sees-port made =
           let c = calls inside in
           let w = called_same in
-          let shown : called (record { time = q.t; frame = T.frame; left = x.left; release = v; caller = caller }) port x.call x.request (part q x.slot) ≡ called (record { time = q.t; frame = T.frame; left = x.left; release = releasePoint T q.t x.own; caller = caller }) port x.call x.request (part q x.slot) =
-          rw point (release-shown T q.t x.own x.left caller x.call port x.request (part q x.slot)) in
-          made ∙ shown ∙ rw (runs, sees-port, w, ← f.same, request-is, own_is, call-is, left-seen c.some, c.slot) (sym (place-passed m r f.long now seen x.code code_is c.none ∙ rw c.some))
+          let shown : called (record { time = q.t; frame = T.frame; left = x.left; release = v; caller = caller }) port x.call x.request (part q x.slot) ≡ called (record { time = q.t; frame = T.frame; left = x.left; release = release_point T q.t x.own; caller = caller }) port x.call x.request (part q x.slot) =
+          rw point (release_shown T q.t x.own x.left caller x.call port x.request (part q x.slot)) in
+          made ∙ shown ∙ rw (runs, sees-port, w, ← f.same, request_is, own_is, call_is, left_seen c.some, c.slot) (sym (place_passed m r f.long now seen x.code code_is_holds c.none ∙ rw c.some))
 
       -- where it names a channel, with the port of that channel; else whatever the port
-      pub made-is : (caller v : ℕ) (hold : Message) (view : Traffic) (port : Port) {d : Decision} → caller ≡ running (part q x.slot) → v ≡ releaseFor T q.t x.own x.call → hold ≡ message q x.place
-          → Told x.call (channel T x.place).size view (seenTraffic T q x.own x.place) → (namesChannel x.call ≡ true → port ≡ portAt T x.own x.request.a hold view)
+      pub made_is : (caller v : ℕ) (hold : Message) (view : Traffic) (port : Port) {d : Decision} → caller ≡ running (part q x.slot) → v ≡ release_for T q.t x.own x.call → hold ≡ message q x.place
+          → Told x.call (channel T x.place).size view (seen_traffic T q x.own x.place) → (names_channel x.call ≡ true → port ≡ port_at T x.own x.request.a hold view)
           → d ≡ called (record { time = q.t; frame = T.frame; left = x.left; release = v; caller = caller }) port x.call x.request (part q x.slot) → d ≡ decision m r
-      made-is caller v hold view port runs point lies shows sees-port made = either (namesChannel x.call)
+      made_is caller v hold view port runs point lies shows sees-port made = either (names_channel x.call)
           (λ t.
-          let real = seenTraffic T q x.own x.place in
-          let other = portAt T x.own x.request.a hold real in
+          let real = seen_traffic T q x.own x.place in
+          let other = port_at T x.own x.request.a hold real in
           let context : Context = record { time = q.t; frame = T.frame; left = x.left; release = v; caller = caller } in
-          ⊎_elim (λ e. let whole : view ≡ seenTraffic T q x.own x.place = e in made-with caller v port runs point (sees-port t ∙ rw (lies, whole, place_at t)) made)
+          ⊎_elim (λ e. let whole : view ≡ seen_traffic T q x.own x.place = e in made_with caller v port runs point (sees-port t ∙ rw (lies, whole, place_at t)) made)
           (λ u.
-          let unasked : asksWaiter x.call other.channel.size real.len ≡ false = rw (← place-named t) u.1 in
-          let as-other = waiter-shown context other view u.0 x.call unasked x.request (part q x.slot) in
-          made-with caller v other runs point (rw (lies, place_at t)) (made ∙ ap (λ (y : Port). called context y x.call x.request (part q x.slot)) (sees-port t) ∙ sym as-other))
+          let unasked : asks_waiter x.call other.channel.size real.len ≡ false = rw (← place_named t) u.1 in
+          let as-other = waiter_shown context other view u.0 x.call unasked x.request (part q x.slot) in
+          made_with caller v other runs point (rw (lies, place_at t)) (made ∙ ap (λ (y : Port). called context y x.call x.request (part q x.slot)) (sees-port t) ∙ sym as-other))
           shows)
           (λ t.
-          let other = portAt T x.own x.request.a (message q (number_of r.a - 1)) (seenTraffic T q x.own (number_of r.a - 1)) in
-          made-with caller v other runs point refl (made ∙ port-shown (record { time = q.t; frame = T.frame; left = x.left; release = v; caller = caller }) port other x.call t x.request (part q x.slot)))
+          let other = port_at T x.own x.request.a (message q (number_of r.a - 1)) (seen_traffic T q x.own (number_of r.a - 1)) in
+          made_with caller v other runs point refl (made ∙ port_shown (record { time = q.t; frame = T.frame; left = x.left; release = v; caller = caller }) port other x.call t x.request (part q x.slot)))
 
       module _ {d : Decision} (Made-so : d ≡ decision m r) where
-        made-called : d ≡ called (context_of m k) (portOf m k r) (number_of r.call) r (part m (k - 1))
-        made-called = Made-so ∙ place-passed m r f.long now seen x.code code_is (calls inside).none ∙ chosen (calls inside).some
+        made_called : d ≡ called (context_of m k) (port_of m k r) (number_of r.call) r (part m (k - 1))
+        made_called = Made-so ∙ place_passed m r f.long now seen x.code code_is_holds (calls inside).none ∙ chosen (calls inside).some
           where
-            chosen : ticks r ≡ false → accepted m r f.long ≡ called (context_of m k) (portOf m k r) (number_of r.call) r (part m (k - 1))
+            chosen : ticks r ≡ false → accepted m r f.long ≡ called (context_of m k) (port_of m k r) (number_of r.call) r (part m (k - 1))
             chosen z = rw z
 
-        window-is : (y : Module) → y.table ≡ q.table → y.t ≡ q.t → x.current ≡ current y
-        window-is y a b = let w = called_same in rw (a, b, w) (current-is ∙ seen (calls inside).some)
+        window_is : (y : Module) → y.table ≡ q.table → y.t ≡ q.t → x.current ≡ current y
+        window_is y a b = let w = called_same in rw (a, b, w) (current_is ∙ seen (calls inside).some)
 
-        module _ {b : Reply} (says : b ≡ replyOf d) where
-          stores : {y : Module} → y ≡ moduleAfter m k d → length y.partitions ≡ partitionLimit → Held y → y.table ≡ q.table → y.t ≡ q.t → After m x.request x.current x.time y b
-          stores {y} g l l' a t = record { state = rw (request-is) (g ∙ ap (moduleAfter m k) Made-so); reply = rw (request-is) (says ∙ ap replyOf Made-so); long = l; held = l'; window = window-is y a t; clock = t ∙ ap (λ (z : Module). z.t) called_same ∙ sym (time-is ∙ time-called m.table m.t now r (calls inside).some) }
+        module _ {b : Reply} (says : b ≡ reply_of d) where
+          stores : {y : Module} → y ≡ module_after m k d → length y.partitions ≡ partition_limit → Held y → y.table ≡ q.table → y.t ≡ q.t → After m x.request x.current x.time y b
+          stores {y} g l l' a t = record { state = rw (request_is) (g ∙ ap (module_after m k) Made-so); reply = rw (request_is) (says ∙ ap reply_of Made-so); long = l; held = l'; window = window_is y a t; clock = t ∙ ap (λ (z : Module). z.t) called_same ∙ sym (time_is ∙ time_called m.table m.t now r (calls inside).some) }
 
-          pub call_same : changes d ≡ false → channelLimit ≤ messageAt d → channelLimit ≤ transferAt d → {y : Module} → y ≡ q → After m x.request x.current x.time y b
+          pub call_same : changes d ≡ false → channel_limit ≤ message_at d → channel_limit ≤ transfer_at d → {y : Module} → y ≡ q → After m x.request x.current x.time y b
           call_same c h h' {y} g =
               let w = called_same in
-              let n = called-no-tick (context_of m k) (portOf m k r) (number_of r.call) r (part m (k - 1)) in
-              let u : NoTick d = subst NoTick (sym made-called) n.is in
+              let n = called_no_tick (context_of m k) (port_of m k r) (number_of r.call) r (part m (k - 1)) in
+              let u : NoTick d = subst NoTick (sym made_called) n.is in
               stores (g ∙ w ∙ sym (after_same m k f.held.0 d u c h h')) (rw (g, w) f.long) (rw (g, w) f.held) (ap (λ (z : Module). z.table) g) (ap (λ (z : Module). z.t) g)
 
-          pub call-written : messageAt d < channelLimit → {a : Message} → a ≡ messageOf d → {y : Module} → y ≡ withMessage (messageAt d) a q → After m x.request x.current x.time y b
-          call-written h {a} e {y} g =
+          pub call_written : message_at d < channel_limit → {a : Message} → a ≡ message_of d → {y : Module} → y ≡ with_message (message_at d) a q → After m x.request x.current x.time y b
+          call_written h {a} e {y} g =
               let w = called_same in
-              stores (g ∙ rw (e, w) (sym (after-written m k d h))) (rw (g, w) f.long) (rw (g, w) (length-set m.messages (messageAt d) a ∙ f.held.0, f.held.1)) (ap (λ (z : Module). z.table) g) (ap (λ (z : Module). z.t) g)
+              stores (g ∙ rw (e, w) (sym (after_written m k d h))) (rw (g, w) f.long) (rw (g, w) (length-set m.messages (message_at d) a ∙ f.held.0, f.held.1)) (ap (λ (z : Module). z.table) g) (ap (λ (z : Module). z.t) g)
 
           -- a transfer: the queue of messages, and where a wait ends, the partition at the other end
-          module _ (h : transferAt d < channelLimit) {a : Transfer} (is : a ≡ transferOf d) {l : Queue} (moved-is : l ≡ moved a (get_or q.queues (transferAt d) pastQueue)) {end : ℕ} (ends : end ≡ cond (endsWait a) (otherEnd x.own (channel T (transferAt d)) - 1) partitionLimit) where
-            moves : l ≡ moved a (queue q (transferAt d))
-            moves = moved-is ∙ ap (moved a) (get_d_any q.queues (transferAt d) pastQueue noQueue (let w = called_same in let z : length q.queues ≡ channelLimit = rw w f.held.1 in omega arith))
+          module _ (h : transfer_at d < channel_limit) {a : Transfer} (is : a ≡ transfer_of d) {l : Queue} (moved-is : l ≡ moved a (get_or q.queues (transfer_at d) past_queue)) {end : ℕ} (ends : end ≡ cond (ends_wait a) (other_end x.own (channel T (transfer_at d)) - 1) partition_limit) where
+            moves : l ≡ moved a (queue q (transfer_at d))
+            moves = moved-is ∙ ap (moved a) (get_d_any q.queues (transfer_at d) past_queue no_queue (let w = called_same in let z : length q.queues ≡ channel_limit = rw w f.held.1 in omega arith))
 
-            pub call-passed : end < partitionLimit → {p : Partition} → p ≡ endedBy a (part q end)
-                → {y : Module} → y ≡ record { table = q.table; t = q.t; messages = q.messages; queues = set q.queues (transferAt d) l; partitions = set q.partitions end p } → After m x.request x.current x.time y b
-            call-passed inside {p} e {y} g =
+            pub call_passed : end < partition_limit → {p : Partition} → p ≡ ended_by a (part q end)
+                → {y : Module} → y ≡ record { table = q.table; t = q.t; messages = q.messages; queues = set q.queues (transfer_at d) l; partitions = set q.partitions end p } → After m x.request x.current x.time y b
+            call_passed inside {p} e {y} g =
                 let w = called_same in
-                let on : endsWait a ≡ true = either (endsWait a) (λ t. t) (λ t. let z : end ≡ partitionLimit = ends ∙ rw t in absurd (omega arith)) in
-                let at : end ≡ otherEnd k (channel m.table (transferAt d)) - 1 = ends ∙ rw (on, own_is, ← f.same) in
-                let done : passed k (transferAt d) (transferOf d) m ≡ withPart (otherEnd k (channel m.table (transferAt d)) - 1) (endedBy a (part m (otherEnd k (channel m.table (transferAt d)) - 1))) (withQueue (transferAt d) (moved a (queue m (transferAt d))) m) = rw (← is, on) in
-                stores (g ∙ rw (e, moves, w, at) (sym (after-passed m k d h ∙ done))) (rw (g, w) (length-set m.partitions end p ∙ f.long)) (rw (g, w) (f.held.0, length-set m.queues (transferAt d) l ∙ f.held.1)) (ap (λ (z : Module). z.table) g) (ap (λ (z : Module). z.t) g)
+                let on : ends_wait a ≡ true = either (ends_wait a) (λ t. t) (λ t. let z : end ≡ partition_limit = ends ∙ rw t in absurd (omega arith)) in
+                let at : end ≡ other_end k (channel m.table (transfer_at d)) - 1 = ends ∙ rw (on, own_is, ← f.same) in
+                let done : passed k (transfer_at d) (transfer_of d) m ≡ with_part (other_end k (channel m.table (transfer_at d)) - 1) (ended_by a (part m (other_end k (channel m.table (transfer_at d)) - 1))) (with_queue (transfer_at d) (moved a (queue m (transfer_at d))) m) = rw (← is, on) in
+                stores (g ∙ rw (e, moves, w, at) (sym (after_passed m k d h ∙ done))) (rw (g, w) (length-set m.partitions end p ∙ f.long)) (rw (g, w) (f.held.0, length-set m.queues (transfer_at d) l ∙ f.held.1)) (ap (λ (z : Module). z.table) g) (ap (λ (z : Module). z.t) g)
 
-            pub call-moved : partitionLimit ≤ end → {y : Module} → y ≡ record { table = q.table; t = q.t; messages = q.messages; queues = set q.queues (transferAt d) l; partitions = q.partitions } → After m x.request x.current x.time y b
-            call-moved far {y} g =
+            pub call_moved : partition_limit ≤ end → {y : Module} → y ≡ record { table = q.table; t = q.t; messages = q.messages; queues = set q.queues (transfer_at d) l; partitions = q.partitions } → After m x.request x.current x.time y b
+            call_moved far {y} g =
                 let w = called_same in
-                let u = withQueue (transferAt d) (moved a (queue m (transferAt d))) m in
-                let done : passed k (transferAt d) (transferOf d) m ≡ u = rw (← is) (by-test (λ (z : Module). z ≡ u) (endsWait a)
+                let u = with_queue (transfer_at d) (moved a (queue m (transfer_at d))) m in
+                let done : passed k (transfer_at d) (transfer_of d) m ≡ u = rw (← is) (by_test (λ (z : Module). z ≡ u) (ends_wait a)
                 (λ t.
-                let at : end ≡ otherEnd k (channel m.table (transferAt d)) - 1 = ends ∙ rw (t, own_is, ← f.same) in
-                ap (λ (v : List Partition). record { table = m.table; t = m.t; messages = m.messages; queues = set m.queues (transferAt d) (moved a (queue m (transferAt d))); partitions = v }) (set_out m.partitions (otherEnd k (channel m.table (transferAt d)) - 1) _ (omega (arith, f.long))))
+                let at : end ≡ other_end k (channel m.table (transfer_at d)) - 1 = ends ∙ rw (t, own_is, ← f.same) in
+                ap (λ (v : List Partition). record { table = m.table; t = m.t; messages = m.messages; queues = set m.queues (transfer_at d) (moved a (queue m (transfer_at d))); partitions = v }) (set_out m.partitions (other_end k (channel m.table (transfer_at d)) - 1) _ (omega (arith, f.long))))
                 (λ _. refl)) in
-                stores (g ∙ rw (moves, w) (sym (after-passed m k d h ∙ done))) (rw (g, w) f.long) (rw (g, w) (f.held.0, length-set m.queues (transferAt d) l ∙ f.held.1)) (ap (λ (z : Module). z.table) g) (ap (λ (z : Module). z.t) g)
+                stores (g ∙ rw (moves, w) (sym (after_passed m k d h ∙ done))) (rw (g, w) f.long) (rw (g, w) (f.held.0, length-set m.queues (transfer_at d) l ∙ f.held.1)) (ap (λ (z : Module). z.table) g) (ap (λ (z : Module). z.t) g)
 
-          module _ {p : Partition} (after : p ≡ partitionAfter d (part q x.slot)) where
-            pub call-changed : changes d ≡ true → restarts d ≡ false → {y : Module} → y ≡ record { table = q.table; t = q.t; messages = q.messages; queues = q.queues; partitions = set q.partitions x.slot p } → After m x.request x.current x.time y b
-            call-changed c n {y} g =
+          module _ {p : Partition} (after : p ≡ partition_after d (part q x.slot)) where
+            pub call_changed : changes d ≡ true → restarts d ≡ false → {y : Module} → y ≡ record { table = q.table; t = q.t; messages = q.messages; queues = q.queues; partitions = set q.partitions x.slot p } → After m x.request x.current x.time y b
+            call_changed c n {y} g =
                 let w = called_same in
-                stores (g ∙ rw (after, w, (calls inside).slot) (sym (after-changed m k d c n))) (rw (g, w) (length-set m.partitions x.slot p ∙ f.long)) (rw (g, w) f.held) (ap (λ (z : Module). z.table) g) (ap (λ (z : Module). z.t) g)
+                stores (g ∙ rw (after, w, (calls inside).slot) (sym (after_changed m k d c n))) (rw (g, w) (length-set m.partitions x.slot p ∙ f.long)) (rw (g, w) f.held) (ap (λ (z : Module). z.table) g) (ap (λ (z : Module). z.t) g)
 
-            pub call-restarted : restarts d ≡ true → {l : List Message} → l ≡ kept_to T x.own channelLimit q.messages
-                → {y : Module} → y ≡ refilledTo x.own channelLimit (record { table = q.table; t = q.t; messages = l; queues = q.queues; partitions = set q.partitions x.slot p }) → After m x.request x.current x.time y b
-            call-restarted n {l} kept {y} g =
+            pub call_restarted : restarts d ≡ true → {l : List Message} → l ≡ kept_to T x.own channel_limit q.messages
+                → {y : Module} → y ≡ refilled_to x.own channel_limit (record { table = q.table; t = q.t; messages = l; queues = q.queues; partitions = set q.partitions x.slot p }) → After m x.request x.current x.time y b
+            call_restarted n {l} kept {y} g =
                 let w = called_same in
                 let u : Module = record { table = q.table; t = q.t; messages = l; queues = q.queues; partitions = set q.partitions x.slot p } in
-                let z = refilled-sizes x.own channelLimit u in
-                stores (g ∙ rw (after, kept, own_is, w, ← f.same, (calls inside).slot) (sym (after-restarted m k d n)))
+                let z = refilled_sizes x.own channel_limit u in
+                stores (g ∙ rw (after, kept, own_is, w, ← f.same, (calls inside).slot) (sym (after_restarted m k d n)))
                 (ap (λ (v : Module). length v.partitions) g ∙ z.partitions ∙ rw w (length-set m.partitions x.slot p ∙ f.long))
-                (ap (λ (v : Module). length v.messages) g ∙ z.messages ∙ rw (kept, w) (kept-long T x.own channelLimit m.messages ∙ f.held.0), ap (λ (v : Module). length v.queues) g ∙ z.queues ∙ rw w f.held.1)
-                (ap (λ (v : Module). v.table) g ∙ refilled-table x.own channelLimit u) (ap (λ (v : Module). v.t) g ∙ refilled-time x.own channelLimit u)
+                (ap (λ (v : Module). length v.messages) g ∙ z.messages ∙ rw (kept, w) (kept_long T x.own channel_limit m.messages ∙ f.held.0), ap (λ (v : Module). length v.queues) g ∙ z.queues ∙ rw w f.held.1)
+                (ap (λ (v : Module). v.table) g ∙ refilled_table x.own channel_limit u) (ap (λ (v : Module). v.t) g ∙ refilled_time x.own channel_limit u)
 
   -- what is decided of the event: of a call the machine's decision, and of no call its code
   pub record Decides (d : Decision) : Type 0 where
-    pub call : x.slot < partitionLimit → d ≡ decision m r
-    pub none : partitionLimit ≤ x.slot → d ≡ Refused x.code
+    pub call : x.slot < partition_limit → d ≡ decision m r
+    pub none : partition_limit ≤ x.slot → d ≡ Refused x.code
 
   -- ------------------------------------------------------------ the answer
-  pub shown-spot : x.shown < partitionLimit → x.shown ≡ x.spot
-  shown-spot h = either (sees r x.current)
-      (λ z. shown-is ∙ rw z (sym spot_is))
-      (λ z. let w : x.shown ≡ partitionLimit = shown-is ∙ rw z in absurd (omega arith))
+  pub shown_spot : x.shown < partition_limit → x.shown ≡ x.spot
+  shown_spot h = either (sees r x.current)
+      (λ z. shown_is ∙ rw z (sym spot_is))
+      (λ z. let w : x.shown ≡ partition_limit = shown_is ∙ rw z in absurd (omega arith))
 
   -- y is the record after the event, and n the running process of the current partition, where it has one
   module _ {y : Module} {b : Reply} (done : After m x.request x.current x.time y b) where
-    none-past : partitionLimit ≤ x.spot → runningIn x.current y ≡ 0
+    none_past : partition_limit ≤ x.spot → running_in x.current y ≡ 0
     unfolding running
-    none-past h = by-test (λ (n : ℕ). n ≡ 0) (eqb x.current 0) (λ _. refl)
+    none_past h = by_test (λ (n : ℕ). n ≡ 0) (eqb x.current 0) (λ _. refl)
         (λ z.
         let w : x.spot ≡ x.current - 1 = spot_is ∙ rw z in
-        let e : part y (x.current - 1) ≡ noPartition = get_or-eq_default y.partitions noPartition (omega (arith, done.long)) in
+        let e : part y (x.current - 1) ≡ no_partition = get_or-eq_default y.partitions no_partition (omega (arith, done.long)) in
         rw e)
 
-    spot-running : x.spot < partitionLimit → running (part y x.spot) ≡ runningIn x.current y
-    spot-running h = either (eqb x.current 0)
-        (λ z. let w : x.spot ≡ partitionLimit = spot_is ∙ rw z in absurd (omega arith))
+    spot_running : x.spot < partition_limit → running (part y x.spot) ≡ running_in x.current y
+    spot_running h = either (eqb x.current 0)
+        (λ z. let w : x.spot ≡ partition_limit = spot_is ∙ rw z in absurd (omega arith))
         (λ z. let w : x.spot ≡ x.current - 1 = spot_is ∙ rw z in rw (z, w))
 
     -- what is shown
-    pub runs-shown : x.shown < partitionLimit → {n : ℕ} → n ≡ running (part y x.spot) → n ≡ cond (sees x.request x.current) (runningIn x.current y) 0
-    runs-shown h {n} e = either (sees r x.current)
-        (λ z. e ∙ rw (request-is, z) (spot-running (rw (shown-spot h) at h)))
-        (λ z. let w : x.shown ≡ partitionLimit = shown-is ∙ rw z in absurd (omega arith))
+    pub runs_shown : x.shown < partition_limit → {n : ℕ} → n ≡ running (part y x.spot) → n ≡ cond (sees x.request x.current) (running_in x.current y) 0
+    runs_shown h {n} e = either (sees r x.current)
+        (λ z. e ∙ rw (request_is, z) (spot_running (rw (shown_spot h) at h)))
+        (λ z. let w : x.shown ≡ partition_limit = shown_is ∙ rw z in absurd (omega arith))
 
-    pub none-shown : partitionLimit ≤ x.shown → 0 ≡ cond (sees x.request x.current) (runningIn x.current y) 0
-    none-shown h = either (sees r x.current)
-        (λ z. let w : x.shown ≡ x.spot = shown-is ∙ rw z (sym spot_is) in rw (request-is, z) (sym (none-past (rw w at h))))
-        (λ z. rw (request-is, z))
+    pub none_shown : partition_limit ≤ x.shown → 0 ≡ cond (sees x.request x.current) (running_in x.current y) 0
+    none_shown h = either (sees r x.current)
+        (λ z. let w : x.shown ≡ x.spot = shown_is ∙ rw z (sym spot_is) in rw (request_is, z) (sym (none_past (rw w at h))))
+        (λ z. rw (request_is, z))
 
     -- the answer is read off the record after the event
-    pub event-answered : {n : ℕ} → n ≡ cond (sees x.request x.current) (runningIn x.current y) 0 → {a : Answer} → a ≡ answer_of b y.t x.current n → record { executive = record { inner = y }; answer = a } ≡ turned (step m e)
+    pub event_answered : {n : ℕ} → n ≡ cond (sees x.request x.current) (running_in x.current y) 0 → {a : Answer} → a ≡ answer_of b y.t x.current n → record { executive = record { inner = y }; answer = a } ≡ turned (step m e)
     unfolding step
-    event-answered {n} shows {a} says = answered-is m x.request x.current x.time y b done n a shows says ∙ ap (λ (v : Request). turned (stepped m v (decision m v))) request-is
+    event_answered {n} shows {a} says = answered_is m x.request x.current x.time y b done n a shows says ∙ ap (λ (v : Request). turned (stepped m v (decision m v))) request_is
 
 -- ---------------------------------------------------------------- the waiting time
 -- the two numbers are passed on by their bits
-pub awaited : (T : Table) (t k : ℤ) (w : Waiting) → SFits w64 t → SFits w64 k → w ≡ waitingOf T (to_z w64 (of_z w64 t)) (to_z w64 (of_z w64 k)) → w ≡ waitingOf T t k
+pub awaited : (T : Table) (t k : ℤ) (w : Waiting) → SFits w64 t → SFits w64 k → w ≡ waiting_of T (to_z w64 (of_z w64 t)) (to_z w64 (of_z w64 k)) → w ≡ waiting_of T t k
 awaited T t k w f g e = rw (to_z-of_z w64 t f, to_z-of_z w64 k g) at e

@@ -2,12 +2,12 @@
 ghost use Rattle.std.specs.Prelude.{◌≡◌, ◌+◌, ◌≤◌, length};
 ghost use Rattle.std.proofs.lemmas.List.Edits.{sets};
 ghost use Rattle.machine.specs.Step.{step};
-ghost use Rattle.machine.specs.Replay.{timeNumber, answerNumbers, unread};
-ghost use Rattle.machine.specs.Table.{readTable};
-ghost use Rattle.machine.specs.Windows.{waitingOf};
-ghost use Rattle.events.specs.Plans.{noAnswer};
+ghost use Rattle.machine.specs.Replay.{time_number, answer_numbers, unread};
+ghost use Rattle.machine.specs.Table.{read_table};
+ghost use Rattle.machine.specs.Windows.{waiting_of};
+ghost use Rattle.events.specs.Plans.{no_answer};
 ghost use Rattle.executive.specs.Executive.{turned, opened};
-ghost use Rattle.executive.specs.Lists.{six, eventAt, afterList, answeredList, lastAnswer, eventsIn};
+ghost use Rattle.executive.specs.Lists.{six, event_at, after_list, answered_list, last_answer, events_in};
 
 use decisions::View;
 use machine::{Answer, Context, Decision, Event, Module, Partition, Time, Waiting};
@@ -39,7 +39,7 @@ const SIX: usize = 6;
 
 fn event_at(list: &[i64], at: usize) -> Event
     requires { at + six ≤ length list.now }
-    ensures { result ≡ eventAt list.now at }
+    ensures { result ≡ event_at list.now at }
 {
     Event {
         partition: list[at],
@@ -53,7 +53,7 @@ fn event_at(list: &[i64], at: usize) -> Event
 
 // -1 is never.
 fn time_number(t: Time) -> i64
-    ensures { result ≡ timeNumber t }
+    ensures { result ≡ time_number t }
 {
     match t {
         Time::Never => -1,
@@ -64,7 +64,7 @@ fn time_number(t: Time) -> i64
 // Stores code, value, extra, t, current, running.
 fn put_answer(list: &mut [i64], at: usize, a: Answer)
     requires { at + six ≤ length list.old }
-    ensures { list.new ≡ sets list.old at (answerNumbers a) }
+    ensures { list.new ≡ sets list.old at (answer_numbers a) }
 {
     let extra = a.extra;
     list[at] = a.code as i64;
@@ -78,7 +78,7 @@ fn put_answer(list: &mut [i64], at: usize, a: Answer)
 impl Executive {
     // Reads a table at the front of an input.
     pub fn open(input: &[u8]) -> Opening
-        ensures { result ≡ opened (readTable input.now) }
+        ensures { result ≡ opened (read_table input.now) }
     {
         let r = table::read(input);
         let inner = r.state;
@@ -93,7 +93,7 @@ impl Executive {
     // The loop: the events of a lent list, six numbers each, in order; the six of an answer take their place. The module lies in one
     // local and changes where it lies. It gives the last answer too.
     fn run_list(self, list: &mut [i64]) -> Turn
-        ensures { (result.executive.inner ≡ afterList self.inner list.old) × (result.answer ≡ lastAnswer self.inner noAnswer (eventsIn list.old)) × (list.new ≡ answeredList self.inner list.old) }
+        ensures { (result.executive.inner ≡ after_list self.inner list.old) × (result.answer ≡ last_answer self.inner no_answer (events_in list.old)) × (list.new ≡ answered_list self.inner list.old) }
     {
         let mut m = self.inner;
         let table = m.table;
@@ -362,7 +362,7 @@ impl Executive {
 
     // The events of a lent list, six numbers each, in order; the six of an answer take their place.
     pub fn run(self, list: &mut [i64]) -> Executive
-        ensures { (result.inner ≡ afterList self.inner list.old) × (list.new ≡ answeredList self.inner list.old) }
+        ensures { (result.inner ≡ after_list self.inner list.old) × (list.new ≡ answered_list self.inner list.old) }
     {
         let r = self.run_list(list);
         r.executive
@@ -409,7 +409,7 @@ impl Executive {
 
     // The waiting time from t on of a partition.
     pub fn waiting_time(self, t: i64, k: i64) -> Waiting
-        ensures { result ≡ waitingOf self.inner.table t k }
+        ensures { result ≡ waiting_of self.inner.table t k }
     {
         let m = self.inner;
         let table = m.table;

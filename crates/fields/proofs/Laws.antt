@@ -14,10 +14,10 @@ use Rattle.machine.specs.declared.Field.{Field}
 use Rattle.machine.specs.declared.Field.TheVariants.{Number, MinusOne, Other}
 use Rattle.machine.specs.declared.Numbers.{Numbers}
 use Rattle.machine.specs.declared.Row.{Row}
-use Rattle.machine.specs.Limits.{greatestTime}
+use Rattle.machine.specs.Limits.{greatest_time}
 use Rattle.machine.specs.declared.Event.{Event}
 use Rattle.machine.specs.declared.Request.{Request}
-use Rattle.machine.specs.Fields.{field, row_of, requestOf}
+use Rattle.machine.specs.Fields.{field, row_of, request_of}
 
 pub told : (z : ℤ) → SFits w64 z → (f : Field) → f ≡ field (to_z w64 (of_z w64 z)) → f ≡ field z
 told z h f e = e ∙ ap field (to_z-of_z w64 z h)
@@ -27,8 +27,8 @@ pub row_told : (n : Numbers) (a b c d e f : Field) → a ≡ field n.n1 → b �
 row_told n a b c d e f p q r s t u = λ i. record { f1 = p i; f2 = q i; f3 = r i; f4 = s i; f5 = t i; f6 = u i }
 
 -- −1 is stored as 2^64 − 1
-pub minus_one : (z : ℤ) → SFits w64 z → of_z w64 z ≡ 18446744073709551615 → MinusOne ≡ field z
-minus_one z f e = let q : z ≡ negsuc 0 = sym (to_z-of_z w64 z f) ∙ ap (to_z w64) e in rw q
+pub minus_one_holds : (z : ℤ) → SFits w64 z → of_z w64 z ≡ 18446744073709551615 → MinusOne ≡ field z
+minus_one_holds z f e = let q : z ≡ negsuc 0 = sym (to_z-of_z w64 z f) ∙ ap (to_z w64) e in rw q
 
 pub below : (z : ℤ) → SFits w64 z → (of_z w64 z ≡ 18446744073709551615 → ⊥) → lt_z (to_z w64 (of_z w64 z)) (pos 0) ≡ true → Other ≡ field z
 below z f n t = go z n (rw (to_z-of_z w64 z f) at t)
@@ -38,30 +38,30 @@ below z f n t = go z n (rw (to_z-of_z w64 z f) at t)
     go (negsuc zero) n t = absurd (n refl)
     go (negsuc (suc k)) n t = refl
 
-pub fits : (z : ℤ) → SFits w64 z → lt_z (to_z w64 (of_z w64 z)) (pos 0) ≡ false → le_z (to_z w64 (of_z w64 z)) (pos greatestTime) ≡ true
+pub fits : (z : ℤ) → SFits w64 z → lt_z (to_z w64 (of_z w64 z)) (pos 0) ≡ false → le_z (to_z w64 (of_z w64 z)) (pos greatest_time) ≡ true
     → T (non_neg (to_z w64 (of_z w64 z))) × Fits w32 (nat_abs (to_z w64 (of_z w64 z)))
 fits z f = rw (to_z-of_z w64 z f) (go z)
   where
-    go : (z : ℤ) → lt_z z (pos 0) ≡ false → le_z z (pos greatestTime) ≡ true → T (non_neg z) × Fits w32 (nat_abs z)
-    go (pos k) t l = let h = leb-true k greatestTime l in (tt, record { fits = omega arith })
+    go : (z : ℤ) → lt_z z (pos 0) ≡ false → le_z z (pos greatest_time) ≡ true → T (non_neg z) × Fits w32 (nat_abs z)
+    go (pos k) t l = let h = leb-true k greatest_time l in (tt, record { fits = omega arith })
     go (negsuc k) t l = absurd (let e : ◌≡◌ {A = ℕ} 0 1 = cc in omega arith)
 
-pub number : (z : ℤ) → SFits w64 z → lt_z (to_z w64 (of_z w64 z)) (pos 0) ≡ false → le_z (to_z w64 (of_z w64 z)) (pos greatestTime) ≡ true → Number (nat_abs (to_z w64 (of_z w64 z))) ≡ field z
+pub number : (z : ℤ) → SFits w64 z → lt_z (to_z w64 (of_z w64 z)) (pos 0) ≡ false → le_z (to_z w64 (of_z w64 z)) (pos greatest_time) ≡ true → Number (nat_abs (to_z w64 (of_z w64 z))) ≡ field z
 number z f = rw (to_z-of_z w64 z f) (go z)
   where
-    go : (z : ℤ) → lt_z z (pos 0) ≡ false → le_z z (pos greatestTime) ≡ true → Number (nat_abs z) ≡ field z
+    go : (z : ℤ) → lt_z z (pos 0) ≡ false → le_z z (pos greatest_time) ≡ true → Number (nat_abs z) ≡ field z
     go (pos k) t l = rw l
     go (negsuc k) t l = absurd (let e : ◌≡◌ {A = ℕ} 0 1 = cc in omega arith)
 
-pub beyond : (z : ℤ) → SFits w64 z → lt_z (to_z w64 (of_z w64 z)) (pos 0) ≡ false → le_z (to_z w64 (of_z w64 z)) (pos greatestTime) ≡ false → Other ≡ field z
+pub beyond : (z : ℤ) → SFits w64 z → lt_z (to_z w64 (of_z w64 z)) (pos 0) ≡ false → le_z (to_z w64 (of_z w64 z)) (pos greatest_time) ≡ false → Other ≡ field z
 beyond z f t l = go z (rw (to_z-of_z w64 z f) at t) (rw (to_z-of_z w64 z f) at l)
   where
-    go : (z : ℤ) → lt_z z (pos 0) ≡ false → le_z z (pos greatestTime) ≡ false → Other ≡ field z
+    go : (z : ℤ) → lt_z z (pos 0) ≡ false → le_z z (pos greatest_time) ≡ false → Other ≡ field z
     go (pos k) t l = rw l
     go (negsuc k) t l = absurd (let e : ◌≡◌ {A = ℕ} 0 1 = cc in omega arith)
 
 -- an event whose numbers were passed by their bits
-pub request-told : (e : Event) → SFits w64 e.partition → SFits w64 e.call → SFits w64 e.a → SFits w64 e.b → SFits w64 e.c → SFits w64 e.e
+pub request_told : (e : Event) → SFits w64 e.partition → SFits w64 e.call → SFits w64 e.a → SFits w64 e.b → SFits w64 e.c → SFits w64 e.e
     → record {
       partition = field (to_z w64 (of_z w64 e.partition));
       call = field (to_z w64 (of_z w64 e.call));
@@ -69,8 +69,8 @@ pub request-told : (e : Event) → SFits w64 e.partition → SFits w64 e.call �
       b = field (to_z w64 (of_z w64 e.b));
       c = field (to_z w64 (of_z w64 e.c));
       e = field (to_z w64 (of_z w64 e.e));
-    } ≡ requestOf e
-request-told e p q r s t u = λ i. record {
+    } ≡ request_of e
+request_told e p q r s t u = λ i. record {
   partition = field (to_z-of_z w64 e.partition p i);
   call = field (to_z-of_z w64 e.call q i);
   a = field (to_z-of_z w64 e.a r i);

@@ -1,6 +1,6 @@
 // The numbers of an event or a table line, as the rules look at them.
 ghost use Rattle.std.specs.Prelude.{◌≡◌};
-ghost use Rattle.machine.specs.Fields.{field, row_of, requestOf, is_number, between, isDuration, isMessage, isMinusOne, isTimeout, isName, number_of, timeOf};
+ghost use Rattle.machine.specs.Fields.{field, row_of, request_of, is_number, between, is_duration, is_message, is_minus_one, is_timeout, is_name, number_of, time_of};
 
 use machine::{Event, Field, Module, Numbers, Request, Row, Time};
 
@@ -33,7 +33,7 @@ pub fn row_of(n: Numbers) -> Row
 }
 
 pub fn request_of(event: Event) -> Request
-    ensures { result ≡ requestOf event }
+    ensures { result ≡ request_of event }
 {
     let row = row_of(Numbers {
         n1: event.partition,
@@ -80,7 +80,7 @@ pub fn is_between(f: Field, low: u32, high: u32) -> bool
 }
 
 pub fn is_minus_one(f: Field) -> bool
-    ensures { result ≡ isMinusOne f }
+    ensures { result ≡ is_minus_one f }
 {
     match f {
         Field::Number(_) => false,
@@ -90,20 +90,20 @@ pub fn is_minus_one(f: Field) -> bool
 }
 
 pub fn is_duration(f: Field) -> bool
-    ensures { result ≡ isDuration f }
+    ensures { result ≡ is_duration f }
 {
     is_between(f, 0, Module::DURATION)
 }
 
 // A message of a buffer or a blackboard.
 pub fn is_message(f: Field) -> bool
-    ensures { result ≡ isMessage f }
+    ensures { result ≡ is_message f }
 {
     is_duration(f)
 }
 
 pub fn is_timeout(f: Field) -> bool
-    ensures { result ≡ isTimeout f }
+    ensures { result ≡ is_timeout f }
 {
     if is_minus_one(f) {
         true
@@ -113,7 +113,7 @@ pub fn is_timeout(f: Field) -> bool
 }
 
 pub fn is_name(f: Field) -> bool
-    ensures { result ≡ isName f }
+    ensures { result ≡ is_name f }
 {
     is_between(f, 1, Module::NAME)
 }
@@ -129,7 +129,7 @@ pub fn number_of(f: Field) -> u32
 }
 
 pub fn time_of(f: Field) -> Time
-    ensures { result ≡ timeOf f }
+    ensures { result ≡ time_of f }
 {
     match f {
         Field::Number(n) => Time::At(n),

@@ -9,31 +9,31 @@ use lib.IntN.{ℤ}
 use Rattle.machine.specs.declared.Numbers.{Numbers}
 use Rattle.machine.specs.declared.Line.{Line}
 use Rattle.machine.specs.declared.Line.TheVariants.{Six, Bad}
-use Rattle.machine.specs.Line.{fieldCount, lineText, readNumbers, numberList, numbersOf, readLine, meaning, lineMeaning}
-use Rattle.machine.proofs.TextLine.{line_read, read-six}
+use Rattle.machine.specs.Line.{field_count, line_text, read_numbers, number_list, numbers_of, read_line, meaning, line_meaning}
+use Rattle.machine.proofs.TextLine.{line_read, read_six}
 
-meant : (bs : List ℕ) → meaning (readLine bs) ≡ lineMeaning bs
-unfolding readLine lineMeaning
-meant bs = go (readNumbers fieldCount bs) refl
+meant : (bs : List ℕ) → meaning (read_line bs) ≡ line_meaning bs
+unfolding read_line line_meaning
+meant bs = go (read_numbers field_count bs) refl
   where
-    go : (r : Option (List ℤ)) → readNumbers fieldCount bs ≡ r → meaning (readLine bs) ≡ lineMeaning bs
+    go : (r : Option (List ℤ)) → read_numbers field_count bs ≡ r → meaning (read_line bs) ≡ line_meaning bs
     go none e = rw e
     go (some zs) e =
-        let t = read-six bs (numbersOf zs) (rw e) in
-        let again : readNumbers fieldCount bs ≡ some (numberList (numbersOf zs)) = rw t.0 (line_read (numberList (numbersOf zs)) t.1) in
-        let same : some zs ≡ some (numberList (numbersOf zs)) = sym e ∙ again in
-        let own : zs ≡ numberList (numbersOf zs) = cc in
+        let t = read_six bs (numbers_of zs) (rw e) in
+        let again : read_numbers field_count bs ≡ some (number_list (numbers_of zs)) = rw t.0 (line_read (number_list (numbers_of zs)) t.1) in
+        let same : some zs ≡ some (number_list (numbers_of zs)) = sym e ∙ again in
+        let own : zs ≡ number_list (numbers_of zs) = cc in
         rw (e, ← own)
 
 -- no two lines have one meaning
-same-meaning : (a b : Line) → meaning a ≡ meaning b → a ≡ b
-same-meaning (Six m) (Six n) e = ap (λ (x : ℕ × List ℤ). Six (numbersOf x.1)) e
-same-meaning (Six m) Bad e = absurd (let q = ap (λ (x : ℕ × List ℤ). x.0) e in omega arith)
-same-meaning Bad (Six n) e = absurd (let q = ap (λ (x : ℕ × List ℤ). x.0) e in omega arith)
-same-meaning Bad Bad e = refl
+same_meaning : (a b : Line) → meaning a ≡ meaning b → a ≡ b
+same_meaning (Six m) (Six n) e = ap (λ (x : ℕ × List ℤ). Six (numbers_of x.1)) e
+same_meaning (Six m) Bad e = absurd (let q = ap (λ (x : ℕ × List ℤ). x.0) e in omega arith)
+same_meaning Bad (Six n) e = absurd (let q = ap (λ (x : ℕ × List ℤ). x.0) e in omega arith)
+same_meaning Bad Bad e = refl
 
-pub means : (l : Line) (bs : List ℕ) → l ≡ readLine bs → meaning l ≡ lineMeaning bs
+pub means : (l : Line) (bs : List ℕ) → l ≡ read_line bs → meaning l ≡ line_meaning bs
 means l bs e = ap meaning e ∙ meant bs
 
-pub reads : (l : Line) (bs : List ℕ) → meaning l ≡ lineMeaning bs → l ≡ readLine bs
-reads l bs e = same-meaning l (readLine bs) (e ∙ sym (meant bs))
+pub reads : (l : Line) (bs : List ℕ) → meaning l ≡ line_meaning bs → l ≡ read_line bs
+reads l bs e = same_meaning l (read_line bs) (e ∙ sym (meant bs))

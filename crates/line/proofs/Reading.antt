@@ -15,42 +15,42 @@ use lib.IntN.{ℤ, pos}
 use mir.Syntax.{w64}
 use mir.Val.{to_z, of_z}
 use Rattle.machine.specs.declared.Line.TheVariants.{Six, Bad}
-use Rattle.machine.specs.Limits.{lineLength}
-use Rattle.machine.specs.Line.{lineFeed, fieldWidth, sameBytes, readField, joined, fieldCount, readNumbers, readLine, firstLength, lineEnd}
-use Rattle.machine.proofs.TextField.{read-field}
-use Rattle.machine.proofs.TextLine.{reads_more, reads_none, read-line}
-use Rattle.line.proofs.Signed.{range_back, ranges-back}
+use Rattle.machine.specs.Limits.{line_length}
+use Rattle.machine.specs.Line.{line_feed, field_width, same_bytes, read_field, joined, field_count, read_numbers, read_line, first_length, line_end}
+use Rattle.machine.proofs.TextField.{read_field_holds}
+use Rattle.machine.proofs.TextLine.{reads_more, reads_none, read_line_holds}
+use Rattle.line.proofs.Signed.{range_back, ranges_back}
 use Rattle.line.specs.declared.Found.{Found}
 use Rattle.line.specs.declared.Found.TheVariants.{Number, Nothing}
-use Rattle.line.specs.Found.{foundOf}
+use Rattle.line.specs.Found.{found_of}
 use Rattle.machine.proofs.Either.{either}
 
 -- ---------------------------------------------------------------- where a line ends
-module _ (l : List ℕ) (i r : ℕ) (e : lineEnd l i ≡ r) where
-  pub end_more : i < length l → (get_or l i 0 ≡ lineFeed → ⊥) → lineEnd l (i + 1) ≡ r
-  unfolding firstLength
+module _ (l : List ℕ) (i r : ℕ) (e : line_end l i ≡ r) where
+  pub end_more : i < length l → (get_or l i 0 ≡ line_feed → ⊥) → line_end l (i + 1) ≡ r
+  unfolding first_length
   end_more h n =
-      let q : i + suc (firstLength (drop (suc i) l)) ≡ r =
-      rw (le-leb i (length l) (omega arith), drop-cons l i 0 h, ne_eqb (get_or l i 0) lineFeed n) at e
+      let q : i + suc (first_length (drop (suc i) l)) ≡ r =
+      rw (le-leb i (length l) (omega arith), drop-cons l i 0 h, ne_eqb (get_or l i 0) line_feed n) at e
       in
       rw (le-leb (i + 1) (length l) (omega arith), add-one) (omega arith)
 
-  pub end-found : i < length l → get_or l i 0 ≡ lineFeed → i + 1 ≡ r
-  unfolding firstLength
-  end-found h n = rw (le-leb i (length l) (omega arith), drop-cons l i 0 h, eq-eqb (get_or l i 0) lineFeed n) at e
+  pub end_found : i < length l → get_or l i 0 ≡ line_feed → i + 1 ≡ r
+  unfolding first_length
+  end_found h n = rw (le-leb i (length l) (omega arith), drop-cons l i 0 h, eq-eqb (get_or l i 0) line_feed n) at e
 
-  pub end-past : length l ≤ i → length l ≡ r
-  unfolding firstLength
-  end-past h =
+  pub end_past : length l ≤ i → length l ≡ r
+  unfolding first_length
+  end_past h =
       either (leb i (length l))
       (λ t. let q : i + 0 ≡ r = rw (t, drop_of_length-le l {i = i} h) at e in omega (arith, leb-true i (length l) t))
       (λ t. rw t at e)
 
-found_number : (r : Option ℤ) (x : ℤ) → foundOf r ≡ Number x → r ≡ some x
+found_number : (r : Option ℤ) (x : ℤ) → found_of r ≡ Number x → r ≡ some x
 found_number none x e = absurd (let q : ◌≡◌ {A = ℕ} 0 1 = cc in omega arith)
 found_number (some z) x e = cc
 
-found_nothing : (r : Option ℤ) → foundOf r ≡ Nothing → r ≡ none
+found_nothing : (r : Option ℤ) → found_of r ≡ Nothing → r ≡ none
 found_nothing none e = refl
 found_nothing (some z) e = absurd (let q : ◌≡◌ {A = ℕ} 0 1 = cc in omega arith)
 
@@ -60,55 +60,55 @@ abbrev pub ahead : List ℤ → Option (List ℤ) → Option (List ℤ)
 ahead zs none = none
 ahead zs (some ns) = some (zs ++ ns)
 
-pub ahead-nil : (r : Option (List ℤ)) → ahead [] r ≡ r
-ahead-nil none = refl
-ahead-nil (some ns) = refl
+pub ahead_nil : (r : Option (List ℤ)) → ahead [] r ≡ r
+ahead_nil none = refl
+ahead_nil (some ns) = refl
 
-ahead-joined : (zs : List ℤ) (x : ℤ) (r : Option (List ℤ)) → ahead zs (joined (some x) r) ≡ ahead (zs ++ (x ∷ [])) r
-ahead-joined zs x none = refl
-ahead-joined zs x (some ns) = ap some (sym (append_assoc zs (x ∷ []) ns))
+ahead_joined : (zs : List ℤ) (x : ℤ) (r : Option (List ℤ)) → ahead zs (joined (some x) r) ≡ ahead (zs ++ (x ∷ [])) r
+ahead_joined zs x none = refl
+ahead_joined zs x (some ns) = ap some (sym (append_assoc zs (x ∷ []) ns))
 
-bad-line : (s : List ℕ) → readNumbers fieldCount s ≡ none → Bad ≡ readLine s
-unfolding readLine
-bad-line s e = rw e
+bad_line : (s : List ℕ) → read_numbers field_count s ≡ none → Bad ≡ read_line s
+unfolding read_line
+bad_line s e = rw e
 
 -- what is left to read after i numbers gives the whole
-module _ (s : List ℕ) (ns : List ℤ) (i : ℕ) (l : length ns ≡ fieldCount) (q : ahead (take i ns) (readNumbers (fieldCount - i) (drop (i * fieldWidth) s)) ≡ readNumbers fieldCount s) where
-  module _ (h : i < fieldCount) (f : Found) (e : f ≡ foundOf (readField (take fieldWidth (drop (i * fieldWidth) s)))) where
-    opened : (r : Option ℤ) → readField (take fieldWidth (drop (i * fieldWidth) s)) ≡ r
-        → ahead (take i ns) (joined r (readNumbers (fieldCount - (i + 1)) (drop ((i + 1) * fieldWidth) s))) ≡ readNumbers fieldCount s
+module _ (s : List ℕ) (ns : List ℤ) (i : ℕ) (l : length ns ≡ field_count) (q : ahead (take i ns) (read_numbers (field_count - i) (drop (i * field_width) s)) ≡ read_numbers field_count s) where
+  module _ (h : i < field_count) (f : Found) (e : f ≡ found_of (read_field (take field_width (drop (i * field_width) s)))) where
+    opened : (r : Option ℤ) → read_field (take field_width (drop (i * field_width) s)) ≡ r
+        → ahead (take i ns) (joined r (read_numbers (field_count - (i + 1)) (drop ((i + 1) * field_width) s))) ≡ read_numbers field_count s
     opened r g =
-        let n : fieldCount - i - 1 ≡ fieldCount - (i + 1) = omega arith in
-        let m : i * fieldWidth + fieldWidth ≡ (i + 1) * fieldWidth = omega arith in
-        rw (reads_more (fieldCount - i) (drop (i * fieldWidth) s) (omega arith), n, drop-drop fieldWidth (i * fieldWidth) s, m, g) at q
+        let n : field_count - i - 1 ≡ field_count - (i + 1) = omega arith in
+        let m : i * field_width + field_width ≡ (i + 1) * field_width = omega arith in
+        rw (reads_more (field_count - i) (drop (i * field_width) s) (omega arith), n, drop-drop field_width (i * field_width) s, m, g) at q
 
     pub number_more : (x : ℤ) → f ≡ Number x
-        → ahead (take (i + 1) (set ns i (to_z w64 (of_z w64 x)))) (readNumbers (fieldCount - (i + 1)) (drop ((i + 1) * fieldWidth) s)) ≡ readNumbers fieldCount s
+        → ahead (take (i + 1) (set ns i (to_z w64 (of_z w64 x)))) (read_numbers (field_count - (i + 1)) (drop ((i + 1) * field_width) s)) ≡ read_numbers field_count s
     number_more x g =
-        let r : readField (take fieldWidth (drop (i * fieldWidth) s)) ≡ some x = found_number _ x (sym e ∙ g) in
+        let r : read_field (take field_width (drop (i * field_width) s)) ≡ some x = found_number _ x (sym e ∙ g) in
         let t : take (i + 1) (set ns i (to_z w64 (of_z w64 x))) ≡ take i ns ++ (x ∷ []) =
-        rw (range_back x (read-field (take fieldWidth (drop (i * fieldWidth) s)) x r).1, add-one, take-suc-set ns i x (omega arith))
+        rw (range_back x (read_field_holds (take field_width (drop (i * field_width) s)) x r).1, add-one, take-suc-set ns i x (omega arith))
         in
-        rw t (sym (ahead-joined (take i ns) x (readNumbers (fieldCount - (i + 1)) (drop ((i + 1) * fieldWidth) s))) ∙ opened (some x) r)
+        rw t (sym (ahead_joined (take i ns) x (read_numbers (field_count - (i + 1)) (drop ((i + 1) * field_width) s))) ∙ opened (some x) r)
 
-    pub number-none : f ≡ Nothing → Bad ≡ readLine s
-    number-none g = bad-line s (sym (opened none (found_nothing _ (sym e ∙ g))))
+    pub number_none : f ≡ Nothing → Bad ≡ read_line s
+    number_none g = bad_line s (sym (opened none (found_nothing _ (sym e ∙ g))))
 
-  module _ (h : fieldCount ≤ i) (k : i ≤ fieldCount) (w : length s ≡ lineLength) where
-    closed : (b : Bool) → eqb (get_or s (lineLength - 1) 0) lineFeed ≡ b → ahead ns (cond b (some []) none) ≡ readNumbers fieldCount s
-    unfolding sameBytes
+  module _ (h : field_count ≤ i) (k : i ≤ field_count) (w : length s ≡ line_length) where
+    closed : (b : Bool) → eqb (get_or s (line_length - 1) 0) line_feed ≡ b → ahead ns (cond b (some []) none) ≡ read_numbers field_count s
+    unfolding same_bytes
     closed b g =
-        let n : i ≡ fieldCount = omega arith in
+        let n : i ≡ field_count = omega arith in
         let t : take i ns ≡ ns = take_all i ns (omega arith) in
-        let d : drop (i * fieldWidth) s ≡ get_or s (lineLength - 1) 0 ∷ [] =
-        rw n (drop-cons s (lineLength - 1) 0 (omega arith) ∙ rw (drop_of_length-le s {i = lineLength} (omega arith)))
+        let d : drop (i * field_width) s ≡ get_or s (line_length - 1) 0 ∷ [] =
+        rw n (drop-cons s (line_length - 1) 0 (omega arith) ∙ rw (drop_of_length-le s {i = line_length} (omega arith)))
         in
-        rw (reads_none (fieldCount - i) (drop (i * fieldWidth) s) (omega arith), t, d, g, and-true) at q
+        rw (reads_none (field_count - i) (drop (i * field_width) s) (omega arith), t, d, g, and-true) at q
 
-    pub feed-none : (get_or s (lineLength - 1) 0 ≡ lineFeed → ⊥) → Bad ≡ readLine s
-    feed-none g = bad-line s (sym (closed false (ne_eqb (get_or s (lineLength - 1) 0) lineFeed g)))
+    pub feed_none : (get_or s (line_length - 1) 0 ≡ line_feed → ⊥) → Bad ≡ read_line s
+    feed_none g = bad_line s (sym (closed false (ne_eqb (get_or s (line_length - 1) 0) line_feed g)))
 
-    pub feed-found : get_or s (lineLength - 1) 0 ≡ lineFeed
+    pub feed_found : get_or s (line_length - 1) 0 ≡ line_feed
         → Six (record {
           n1 = to_z w64 (of_z w64 (get_or ns 0 (pos 0)));
           n2 = to_z w64 (of_z w64 (get_or ns 1 (pos 0)));
@@ -116,10 +116,10 @@ module _ (s : List ℕ) (ns : List ℤ) (i : ℕ) (l : length ns ≡ fieldCount)
           n4 = to_z w64 (of_z w64 (get_or ns 3 (pos 0)));
           n5 = to_z w64 (of_z w64 (get_or ns 4 (pos 0)));
           n6 = to_z w64 (of_z w64 (get_or ns 5 (pos 0)));
-        }) ≡ readLine s
-    unfolding readLine
-    feed-found g =
-        let r : readNumbers fieldCount s ≡ some ns =
-        sym (closed true (eq-eqb (get_or s (lineLength - 1) 0) lineFeed g)) ∙ rw append-nil
+        }) ≡ read_line s
+    unfolding read_line
+    feed_found g =
+        let r : read_numbers field_count s ≡ some ns =
+        sym (closed true (eq-eqb (get_or s (line_length - 1) 0) line_feed g)) ∙ rw append-nil
         in
-        rw r (simp (ranges-back ns (read-line fieldCount s ns r).range))
+        rw r (simp (ranges_back ns (read_line_holds field_count s ns r).range))

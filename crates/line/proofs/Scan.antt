@@ -16,358 +16,358 @@ use mir.ValLaws.{to_z_pos}
 use lib.Dec.{eqb, leb, lit<}
 use lib.IntN.{ℤ, pos, negsuc}
 use borrow.Author.Tests.{eq-eqb, ne_eqb, le-leb, lt-leb, leb-true, leb-false, eqb-true, eqb-false}
-use Rattle.machine.specs.Limits.{numberLimit}
-use Rattle.machine.specs.Line.{space, minus, zeroDigit, base, fieldWidth, in_range, column, markAfter, columns, lastDigit, numberText, fieldText, sameBytes, spelled, readField}
-use Rattle.machine.proofs.TextField.{columns-more, columns-none, same_true, field-read, read-field}
+use Rattle.machine.specs.Limits.{number_limit}
+use Rattle.machine.specs.Line.{space, minus, zero_digit, base, field_width, in_range, column, mark_after, columns, last_digit, number_text, field_text, same_bytes, spelled, read_field}
+use Rattle.machine.proofs.TextField.{columns_more, columns_none, same_true, field_read, read_field_holds}
 use Rattle.machine.proofs.Either.{either}
 use Rattle.line.specs.declared.Found.{Found}
 use Rattle.line.specs.declared.Found.TheVariants.{Number, Nothing}
-use Rattle.line.specs.Found.{foundOf}
-use Rattle.line.specs.Scan.{digitsFrom, only, numberFrom, firstFrom, scanned}
+use Rattle.line.specs.Found.{found_of}
+use Rattle.line.specs.Scan.{digits_from, only, number_from, first_from, scanned}
 
 -- ---------------------------------------------------------------- columns from the left
-mark-space : (rest : ℕ) → markAfter rest space ≡ space
-unfolding markAfter
-mark-space rest = either (eqb rest 0) (λ e. rw e) (λ e. rw e)
+mark_space : (rest : ℕ) → mark_after rest space ≡ space
+unfolding mark_after
+mark_space rest = either (eqb rest 0) (λ e. rw e) (λ e. rw e)
 
 -- one more digit divided off
-div-more : (n k : ℕ) → n / base ^ suc k ≡ n / base ^ k / base
-div-more n k = rw pow-suc (sym (div-div-eq-div-mul n (base ^ k) base))
+div_more : (n k : ℕ) → n / base ^ suc k ≡ n / base ^ k / base
+div_more n k = rw pow-suc (sym (div-div-eq-div-mul n (base ^ k) base))
 
-columns-left : (k n : ℕ) → columns (suc k) n space ≡ column (n / base ^ k) space ∷ columns k n space
+columns_left : (k n : ℕ) → columns (suc k) n space ≡ column (n / base ^ k) space ∷ columns k n space
 unfolding columns
-columns-left zero n = rw (div-one n)
-columns-left (suc k) n =
+columns_left zero n = rw (div-one n)
+columns_left (suc k) n =
     let e : n / base / base ^ k ≡ n / base ^ suc k = div-div-eq-div-mul n base (base ^ k) ∙ ap (λ (x : ℕ). n / x) (sym (pow-succ' base k)) in
-    rw (mark-space, columns-left k (n / base), e)
+    rw (mark_space, columns_left k (n / base), e)
 
-some-column : (q : ℕ) → 0 < q → column q space ≡ lastDigit q
+some_column : (q : ℕ) → 0 < q → column q space ≡ last_digit q
 unfolding column
-some-column q h = rw (ne_eqb q 0 (λ e. omega arith))
+some_column q h = rw (ne_eqb q 0 (λ e. omega arith))
 
-no-column : column 0 space ≡ space
+no_column : column 0 space ≡ space
 unfolding column
-no-column = refl
+no_column = refl
 
 -- the columns of a number that is not 0
-columns-text : (n : ℕ) → 0 < n → numberText n space ≡ columns fieldWidth n space
-unfolding numberText
-columns-text n h = rw (columns-more fieldWidth n space (omega arith), mark-space n, some-column n h)
+columns_text : (n : ℕ) → 0 < n → number_text n space ≡ columns field_width n space
+unfolding number_text
+columns_text n h = rw (columns_more field_width n space (omega arith), mark_space n, some_column n h)
 
 -- ---------------------------------------------------------------- a number's text, read
-digit-more : (q v : ℕ) (bs : List ℕ) → 0 < q → q / base ≡ v → digitsFrom (lastDigit q ∷ bs) v ≡ digitsFrom bs q
-unfolding digitsFrom
-digit-more q v bs h e =
-    let w : v * base + (lastDigit q - zeroDigit) ≡ q = omega arith in
-    rw (le-leb zeroDigit (lastDigit q) (omega arith), le-leb (lastDigit q) (lastDigit 9) (omega arith), w)
+digit_more : (q v : ℕ) (bs : List ℕ) → 0 < q → q / base ≡ v → digits_from (last_digit q ∷ bs) v ≡ digits_from bs q
+unfolding digits_from
+digit_more q v bs h e =
+    let w : v * base + (last_digit q - zero_digit) ≡ q = omega arith in
+    rw (le-leb zero_digit (last_digit q) (omega arith), le-leb (last_digit q) (last_digit 9) (omega arith), w)
 
-digits-columns : (k n : ℕ) → 0 < n / base ^ k → digitsFrom (columns k n space) (n / base ^ k) ≡ Number (pos n)
-unfolding digitsFrom
-digits-columns zero n h = rw (columns-none 0 n space (omega arith), div-one n)
-digits-columns (suc k) n h =
-    let e : n / base ^ suc k ≡ n / base ^ k / base = div-more n k in
+digits_columns : (k n : ℕ) → 0 < n / base ^ k → digits_from (columns k n space) (n / base ^ k) ≡ Number (pos n)
+unfolding digits_from
+digits_columns zero n h = rw (columns_none 0 n space (omega arith), div-one n)
+digits_columns (suc k) n h =
+    let e : n / base ^ suc k ≡ n / base ^ k / base = div_more n k in
     let p : 0 < n / base ^ k = omega arith in
-    rw (columns-left k n, some-column (n / base ^ k) p)
-    (digit-more (n / base ^ k) (n / base ^ suc k) (columns k n space) p (sym e) ∙ digits-columns k n p)
+    rw (columns_left k n, some_column (n / base ^ k) p)
+    (digit_more (n / base ^ k) (n / base ^ suc k) (columns k n space) p (sym e) ∙ digits_columns k n p)
 
-first-space : (bs : List ℕ) → firstFrom (column 0 space ∷ bs) ≡ firstFrom bs
-unfolding firstFrom column
-first-space bs = refl
+first_space : (bs : List ℕ) → first_from (column 0 space ∷ bs) ≡ first_from bs
+unfolding first_from column
+first_space bs = refl
 
-first-digit : (q : ℕ) (bs : List ℕ) → 0 < q → q < base → firstFrom (lastDigit q ∷ bs) ≡ digitsFrom bs q
-unfolding firstFrom numberFrom
-first-digit q bs h l =
-    rw (ne_eqb (lastDigit q) space (λ e. omega arith), ne_eqb (lastDigit q) minus (λ e. omega arith), ne_eqb (lastDigit q) zeroDigit (λ e. omega arith))
-    (digit-more q 0 bs h (omega arith))
+first_digit : (q : ℕ) (bs : List ℕ) → 0 < q → q < base → first_from (last_digit q ∷ bs) ≡ digits_from bs q
+unfolding first_from number_from
+first_digit q bs h l =
+    rw (ne_eqb (last_digit q) space (λ e. omega arith), ne_eqb (last_digit q) minus (λ e. omega arith), ne_eqb (last_digit q) zero_digit (λ e. omega arith))
+    (digit_more q 0 bs h (omega arith))
 
-pow-some : (k : ℕ) → 0 < base ^ k
-pow-some k = omega (arith, one-le-pow k base (lit< tt))
+pow_some : (k : ℕ) → 0 < base ^ k
+pow_some k = omega (arith, one-le-pow k base (lit< tt))
 
-first-columns : (k n : ℕ) → 0 < n → n < base ^ k → firstFrom (columns k n space) ≡ Number (pos n)
-first-columns zero n h l = absurd (omega arith)
-first-columns (suc k) n h l =
+first_columns : (k n : ℕ) → 0 < n → n < base ^ k → first_from (columns k n space) ≡ Number (pos n)
+first_columns zero n h l = absurd (omega arith)
+first_columns (suc k) n h l =
     let p : base ^ suc k ≡ base * base ^ k = pow-succ' base k in
-    rw (columns-left k n)
+    rw (columns_left k n)
     (either (eqb (n / base ^ k) 0)
     (λ e.
     let z : n / base ^ k ≡ 0 = eqb-true (n / base ^ k) 0 e in
-    let m : n < 1 * base ^ k = (div-lt_iff_lt-mul {k = base ^ k} {x = n} {y = 1} (pow-some k)).0 (omega arith) in
-    rw z (first-space (columns k n space) ∙ first-columns k n h (omega arith)))
+    let m : n < 1 * base ^ k = (div-lt_iff_lt-mul {k = base ^ k} {x = n} {y = 1} (pow_some k)).0 (omega arith) in
+    rw z (first_space (columns k n space) ∙ first_columns k n h (omega arith)))
     (λ e.
     let s : 0 < n / base ^ k = let f = eqb-false (n / base ^ k) 0 e in either (leb (n / base ^ k) 0) (λ t. absurd (f (omega (arith, leb-true (n / base ^ k) 0 t)))) (λ t. omega (arith, leb-false (n / base ^ k) 0 t)) in
-    let m : n / base ^ k < base = (div-lt_iff_lt-mul {k = base ^ k} {x = n} {y = base} (pow-some k)).1 (omega arith) in
-    rw (some-column (n / base ^ k) s) (first-digit (n / base ^ k) (columns k n space) s m ∙ digits-columns k n s)))
+    let m : n / base ^ k < base = (div-lt_iff_lt-mul {k = base ^ k} {x = n} {y = base} (pow_some k)).1 (omega arith) in
+    rw (some_column (n / base ^ k) s) (first_digit (n / base ^ k) (columns k n space) s m ∙ digits_columns k n s)))
 
-scanned-number : (n : ℕ) → 0 < n → n ≤ numberLimit → scanned (numberText n space) ≡ Number (pos n)
+scanned_number : (n : ℕ) → 0 < n → n ≤ number_limit → scanned (number_text n space) ≡ Number (pos n)
 unfolding scanned column
-scanned-number n h l =
-    rw (columns-text n h, columns-left (fieldWidth - 1) n, div-eq_of_lt {n = n} {m = base ^ (fieldWidth - 1)} (omega arith))
-    (first-columns (fieldWidth - 1) n h (omega arith))
+scanned_number n h l =
+    rw (columns_text n h, columns_left (field_width - 1) n, div-eq_of_lt {n = n} {m = base ^ (field_width - 1)} (omega arith))
+    (first_columns (field_width - 1) n h (omega arith))
 
-scanned-text : (z : ℤ) → in_range z ≡ true → scanned (fieldText z) ≡ Number z
-unfolding in_range fieldText scanned firstFrom numberFrom only digitsFrom numberText columns column markAfter sameBytes
-scanned-text (pos zero) r = refl
-scanned-text (pos (suc n)) r = scanned-number (suc n) (omega arith) (leb-true (suc n) numberLimit r)
-scanned-text (negsuc n) r = rw (eqb-true n 0 r)
+scanned_text : (z : ℤ) → in_range z ≡ true → scanned (field_text z) ≡ Number z
+unfolding in_range field_text scanned first_from number_from only digits_from number_text columns column mark_after same_bytes
+scanned_text (pos zero) r = refl
+scanned_text (pos (suc n)) r = scanned_number (suc n) (omega arith) (leb-true (suc n) number_limit r)
+scanned_text (negsuc n) r = rw (eqb-true n 0 r)
 
 -- ---------------------------------------------------------------- what was read is the text of its number
 no_number : {P : Type 0} (z : ℤ) → Nothing ≡ Number z → P
 no_number z e = absurd (let q : ◌≡◌ {A = ℕ} 0 1 = cc in omega arith)
 
-digits_step : (b : ℕ) (bs : List ℕ) (v : ℕ) (z : ℤ) → digitsFrom (b ∷ bs) v ≡ Number z
-    → (zeroDigit ≤ b) × (b ≤ lastDigit 9) × (digitsFrom bs (v * base + (b - zeroDigit)) ≡ Number z)
-unfolding digitsFrom
+digits_step : (b : ℕ) (bs : List ℕ) (v : ℕ) (z : ℤ) → digits_from (b ∷ bs) v ≡ Number z
+    → (zero_digit ≤ b) × (b ≤ last_digit 9) × (digits_from bs (v * base + (b - zero_digit)) ≡ Number z)
+unfolding digits_from
 digits_step b bs v z e =
-    either (leb zeroDigit b && leb b (lastDigit 9))
+    either (leb zero_digit b && leb b (last_digit 9))
     (λ t.
-    let d = (and-eq-true_iff (leb zeroDigit b) (leb b (lastDigit 9))).0 t in
-    (leb-true zeroDigit b d.0, leb-true b (lastDigit 9) d.1, rw t at e))
+    let d = (and-eq-true_iff (leb zero_digit b) (leb b (last_digit 9))).0 t in
+    (leb-true zero_digit b d.0, leb-true b (last_digit 9) d.1, rw t at e))
     (λ t. no_number z (rw t at e))
 
-column-step : (b : ℕ) (bs : List ℕ) (v n : ℕ) → zeroDigit ≤ b → b ≤ lastDigit 9 → 0 < v * base + (b - zeroDigit)
-    → n / base ^ length bs ≡ v * base + (b - zeroDigit) → bs ≡ columns (length bs) n space
+column_step : (b : ℕ) (bs : List ℕ) (v n : ℕ) → zero_digit ≤ b → b ≤ last_digit 9 → 0 < v * base + (b - zero_digit)
+    → n / base ^ length bs ≡ v * base + (b - zero_digit) → bs ≡ columns (length bs) n space
     → b ∷ bs ≡ columns (suc (length bs)) n space
-column-step b bs v n lo hi h q e =
-    let c : column (n / base ^ length bs) space ≡ b = rw (q, some-column (v * base + (b - zeroDigit)) h) (omega arith) in
-    sym (columns-left (length bs) n ∙ rw c (ap (◌∷◌ b) (sym e)))
+column_step b bs v n lo hi h q e =
+    let c : column (n / base ^ length bs) space ≡ b = rw (q, some_column (v * base + (b - zero_digit)) h) (omega arith) in
+    sym (columns_left (length bs) n ∙ rw c (ap (◌∷◌ b) (sym e)))
 
-digits-back : (bs : List ℕ) (v : ℕ) (z : ℤ) → 0 < v → digitsFrom bs v ≡ Number z
+digits_back : (bs : List ℕ) (v : ℕ) (z : ℤ) → 0 < v → digits_from bs v ≡ Number z
     → (z ≡ pos (spelled bs v)) × (spelled bs v / base ^ length bs ≡ v) × (bs ≡ columns (length bs) (spelled bs v) space)
-unfolding digitsFrom spelled
-digits-back [] v z h e = (cc, div-one v, sym (columns-none 0 v space (omega arith)))
-digits-back (b ∷ bs) v z h e =
+unfolding digits_from spelled
+digits_back [] v z h e = (cc, div-one v, sym (columns_none 0 v space (omega arith)))
+digits_back (b ∷ bs) v z h e =
     let s = digits_step b bs v z e in
-    let p : 0 < v * base + (b - zeroDigit) = omega arith in
-    let lo : zeroDigit ≤ b = s.0 in
-    let hi : b ≤ lastDigit 9 = s.1 in
-    let r = digits-back bs (v * base + (b - zeroDigit)) z p s.2 in
-    let n : ℕ = spelled bs (v * base + (b - zeroDigit)) in
-    (r.0, div-more n (length bs) ∙ rw r.1 (omega arith), column-step b bs v n lo hi p r.1 r.2)
+    let p : 0 < v * base + (b - zero_digit) = omega arith in
+    let lo : zero_digit ≤ b = s.0 in
+    let hi : b ≤ last_digit 9 = s.1 in
+    let r = digits_back bs (v * base + (b - zero_digit)) z p s.2 in
+    let n : ℕ = spelled bs (v * base + (b - zero_digit)) in
+    (r.0, div_more n (length bs) ∙ rw r.1 (omega arith), column_step b bs v n lo hi p r.1 r.2)
 
-spaces-columns : (m k n : ℕ) → n < base ^ k → replicate m space ++ columns k n space ≡ columns (m + k) n space
-spaces-columns zero k n h = let e : 0 + k ≡ k = omega arith in rw e
-spaces-columns (suc m) k n h =
+spaces_columns : (m k n : ℕ) → n < base ^ k → replicate m space ++ columns k n space ≡ columns (m + k) n space
+spaces_columns zero k n h = let e : 0 + k ≡ k = omega arith in rw e
+spaces_columns (suc m) k n h =
     let e : suc m + k ≡ suc (m + k) = omega arith in
     let p : base ^ k ≤ base ^ (m + k) = pow-le-pow_right (lit< tt) {i = k} {j = m + k} (omega arith) in
-    rw (e, columns-left (m + k) n, div-eq_of_lt {n = n} {m = base ^ (m + k)} (omega arith), no-column)
-    (ap (◌∷◌ space) (spaces-columns m k n h))
+    rw (e, columns_left (m + k) n, div-eq_of_lt {n = n} {m = base ^ (m + k)} (omega arith), no_column)
+    (ap (◌∷◌ space) (spaces_columns m k n h))
 
-space-in : (m : ℕ) (bs : List ℕ) → replicate m space ++ (space ∷ bs) ≡ replicate (suc m) space ++ bs
-space-in zero bs = refl
-space-in (suc m) bs = ap (◌∷◌ space) (space-in m bs)
+space_in : (m : ℕ) (bs : List ℕ) → replicate m space ++ (space ∷ bs) ≡ replicate (suc m) space ++ bs
+space_in zero bs = refl
+space_in (suc m) bs = ap (◌∷◌ space) (space_in m bs)
 
-only-back : (l : List ℕ) (y : ℤ) (bs : List ℕ) (z : ℤ) → only l y bs ≡ Number z → (bs ≡ l) × (z ≡ y)
+only_back : (l : List ℕ) (y : ℤ) (bs : List ℕ) (z : ℤ) → only l y bs ≡ Number z → (bs ≡ l) × (z ≡ y)
 unfolding only
-only-back l y bs z e =
-    either (sameBytes bs l)
+only_back l y bs z e =
+    either (same_bytes bs l)
     (λ t. let s : Number y ≡ Number z = rw t at e in (same_true bs l t, cc))
     (λ t. no_number z (rw t at e))
 
-module _ (m b : ℕ) (bs : List ℕ) (z : ℤ) (h : 0 < m) (k : m + suc (length bs) ≡ fieldWidth) where
-  minus-text : m ≡ 8 → b ≡ minus → bs ≡ lastDigit 1 ∷ [] → z ≡ negsuc 0 → (replicate m space ++ (b ∷ bs) ≡ fieldText z) × (in_range z ≡ true)
-  unfolding in_range fieldText numberText columns column markAfter
-  minus-text w x y q = rw (w, x, y, q) (refl, refl)
+module _ (m b : ℕ) (bs : List ℕ) (z : ℤ) (h : 0 < m) (k : m + suc (length bs) ≡ field_width) where
+  minus_text : m ≡ 8 → b ≡ minus → bs ≡ last_digit 1 ∷ [] → z ≡ negsuc 0 → (replicate m space ++ (b ∷ bs) ≡ field_text z) × (in_range z ≡ true)
+  unfolding in_range field_text number_text columns column mark_after
+  minus_text w x y q = rw (w, x, y, q) (refl, refl)
 
-  zero-text : m ≡ 9 → b ≡ zeroDigit → bs ≡ [] → z ≡ pos 0 → (replicate m space ++ (b ∷ bs) ≡ fieldText z) × (in_range z ≡ true)
-  unfolding in_range fieldText numberText columns column markAfter
-  zero-text w x y q = rw (w, x, y, q) (refl, refl)
+  zero_text : m ≡ 9 → b ≡ zero_digit → bs ≡ [] → z ≡ pos 0 → (replicate m space ++ (b ∷ bs) ≡ field_text z) × (in_range z ≡ true)
+  unfolding in_range field_text number_text columns column mark_after
+  zero_text w x y q = rw (w, x, y, q) (refl, refl)
 
-  digits-text : (b ≡ zeroDigit → ⊥) → digitsFrom (b ∷ bs) 0 ≡ Number z → (replicate m space ++ (b ∷ bs) ≡ fieldText z) × (in_range z ≡ true)
-  unfolding in_range fieldText
-  digits-text f e =
+  digits_text : (b ≡ zero_digit → ⊥) → digits_from (b ∷ bs) 0 ≡ Number z → (replicate m space ++ (b ∷ bs) ≡ field_text z) × (in_range z ≡ true)
+  unfolding in_range field_text
+  digits_text f e =
       let s = digits_step b bs 0 z e in
-      let lo : zeroDigit ≤ b = s.0 in
-      let hi : b ≤ lastDigit 9 = s.1 in
-      let p : 0 < 0 * base + (b - zeroDigit) = omega (arith, f) in
-      let r = digits-back bs (0 * base + (b - zeroDigit)) z p s.2 in
-      let n : ℕ = spelled bs (0 * base + (b - zeroDigit)) in
-      let q : n / base ^ length bs ≡ 0 * base + (b - zeroDigit) = r.1 in
-      let c : b ∷ bs ≡ columns (suc (length bs)) n space = column-step b bs 0 n lo hi p q r.2 in
+      let lo : zero_digit ≤ b = s.0 in
+      let hi : b ≤ last_digit 9 = s.1 in
+      let p : 0 < 0 * base + (b - zero_digit) = omega (arith, f) in
+      let r = digits_back bs (0 * base + (b - zero_digit)) z p s.2 in
+      let n : ℕ = spelled bs (0 * base + (b - zero_digit)) in
+      let q : n / base ^ length bs ≡ 0 * base + (b - zero_digit) = r.1 in
+      let c : b ∷ bs ≡ columns (suc (length bs)) n space = column_step b bs 0 n lo hi p q r.2 in
       let i : 0 < n = pos_of_div-pos {n = n} (base ^ length bs) (omega arith) in
-      let j : n < base * base ^ length bs = (div-lt_iff_lt-mul {k = base ^ length bs} {x = n} {y = base} (pow-some (length bs))).0 (omega arith) in
+      let j : n < base * base ^ length bs = (div-lt_iff_lt-mul {k = base ^ length bs} {x = n} {y = base} (pow_some (length bs))).0 (omega arith) in
       let w : base ^ suc (length bs) ≡ base * base ^ length bs = pow-succ' base (length bs) in
-      let g : base ^ suc (length bs) ≤ base ^ (fieldWidth - 1) = pow-le-pow_right (lit< tt) {i = suc (length bs)} {j = fieldWidth - 1} (omega arith) in
+      let g : base ^ suc (length bs) ≤ base ^ (field_width - 1) = pow-le-pow_right (lit< tt) {i = suc (length bs)} {j = field_width - 1} (omega arith) in
       rw r.0 (
         ap (λ (x : List ℕ). replicate m space ++ x) c
-            ∙ spaces-columns m (suc (length bs)) n (omega arith)
+            ∙ spaces_columns m (suc (length bs)) n (omega arith)
             ∙ ap (λ (x : ℕ). columns x n space) k
-            ∙ sym (columns-text n i),
-        le-leb n numberLimit (omega arith),
+            ∙ sym (columns_text n i),
+        le-leb n number_limit (omega arith),
       )
 
-  number-back : numberFrom (b ∷ bs) ≡ Number z → (replicate m space ++ (b ∷ bs) ≡ fieldText z) × (in_range z ≡ true)
-  unfolding numberFrom
-  number-back e =
+  number_back : number_from (b ∷ bs) ≡ Number z → (replicate m space ++ (b ∷ bs) ≡ field_text z) × (in_range z ≡ true)
+  unfolding number_from
+  number_back e =
       either (eqb b minus)
       (λ t.
-      let r = only-back (lastDigit 1 ∷ []) (negsuc 0) bs z (rw t at e) in
+      let r = only_back (last_digit 1 ∷ []) (negsuc 0) bs z (rw t at e) in
       let n : length bs ≡ 1 = ap length r.0 in
       let w : m ≡ 8 = omega arith in
-      minus-text w (eqb-true b minus t) r.0 r.1)
+      minus_text w (eqb-true b minus t) r.0 r.1)
       (λ t.
-      either (eqb b zeroDigit)
+      either (eqb b zero_digit)
       (λ u.
-      let r = only-back [] (pos 0) bs z (rw (t, u) at e) in
+      let r = only_back [] (pos 0) bs z (rw (t, u) at e) in
       let n : length bs ≡ 0 = ap length r.0 in
       let w : m ≡ 9 = omega arith in
-      zero-text w (eqb-true b zeroDigit u) r.0 r.1)
-      (λ u. digits-text (eqb-false b zeroDigit u) (rw (t, u) at e)))
+      zero_text w (eqb-true b zero_digit u) r.0 r.1)
+      (λ u. digits_text (eqb-false b zero_digit u) (rw (t, u) at e)))
 
-first_back : (m : ℕ) (bs : List ℕ) (z : ℤ) → 0 < m → m + length bs ≡ fieldWidth → firstFrom bs ≡ Number z
-    → (replicate m space ++ bs ≡ fieldText z) × (in_range z ≡ true)
-unfolding firstFrom
+first_back : (m : ℕ) (bs : List ℕ) (z : ℤ) → 0 < m → m + length bs ≡ field_width → first_from bs ≡ Number z
+    → (replicate m space ++ bs ≡ field_text z) × (in_range z ≡ true)
+unfolding first_from
 first_back m [] z h k e = no_number z e
 first_back m (b ∷ bs) z h k e =
     either (eqb b space)
     (λ t.
     let r = first_back (suc m) bs z (omega arith) (omega arith) (rw t at e) in
-    (rw (eqb-true b space t) (space-in m bs ∙ r.0), r.1))
-    (λ t. number-back m b bs z h (omega arith) (rw t at e))
+    (rw (eqb-true b space t) (space_in m bs ∙ r.0), r.1))
+    (λ t. number_back m b bs z h (omega arith) (rw t at e))
 
-scanned-back : (bs : List ℕ) (z : ℤ) → length bs ≡ fieldWidth → scanned bs ≡ Number z → (bs ≡ fieldText z) × (in_range z ≡ true)
+scanned_back : (bs : List ℕ) (z : ℤ) → length bs ≡ field_width → scanned bs ≡ Number z → (bs ≡ field_text z) × (in_range z ≡ true)
 unfolding scanned
-scanned-back [] z h e = no_number z e
-scanned-back (b ∷ bs) z h e =
+scanned_back [] z h e = no_number z e
+scanned_back (b ∷ bs) z h e =
     either (eqb b space)
     (λ t. let r = first_back 1 bs z (omega arith) (omega arith) (rw t at e) in (rw (eqb-true b space t) r.0, r.1))
     (λ t. no_number z (rw t at e))
 
 -- reading once gives what the definition says
-pub scanned-field : (bs : List ℕ) → length bs ≡ fieldWidth → scanned bs ≡ foundOf (readField bs)
-scanned-field bs h = go (scanned bs) refl (readField bs) refl
+pub scanned_field : (bs : List ℕ) → length bs ≡ field_width → scanned bs ≡ found_of (read_field bs)
+scanned_field bs h = go (scanned bs) refl (read_field bs) refl
   where
-    go : (f : Found) → scanned bs ≡ f → (r : Option ℤ) → readField bs ≡ r → scanned bs ≡ foundOf (readField bs)
+    go : (f : Found) → scanned bs ≡ f → (r : Option ℤ) → read_field bs ≡ r → scanned bs ≡ found_of (read_field bs)
     go f e (some z) q =
-        let p = read-field bs z q in
-        rw q (ap scanned p.0 ∙ scanned-text z p.1)
+        let p = read_field_holds bs z q in
+        rw q (ap scanned p.0 ∙ scanned_text z p.1)
     go Nothing e none q = rw q e
     go (Number z) e none q =
-        let p = scanned-back bs z h e in
-        absurd (let s : none ≡ some z = sym q ∙ ap readField p.0 ∙ field-read z p.1 in let t : ◌≡◌ {A = ℕ} 0 1 = cc in omega arith)
+        let p = scanned_back bs z h e in
+        absurd (let s : none ≡ some z = sym q ∙ ap read_field p.0 ∙ field_read z p.1 in let t : ◌≡◌ {A = ℕ} 0 1 = cc in omega arith)
 
 -- ---------------------------------------------------------------- what the code's tests say
-module _ (l : List ℕ) (h : length l ≡ fieldWidth) where
-  scanned-at : cond (eqb (get_or l 0 0) space) (firstFrom (drop 1 l)) Nothing ≡ foundOf (readField l)
+module _ (l : List ℕ) (h : length l ≡ field_width) where
+  scanned_at : cond (eqb (get_or l 0 0) space) (first_from (drop 1 l)) Nothing ≡ found_of (read_field l)
   unfolding scanned
-  scanned-at = ap scanned (sym (drop-cons l 0 0 (omega arith))) ∙ scanned-field l h
+  scanned_at = ap scanned (sym (drop-cons l 0 0 (omega arith))) ∙ scanned_field l h
 
-  pub other-first : (get_or l 0 0 ≡ space → ⊥) → Nothing ≡ foundOf (readField l)
-  other-first n = rw (ne_eqb (get_or l 0 0) space n) at scanned-at
+  pub other_first : (get_or l 0 0 ≡ space → ⊥) → Nothing ≡ found_of (read_field l)
+  other_first n = rw (ne_eqb (get_or l 0 0) space n) at scanned_at
 
-  pub space-first : get_or l 0 0 ≡ space → firstFrom (drop 1 l) ≡ foundOf (readField l)
-  space-first n = rw (eq-eqb (get_or l 0 0) space n) at scanned-at
+  pub space_first : get_or l 0 0 ≡ space → first_from (drop 1 l) ≡ found_of (read_field l)
+  space_first n = rw (eq-eqb (get_or l 0 0) space n) at scanned_at
 
-module _ (l : List ℕ) (i : ℕ) (r : Found) (e : firstFrom (drop i l) ≡ r) where
-  first-at : i < length l → cond (eqb (get_or l i 0) space) (firstFrom (drop (i + 1) l)) (numberFrom (drop i l)) ≡ r
-  unfolding firstFrom
-  first-at h = rw (add-one, drop-cons l i 0 h) (rw (drop-cons l i 0 h) at e)
+module _ (l : List ℕ) (i : ℕ) (r : Found) (e : first_from (drop i l) ≡ r) where
+  first_at : i < length l → cond (eqb (get_or l i 0) space) (first_from (drop (i + 1) l)) (number_from (drop i l)) ≡ r
+  unfolding first_from
+  first_at h = rw (add-one, drop-cons l i 0 h) (rw (drop-cons l i 0 h) at e)
 
-  pub space-more : i < length l → get_or l i 0 ≡ space → firstFrom (drop (i + 1) l) ≡ r
-  space-more h n = rw (eq-eqb (get_or l i 0) space n) at (first-at h)
+  pub space_more : i < length l → get_or l i 0 ≡ space → first_from (drop (i + 1) l) ≡ r
+  space_more h n = rw (eq-eqb (get_or l i 0) space n) at (first_at h)
 
-  pub number-here : i < length l → (get_or l i 0 ≡ space → ⊥) → numberFrom (drop i l) ≡ r
-  number-here h n = rw (ne_eqb (get_or l i 0) space n) at (first-at h)
+  pub number_here : i < length l → (get_or l i 0 ≡ space → ⊥) → number_from (drop i l) ≡ r
+  number_here h n = rw (ne_eqb (get_or l i 0) space n) at (first_at h)
 
   -- a space in the last column is no number either
-  pub last-here : suc i ≡ length l → numberFrom (drop i l) ≡ r
-  unfolding firstFrom numberFrom digitsFrom
-  last-here h =
+  pub last_here : suc i ≡ length l → number_from (drop i l) ≡ r
+  unfolding first_from number_from digits_from
+  last_here h =
       either (eqb (get_or l i 0) space)
       (λ t.
       let d : drop i l ≡ space ∷ [] =
       drop-cons l i 0 (omega arith) ∙ rw (eqb-true (get_or l i 0) space t, drop_of_length-le l {i = suc i} (omega arith))
       in
       rw d (rw d at e))
-      (λ t. number-here (omega arith) (eqb-false (get_or l i 0) space t))
+      (λ t. number_here (omega arith) (eqb-false (get_or l i 0) space t))
 
 -- the last column alone: a digit, or no number
-alone : (b : ℕ) → digitsFrom (b ∷ []) 0 ≡ firstFrom (b ∷ [])
-unfolding digitsFrom firstFrom numberFrom only sameBytes
+alone : (b : ℕ) → digits_from (b ∷ []) 0 ≡ first_from (b ∷ [])
+unfolding digits_from first_from number_from only same_bytes
 alone b =
     either (eqb b space)
     (λ t. rw (eqb-true b space t))
     (λ n.
     either (eqb b minus)
     (λ t. rw (eqb-true b minus t))
-    (λ m. either (eqb b zeroDigit) (λ t. rw (eqb-true b zeroDigit t)) (λ z. rw (n, m, z))))
+    (λ m. either (eqb b zero_digit) (λ t. rw (eqb-true b zero_digit t)) (λ z. rw (n, m, z))))
 
-pub last-alone : (l : List ℕ) → length l ≡ fieldWidth → digitsFrom (drop (fieldWidth - 1) l) 0 ≡ firstFrom (drop (fieldWidth - 1) l)
-last-alone l h =
-    let d : drop (fieldWidth - 1) l ≡ get_or l (fieldWidth - 1) 0 ∷ [] =
-    drop-cons l (fieldWidth - 1) 0 (omega arith) ∙ rw (drop_of_length-le l {i = fieldWidth} (omega arith))
+pub last_alone : (l : List ℕ) → length l ≡ field_width → digits_from (drop (field_width - 1) l) 0 ≡ first_from (drop (field_width - 1) l)
+last_alone l h =
+    let d : drop (field_width - 1) l ≡ get_or l (field_width - 1) 0 ∷ [] =
+    drop-cons l (field_width - 1) 0 (omega arith) ∙ rw (drop_of_length-le l {i = field_width} (omega arith))
     in
-    rw d (alone (get_or l (fieldWidth - 1) 0))
+    rw d (alone (get_or l (field_width - 1) 0))
 
 -- from the first byte that is no space on
-module _ (l : List ℕ) (h : length l ≡ fieldWidth) (at : ℕ) (k : at < fieldWidth) where
-  number_at : numberFrom (drop at l)
-      ≡ cond (eqb (get_or l at 0) minus) (only (lastDigit 1 ∷ []) (negsuc 0) (drop (suc at) l)) (cond (eqb (get_or l at 0) zeroDigit) (only [] (pos 0) (drop (suc at) l)) (digitsFrom (drop at l) 0))
-  unfolding numberFrom
+module _ (l : List ℕ) (h : length l ≡ field_width) (at : ℕ) (k : at < field_width) where
+  number_at : number_from (drop at l)
+      ≡ cond (eqb (get_or l at 0) minus) (only (last_digit 1 ∷ []) (negsuc 0) (drop (suc at) l)) (cond (eqb (get_or l at 0) zero_digit) (only [] (pos 0) (drop (suc at) l)) (digits_from (drop at l) 0))
+  unfolding number_from
   number_at = rw (drop-cons l at 0 (omega arith))
 
-  only-other : (m : List ℕ) (z : ℤ) (bs : List ℕ) → (length bs ≡ length m → ⊥) → Nothing ≡ only m z bs
+  only_other : (m : List ℕ) (z : ℤ) (bs : List ℕ) → (length bs ≡ length m → ⊥) → Nothing ≡ only m z bs
   unfolding only
-  only-other m z bs n = either (sameBytes bs m) (λ t. absurd (n (ap length (same_true bs m t)))) (λ t. rw t)
+  only_other m z bs n = either (same_bytes bs m) (λ t. absurd (n (ap length (same_true bs m t)))) (λ t. rw t)
 
   module _ (s : get_or l at 0 ≡ minus) where
-    minus-at : numberFrom (drop at l) ≡ only (lastDigit 1 ∷ []) (negsuc 0) (drop (suc at) l)
-    minus-at = number_at ∙ rw (eq-eqb (get_or l at 0) minus s)
+    minus_at : number_from (drop at l) ≡ only (last_digit 1 ∷ []) (negsuc 0) (drop (suc at) l)
+    minus_at = number_at ∙ rw (eq-eqb (get_or l at 0) minus s)
 
-    pub minus-far : (at ≡ fieldWidth - 2 → ⊥) → Nothing ≡ numberFrom (drop at l)
-    minus-far n = rw minus-at (only-other (lastDigit 1 ∷ []) (negsuc 0) (drop (suc at) l) (λ e. n (omega (arith, length-drop (suc at) l))))
+    pub minus_far : (at ≡ field_width - 2 → ⊥) → Nothing ≡ number_from (drop at l)
+    minus_far n = rw minus_at (only_other (last_digit 1 ∷ []) (negsuc 0) (drop (suc at) l) (λ e. n (omega (arith, length-drop (suc at) l))))
 
-    module _ (w : at ≡ fieldWidth - 2) where
-      last-at : only (lastDigit 1 ∷ []) (negsuc 0) (drop (suc at) l) ≡ cond (eqb (get_or l (fieldWidth - 1) 0) (lastDigit 1)) (Number (negsuc 0)) Nothing
-      unfolding only sameBytes
-      last-at =
-          rw (w, drop-cons l (fieldWidth - 1) 0 (omega arith), drop_of_length-le l {i = fieldWidth} (omega arith), and-true)
+    module _ (w : at ≡ field_width - 2) where
+      last_at : only (last_digit 1 ∷ []) (negsuc 0) (drop (suc at) l) ≡ cond (eqb (get_or l (field_width - 1) 0) (last_digit 1)) (Number (negsuc 0)) Nothing
+      unfolding only same_bytes
+      last_at =
+          rw (w, drop-cons l (field_width - 1) 0 (omega arith), drop_of_length-le l {i = field_width} (omega arith), and-true)
 
-      pub minus-other : (get_or l (fieldWidth - 1) 0 ≡ lastDigit 1 → ⊥) → Nothing ≡ numberFrom (drop at l)
-      minus-other n = rw (minus-at, last-at, ne_eqb (get_or l (fieldWidth - 1) 0) (lastDigit 1) n)
+      pub minus_other : (get_or l (field_width - 1) 0 ≡ last_digit 1 → ⊥) → Nothing ≡ number_from (drop at l)
+      minus_other n = rw (minus_at, last_at, ne_eqb (get_or l (field_width - 1) 0) (last_digit 1) n)
 
-      pub minus_one : get_or l (fieldWidth - 1) 0 ≡ lastDigit 1 → Number (negsuc 0) ≡ numberFrom (drop at l)
-      minus_one n = rw (minus-at, last-at, eq-eqb (get_or l (fieldWidth - 1) 0) (lastDigit 1) n)
+      pub minus_one_holds : get_or l (field_width - 1) 0 ≡ last_digit 1 → Number (negsuc 0) ≡ number_from (drop at l)
+      minus_one_holds n = rw (minus_at, last_at, eq-eqb (get_or l (field_width - 1) 0) (last_digit 1) n)
 
   module _ (s : get_or l at 0 ≡ minus → ⊥) where
-    pub digits-at : (get_or l at 0 ≡ zeroDigit → ⊥) → digitsFrom (drop at l) 0 ≡ numberFrom (drop at l)
-    digits-at n = sym (number_at ∙ rw (ne_eqb (get_or l at 0) minus s, ne_eqb (get_or l at 0) zeroDigit n))
+    pub digits_at : (get_or l at 0 ≡ zero_digit → ⊥) → digits_from (drop at l) 0 ≡ number_from (drop at l)
+    digits_at n = sym (number_at ∙ rw (ne_eqb (get_or l at 0) minus s, ne_eqb (get_or l at 0) zero_digit n))
 
-    module _ (n : get_or l at 0 ≡ zeroDigit) where
-      zero-at : numberFrom (drop at l) ≡ only [] (pos 0) (drop (suc at) l)
-      zero-at = number_at ∙ rw (ne_eqb (get_or l at 0) minus s, eq-eqb (get_or l at 0) zeroDigit n)
+    module _ (n : get_or l at 0 ≡ zero_digit) where
+      zero_at : number_from (drop at l) ≡ only [] (pos 0) (drop (suc at) l)
+      zero_at = number_at ∙ rw (ne_eqb (get_or l at 0) minus s, eq-eqb (get_or l at 0) zero_digit n)
 
-      pub zero-leads : at < fieldWidth - 1 → Nothing ≡ numberFrom (drop at l)
-      zero-leads j = rw zero-at (only-other [] (pos 0) (drop (suc at) l) (λ e. omega (arith, length-drop (suc at) l)))
+      pub zero_leads : at < field_width - 1 → Nothing ≡ number_from (drop at l)
+      zero_leads j = rw zero_at (only_other [] (pos 0) (drop (suc at) l) (λ e. omega (arith, length-drop (suc at) l)))
 
-      pub zero-alone : fieldWidth - 1 ≤ at → Number (pos 0) ≡ numberFrom (drop at l)
-      unfolding only sameBytes
-      zero-alone j = rw (zero-at, drop_of_length-le l {i = suc at} (omega arith))
+      pub zero_alone : field_width - 1 ≤ at → Number (pos 0) ≡ number_from (drop at l)
+      unfolding only same_bytes
+      zero_alone j = rw (zero_at, drop_of_length-le l {i = suc at} (omega arith))
 
 -- the digits
-module _ (l : List ℕ) (i v : ℕ) (r : Found) (e : digitsFrom (drop i l) v ≡ r) where
+module _ (l : List ℕ) (i v : ℕ) (r : Found) (e : digits_from (drop i l) v ≡ r) where
   module _ (h : i < length l) where
-    digit_at : cond (leb zeroDigit (get_or l i 0) && leb (get_or l i 0) (lastDigit 9)) (digitsFrom (drop (suc i) l) (v * base + (get_or l i 0 - zeroDigit))) Nothing ≡ r
-    unfolding digitsFrom
+    digit_at : cond (leb zero_digit (get_or l i 0) && leb (get_or l i 0) (last_digit 9)) (digits_from (drop (suc i) l) (v * base + (get_or l i 0 - zero_digit))) Nothing ≡ r
+    unfolding digits_from
     digit_at = rw (drop-cons l i 0 h) at e
 
-    pub digit_low : get_or l i 0 < zeroDigit → Nothing ≡ r
-    digit_low n = rw (lt-leb zeroDigit (get_or l i 0) n) at digit_at
+    pub digit_low : get_or l i 0 < zero_digit → Nothing ≡ r
+    digit_low n = rw (lt-leb zero_digit (get_or l i 0) n) at digit_at
 
-    pub digit-high : lastDigit 9 < get_or l i 0 → Nothing ≡ r
-    digit-high n = rw (le-leb zeroDigit (get_or l i 0) (omega arith), lt-leb (get_or l i 0) (lastDigit 9) n) at digit_at
+    pub digit_high : last_digit 9 < get_or l i 0 → Nothing ≡ r
+    digit_high n = rw (le-leb zero_digit (get_or l i 0) (omega arith), lt-leb (get_or l i 0) (last_digit 9) n) at digit_at
 
-    pub digit-read : zeroDigit ≤ get_or l i 0 → get_or l i 0 ≤ lastDigit 9 → digitsFrom (drop (i + 1) l) (v * base + (get_or l i 0 - zeroDigit)) ≡ r
-    digit-read lo hi = rw add-one (rw (le-leb zeroDigit (get_or l i 0) lo, le-leb (get_or l i 0) (lastDigit 9) hi) at digit_at)
+    pub digit_read : zero_digit ≤ get_or l i 0 → get_or l i 0 ≤ last_digit 9 → digits_from (drop (i + 1) l) (v * base + (get_or l i 0 - zero_digit)) ≡ r
+    digit_read lo hi = rw add-one (rw (le-leb zero_digit (get_or l i 0) lo, le-leb (get_or l i 0) (last_digit 9) hi) at digit_at)
 
-  pub digits-end : length l ≤ i → v ≤ base ^ fieldWidth → Number (to_z w64 v) ≡ r
-  unfolding digitsFrom
-  digits-end h b = ap Number (to_z_pos w64 v (omega arith)) ∙ rw (drop_of_length-le l {i = i} h) at e
+  pub digits_end : length l ≤ i → v ≤ base ^ field_width → Number (to_z w64 v) ≡ r
+  unfolding digits_from
+  digits_end h b = ap Number (to_z_pos w64 v (omega arith)) ∙ rw (drop_of_length-le l {i = i} h) at e
 
 -- ten digits at most
-pub digits-bound : (i v d : ℕ) → d ≤ 9 → v < base ^ i → v * base + d < base ^ (i + 1)
-digits-bound i v d k h = let p : base ^ (i + 1) ≡ base * base ^ i = rw add-one (pow-succ' base i) in omega arith
+pub digits_bound : (i v d : ℕ) → d ≤ 9 → v < base ^ i → v * base + d < base ^ (i + 1)
+digits_bound i v d k h = let p : base ^ (i + 1) ≡ base * base ^ i = rw add-one (pow-succ' base i) in omega arith
 
-pub digits-fit : (i v : ℕ) → i ≤ fieldWidth → v < base ^ i → v ≤ base ^ fieldWidth
-digits-fit i v k h =
-    let p : base ^ i ≤ base ^ fieldWidth = pow-le-pow_right (lit< tt) {i = i} {j = fieldWidth} k in
+pub digits_fit : (i v : ℕ) → i ≤ field_width → v < base ^ i → v ≤ base ^ field_width
+digits_fit i v k h =
+    let p : base ^ i ≤ base ^ field_width = pow-le-pow_right (lit< tt) {i = i} {j = field_width} k in
     omega arith

@@ -1,11 +1,11 @@
 -- Bytes of an output that are spaces.
 use Rattle.std.specs.Prelude.{ℕ, ◌*◌, ◌≤◌, ◌<◌, ◌≡◌, List, length, get_or}
 use Rattle.std.proofs.lemmas.List.Edits.{sets}
-use Rattle.machine.specs.Line.{space, fieldWidth, fieldCount}
+use Rattle.machine.specs.Line.{space, field_width, field_count}
 
 -- the fields of a line, without its LF
-abbrev pub fieldsLength : ℕ
-fieldsLength = fieldCount * fieldWidth
+abbrev pub fields_length : ℕ
+fields_length = field_count * field_width
 
 -- spaces from one place up to another
 abbrev pub Blank : List ℕ → ℕ → ℕ → Type 0

@@ -4,6 +4,6 @@ use Rattle.std.specs.Prelude.{ℤ}
 use Rattle.line.specs.declared.Found.{Found}
 use Rattle.line.specs.declared.Found.TheVariants.{Number, Nothing}
 
-abbrev pub foundOf : Option ℤ → Found
-foundOf none = Nothing
-foundOf (some z) = Number z
+abbrev pub found_of : Option ℤ → Found
+found_of none = Nothing
+found_of (some z) = Number z

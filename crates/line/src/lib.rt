@@ -1,11 +1,11 @@
 // Text lines: one is read out of an input, one is written into an output.
 ghost use Rattle.std.specs.Prelude.{◌≡◌, true, ◌+◌, ◌-◌, ◌*◌, ◌≤◌, length, get_or, take, drop, pos};
 ghost use Rattle.std.proofs.lemmas.List.Edits.{sets};
-ghost use Rattle.machine.specs.Limits.{lineLength};
-ghost use Rattle.machine.specs.Line.{base, space, fieldWidth, fieldCount, in_range, lastDigit, numberText, fieldText, lineText, readField, numberList, meaning, lineMeaning, textAt, allInRange, writeCode, written, writtenAt, lineEnd};
-ghost use Rattle.line.specs.Found.{foundOf};
-ghost use Rattle.line.specs.Scan.{digitsFrom, numberFrom, firstFrom};
-ghost use Rattle.line.specs.Blank.{fieldsLength, Blank, Alike};
+ghost use Rattle.machine.specs.Limits.{line_length};
+ghost use Rattle.machine.specs.Line.{base, space, field_width, field_count, in_range, last_digit, number_text, field_text, line_text, read_field, number_list, meaning, line_meaning, text_at, all_in_range, write_code, written, written_at, line_end};
+ghost use Rattle.line.specs.Found.{found_of};
+ghost use Rattle.line.specs.Scan.{digits_from, number_from, first_from};
+ghost use Rattle.line.specs.Blank.{fields_length, Blank, Alike};
 
 use machine::{Line, Module, Numbers};
 
@@ -30,15 +30,15 @@ enum Found {
 
 // The byte of a number's last digit.
 fn last_digit(n: u64) -> u8
-    ensures { result ≡ lastDigit n }
+    ensures { result ≡ last_digit n }
 {
     b'0' + (n % BASE) as u8
 }
 
 // What digits to the field's end spell.
 fn digits(s: &[u8], from: usize) -> Found
-    requires { (length s.now ≡ fieldWidth) × (from ≤ fieldWidth) }
-    ensures { result ≡ digitsFrom (drop from s.now) 0 }
+    requires { (length s.now ≡ field_width) × (from ≤ field_width) }
+    ensures { result ≡ digits_from (drop from s.now) 0 }
 {
     let mut v: u64 = 0;
     let mut i = from;
@@ -58,8 +58,8 @@ fn digits(s: &[u8], from: usize) -> Found
 
 // What the columns hold from the first byte on that is no space: a minus stands before a 1 alone, a 0 stands alone.
 fn number_from(s: &[u8], at: usize) -> Found
-    requires { (length s.now ≡ fieldWidth) × (at + 1 ≤ fieldWidth) }
-    ensures { result ≡ numberFrom (drop at s.now) }
+    requires { (length s.now ≡ field_width) × (at + 1 ≤ field_width) }
+    ensures { result ≡ number_from (drop at s.now) }
 {
     let b = s[at];
     if b == b'-' {
@@ -82,8 +82,8 @@ fn number_from(s: &[u8], at: usize) -> Found
 
 // The first column past the first one that has no space; the last column where none before it has.
 fn first(s: &[u8]) -> usize
-    requires { length s.now ≡ fieldWidth }
-    ensures { (result + 1 ≤ fieldWidth) × (numberFrom (drop result s.now) ≡ firstFrom (drop 1 s.now)) }
+    requires { length s.now ≡ field_width }
+    ensures { (result + 1 ≤ field_width) × (number_from (drop result s.now) ≡ first_from (drop 1 s.now)) }
 {
     let mut i: usize = 1;
     while i < WIDTH - 1 {
@@ -97,8 +97,8 @@ fn first(s: &[u8]) -> usize
 
 // Whether the columns between the first and the last have spaces, as those of most fields do.
 fn is_last(s: &[u8]) -> bool
-    requires { length s.now ≡ fieldWidth }
-    ensures { result ≡ true → firstFrom (drop (fieldWidth - 1) s.now) ≡ firstFrom (drop 1 s.now) }
+    requires { length s.now ≡ field_width }
+    ensures { result ≡ true → first_from (drop (field_width - 1) s.now) ≡ first_from (drop 1 s.now) }
 {
     let mut i: usize = 1;
     while i < WIDTH - 1 {
@@ -112,8 +112,8 @@ fn is_last(s: &[u8]) -> bool
 
 // What a field's columns hold, read once from the left: no number in range fills the first column.
 fn field(s: &[u8]) -> Found
-    requires { length s.now ≡ fieldWidth }
-    ensures { result ≡ foundOf (readField s.now) }
+    requires { length s.now ≡ field_width }
+    ensures { result ≡ found_of (read_field s.now) }
 {
     if s[0] != b' ' {
         return Found::Nothing;
@@ -127,8 +127,8 @@ fn field(s: &[u8]) -> Found
 
 // What the field from `at` on holds.
 fn field_at(s: &[u8], at: usize) -> Found
-    requires { at + fieldWidth ≤ length s.now }
-    ensures { result ≡ foundOf (readField (take fieldWidth (drop at s.now))) }
+    requires { at + field_width ≤ length s.now }
+    ensures { result ≡ found_of (read_field (take field_width (drop at s.now))) }
 {
     let end = at + WIDTH;
     field(&s[at..end])
@@ -136,7 +136,7 @@ fn field_at(s: &[u8], at: usize) -> Found
 
 // What a line holds.
 pub fn read(s: &[u8]) -> Line
-    ensures { meaning result ≡ lineMeaning s.now }
+    ensures { meaning result ≡ line_meaning s.now }
 {
     if s.len() != Module::LINE {
         return Line::Bad;
@@ -165,7 +165,7 @@ pub fn read(s: &[u8]) -> Line
 
 // What the line at a position of the input holds; Bad where fewer bytes are left than a line has.
 pub fn read_at(input: &[u8], at: usize) -> Line
-    ensures { meaning result ≡ lineMeaning (textAt input.now at) }
+    ensures { meaning result ≡ line_meaning (text_at input.now at) }
 {
     if input.len() < at {
         return Line::Bad;
@@ -179,7 +179,7 @@ pub fn read_at(input: &[u8], at: usize) -> Line
 
 // Where the line at a position ends: past its LF, or at the input's end.
 pub fn next_line(s: &[u8], at: usize) -> usize
-    ensures { result ≡ lineEnd s.now at }
+    ensures { result ≡ line_end s.now at }
 {
     let mut i = at;
     while i < s.len() {
@@ -205,7 +205,7 @@ fn in_range(x: i64) -> bool
 
 // The number at a place, counted from 0.
 fn number(n: Numbers, i: usize) -> i64
-    ensures { result ≡ get_or (numberList n) i (pos 0) }
+    ensures { result ≡ get_or (number_list n) i (pos 0) }
 {
     match i {
         0 => n.n1,
@@ -219,7 +219,7 @@ fn number(n: Numbers, i: usize) -> i64
 }
 
 fn all_in_range(n: Numbers) -> bool
-    ensures { result ≡ allInRange (numberList n) }
+    ensures { result ≡ all_in_range (number_list n) }
 {
     let mut i: usize = 0;
     while i < FIELDS {
@@ -233,8 +233,8 @@ fn all_in_range(n: Numbers) -> bool
 
 // Spaces where the fields are to stand.
 fn put_spaces(out: &mut [u8])
-    requires { fieldsLength ≤ length out.old }
-    ensures { (length out.new ≡ length out.old) × Blank out.new 0 fieldsLength × Alike fieldsLength out.new out.old }
+    requires { fields_length ≤ length out.old }
+    ensures { (length out.new ≡ length out.old) × Blank out.new 0 fields_length × Alike fields_length out.new out.old }
 {
     let mut k: usize = 0;
     while k < Module::LINE - 1 {
@@ -245,8 +245,8 @@ fn put_spaces(out: &mut [u8])
 
 // The text of a number of one digit over spaces.
 fn put_digit(out: &mut [u8], at: usize, digit: u8, sign: u8)
-    requires { (at + fieldWidth ≤ length out.old) × Blank out.old at (at + fieldWidth) × (digit + 1 ≤ base) }
-    ensures { out.new ≡ sets out.old at (numberText digit sign) }
+    requires { (at + field_width ≤ length out.old) × Blank out.old at (at + field_width) × (digit + 1 ≤ base) }
+    ensures { out.new ≡ sets out.old at (number_text digit sign) }
 {
     out[at + (WIDTH - 1)] = b'0' + digit;
     out[at + (WIDTH - 2)] = sign;
@@ -254,8 +254,8 @@ fn put_digit(out: &mut [u8], at: usize, digit: u8, sign: u8)
 
 // The text of a number over spaces, from the right, each digit straight into its column.
 fn put_number(out: &mut [u8], at: usize, magnitude: u64)
-    requires { (at + fieldWidth ≤ length out.old) × Blank out.old at (at + fieldWidth) }
-    ensures { out.new ≡ sets out.old at (numberText magnitude space) }
+    requires { (at + field_width ≤ length out.old) × Blank out.old at (at + field_width) }
+    ensures { out.new ≡ sets out.old at (number_text magnitude space) }
 {
     let mut j = WIDTH - 1;
     out[at + j] = last_digit(magnitude);
@@ -271,8 +271,8 @@ fn put_number(out: &mut [u8], at: usize, magnitude: u64)
 }
 
 fn put_magnitude(out: &mut [u8], at: usize, n: u64)
-    requires { (at + fieldWidth ≤ length out.old) × Blank out.old at (at + fieldWidth) }
-    ensures { out.new ≡ sets out.old at (numberText n space) }
+    requires { (at + field_width ≤ length out.old) × Blank out.old at (at + field_width) }
+    ensures { out.new ≡ sets out.old at (number_text n space) }
 {
     if n < BASE {
         put_digit(out, at, n as u8, b' ');
@@ -282,8 +282,8 @@ fn put_magnitude(out: &mut [u8], at: usize, n: u64)
 }
 
 fn put_field(out: &mut [u8], at: usize, x: i64)
-    requires { (at + fieldWidth ≤ length out.old) × Blank out.old at (at + fieldWidth) × (in_range x ≡ true) }
-    ensures { out.new ≡ sets out.old at (fieldText x) }
+    requires { (at + field_width ≤ length out.old) × Blank out.old at (at + field_width) × (in_range x ≡ true) }
+    ensures { out.new ≡ sets out.old at (field_text x) }
 {
     if x == -1 {
         put_digit(out, at, 1, b'-');
@@ -294,16 +294,16 @@ fn put_field(out: &mut [u8], at: usize, x: i64)
 
 // The number at a place into its field: the fields from the next one on, over spaces, and the LF are left to store.
 fn put_next(out: &mut [u8], n: Numbers, i: usize)
-    requires { (i + 1 ≤ fieldCount) × (lineLength ≤ length out.old) × (allInRange (drop i (numberList n)) ≡ true) × Blank out.old (i * fieldWidth) fieldsLength }
-    ensures { (length out.new ≡ length out.old) × (allInRange (drop (i + 1) (numberList n)) ≡ true) × Blank out.new ((i + 1) * fieldWidth) fieldsLength × (sets out.new ((i + 1) * fieldWidth) (lineText (drop (i + 1) (numberList n))) ≡ sets out.old (i * fieldWidth) (lineText (drop i (numberList n)))) }
+    requires { (i + 1 ≤ field_count) × (line_length ≤ length out.old) × (all_in_range (drop i (number_list n)) ≡ true) × Blank out.old (i * field_width) fields_length }
+    ensures { (length out.new ≡ length out.old) × (all_in_range (drop (i + 1) (number_list n)) ≡ true) × Blank out.new ((i + 1) * field_width) fields_length × (sets out.new ((i + 1) * field_width) (line_text (drop (i + 1) (number_list n))) ≡ sets out.old (i * field_width) (line_text (drop i (number_list n)))) }
 {
     put_field(out, i * WIDTH, number(n, i));
 }
 
 // The fields one after another, then LF. There is no loop: each field's number is known where it is written, and the compiled code is shorter.
 fn put_line(out: &mut [u8], n: Numbers)
-    requires { (lineLength ≤ length out.old) × (allInRange (numberList n) ≡ true) }
-    ensures { out.new ≡ sets out.old 0 (lineText (numberList n)) }
+    requires { (line_length ≤ length out.old) × (all_in_range (number_list n) ≡ true) }
+    ensures { out.new ≡ sets out.old 0 (line_text (number_list n)) }
 {
     put_spaces(out);
     put_next(out, n, 0);
@@ -318,7 +318,7 @@ fn put_line(out: &mut [u8], n: Numbers)
 // The line of six numbers at the front of the output: 0, or 11 and no byte changed where a number is out of range or the
 // output too short.
 pub fn write(out: &mut [u8], n: Numbers) -> u8
-    ensures { (result ≡ writeCode (length out.old) (numberList n)) × (out.new ≡ written out.old (numberList n)) }
+    ensures { (result ≡ write_code (length out.old) (number_list n)) × (out.new ≡ written out.old (number_list n)) }
 {
     if out.len() < Module::LINE {
         return REFUSED;
@@ -332,7 +332,7 @@ pub fn write(out: &mut [u8], n: Numbers) -> u8
 
 // The same from a position of the output on.
 pub fn write_at(out: &mut [u8], at: usize, n: Numbers) -> u8
-    ensures { (result ≡ writeCode (length out.old - at) (numberList n)) × (out.new ≡ writtenAt at out.old (numberList n)) }
+    ensures { (result ≡ write_code (length out.old - at) (number_list n)) × (out.new ≡ written_at at out.old (number_list n)) }
 {
     if out.len() < at {
         return REFUSED;

@@ -20,37 +20,37 @@ use Rattle.machine.specs.declared.Change.{Change}
 use Rattle.machine.specs.declared.Change.TheVariants.{Nothing, Stored, Created, Last, StoredSemaphore, StoredEvent, CreatedBuffer, Moved, StoredBlackboard, Ended, Handed, LevelSet, Entered}
 use Rattle.machine.specs.declared.Decision.{Decision}
 use Rattle.machine.specs.declared.Decision.TheVariants.{Refused, Unchanged, Ticked, Blocked, Changed, Restarted, Written, Passed as PassedOn}
-use Rattle.machine.specs.Limits.{modeLimit}
+use Rattle.machine.specs.Limits.{mode_limit}
 use Rattle.machine.specs.Fields.{is_number, between, number_of}
 use Rattle.machine.specs.Messages.{sent, received}
-use Rattle.machine.specs.Process.{object, periodic, ready, waitsForNothing, withSuspended, withCurrent, waitingFor, suspendedUntil, startRule, startedEarly, stopped, resumed, nextRelease, served}
-use Rattle.machine.specs.Partition.{normalMode, process, waiters, firstWaiter}
+use Rattle.machine.specs.Process.{object, periodic, ready, waits_for_nothing, with_suspended, with_current, waiting_for, suspended_until, start_rule, started_early, stopped, resumed, next_release, served}
+use Rattle.machine.specs.Partition.{normal_mode, process, waiters, first_waiter}
 use Rattle.machine.specs.Semaphores.{signalled}
 use Rattle.machine.specs.Theorems.Valid.{Between, contains}
-use Rattle.machine.specs.Theorems.EachProcess.{waitOf}
-use Rattle.machine.proofs.Tests.{or_left, not-both}
-use Rattle.machine.proofs.Fields.{in-limits}
+use Rattle.machine.specs.Theorems.EachProcess.{wait_of}
+use Rattle.machine.proofs.Tests.{or_left, not_both}
+use Rattle.machine.proofs.Fields.{in_limits}
 
 -- process id of p stored with the record y: by which call, and what y is
 pub data StoredBy (c : Context) (r : Request) (p : Partition) (j id : ℕ) (y : Process) : Type 0 where
-  starts : (j ≡ 3) ⊎ (j ≡ 4) → id ≡ number_of r.a → (process id p).started ≡ false → (delay : ℕ) → y ≡ cond (normalMode p) (startRule c delay (process id p)) (startedEarly delay (process id p)) → StoredBy c r p j id y
+  starts : (j ≡ 3) ⊎ (j ≡ 4) → id ≡ number_of r.a → (process id p).started ≡ false → (delay : ℕ) → y ≡ cond (normal_mode p) (start_rule c delay (process id p)) (started_early delay (process id p)) → StoredBy c r p j id y
   stops : j ≡ 5 → id ≡ number_of r.a → (process id p).started ≡ true → y ≡ stopped (process id p) → StoredBy c r p j id y
-  stopsSelf : j ≡ 6 → id ≡ c.caller → normalMode p ≡ true → y ≡ stopped (process id p) → StoredBy c r p j id y
-  marks : j ≡ 7 → id ≡ number_of r.a → (process id p).started ≡ true → (process id p).suspended ≡ false → y ≡ withSuspended true (process id p) → StoredBy c r p j id y
+  stops_self : j ≡ 6 → id ≡ c.caller → normal_mode p ≡ true → y ≡ stopped (process id p) → StoredBy c r p j id y
+  marks : j ≡ 7 → id ≡ number_of r.a → (process id p).started ≡ true → (process id p).suspended ≡ false → y ≡ with_suspended true (process id p) → StoredBy c r p j id y
   resumes : j ≡ 11 → id ≡ number_of r.a → (process id p).started ≡ true → (process id p).suspended ≡ true → y ≡ resumed (process id p) → StoredBy c r p j id y
-  prioritises : j ≡ 12 → id ≡ number_of r.a → (process id p).started ≡ true → 1 ≤ number_of r.b → y ≡ withCurrent (number_of r.b) (process id p) → StoredBy c r p j id y
+  prioritises : j ≡ 12 → id ≡ number_of r.a → (process id p).started ≡ true → 1 ≤ number_of r.b → y ≡ with_current (number_of r.b) (process id p) → StoredBy c r p j id y
   serves : j ≡ 16 → Between 1 p.semaphoreCount (number_of r.a) → contains id (waiters (object (Semaphore (number_of r.a))) p) ≡ true → y ≡ served (process id p) → StoredBy c r p j id y
 
 -- the caller, of record x, stored with the record y, code 7: by which call, and what y is
 pub data BlockedBy (r : Request) (j : ℕ) (x y : Process) : Type 0 where
-  suspends : j ≡ 8 → (until : Time) → y ≡ suspendedUntil until x → BlockedBy r j x y
-  releases : j ≡ 10 → periodic x ≡ true → y ≡ nextRelease x → BlockedBy r j x y
-  waits : (eqb j 8 || eqb j 10) ≡ false → (eqb j 9 ≡ true) ⊎ (number_of r.a ≡ 0 → ⊥) → (until : Time) → waitsForNothing (waitOf j (number_of r.a) (number_of r.b)) ≡ false → y ≡ waitingFor (waitOf j (number_of r.a) (number_of r.b)) until x → BlockedBy r j x y
+  suspends : j ≡ 8 → (until : Time) → y ≡ suspended_until until x → BlockedBy r j x y
+  releases : j ≡ 10 → periodic x ≡ true → y ≡ next_release x → BlockedBy r j x y
+  waits : (eqb j 8 || eqb j 10) ≡ false → (eqb j 9 ≡ true) ⊎ (number_of r.a ≡ 0 → ⊥) → (until : Time) → waits_for_nothing (wait_of j (number_of r.a) (number_of r.b)) ≡ false → y ≡ waiting_for (wait_of j (number_of r.a) (number_of r.b)) until x → BlockedBy r j x y
 
 -- the transfer of a buffer, by the call that makes it
 pub data TransferBy (r : Request) (p : Partition) (j k : ℕ) (a : Transfer) : Type 0 where
-  sends : j ≡ 24 → k ≡ number_of r.a → Between 1 p.bufferCount k → (m : ℕ) → a ≡ sent (firstWaiter (object (Receiving k)) p) m → TransferBy r p j k a
-  receives : j ≡ 25 → k ≡ number_of r.a → Between 1 p.bufferCount k → (m : ℕ) → a ≡ received (firstWaiter (object (Sending k 0)) p) m → TransferBy r p j k a
+  sends : j ≡ 24 → k ≡ number_of r.a → Between 1 p.bufferCount k → (m : ℕ) → a ≡ sent (first_waiter (object (Receiving k)) p) m → TransferBy r p j k a
+  receives : j ≡ 25 → k ≡ number_of r.a → Between 1 p.bufferCount k → (m : ℕ) → a ≡ received (first_waiter (object (Sending k 0)) p) m → TransferBy r p j k a
 
 -- a change of p by call j
 abbrev pub Makes : Context → Request → Partition → ℕ → Change → Type 0
@@ -105,21 +105,21 @@ abbrev pub PutLast : Context → Request → Partition → ℕ → Change → Ch
 PutLast c r p j a b =
     let id = number_of r.a in
     cond (eqb j 9) ((a ≡ Last c.caller) × (b ≡ Nothing))
-    (cond (eqb j 12) ((a ≡ Stored id (withCurrent (number_of r.b) (process id p))) × (b ≡ cond (ready (process id p)) (Last id) Nothing))
+    (cond (eqb j 12) ((a ≡ Stored id (with_current (number_of r.b) (process id p))) × (b ≡ cond (ready (process id p)) (Last id) Nothing))
     ((last_of a ≡ 0) × (last_of b ≡ 0)))
 
 -- calls 1, 3 to 7, 11 and 12, which act on a process that they name, or on all of a partition
-abbrev pub actsOnNamed : ℕ → Bool
-actsOnNamed j = eqb j 1 || ((leb 3 j && leb j 7) || (eqb j 11 || eqb j 12))
+abbrev pub acts_on_named : ℕ → Bool
+acts_on_named j = eqb j 1 || ((leb 3 j && leb j 7) || (eqb j 11 || eqb j 12))
 
 -- what call j decides of processes, which one of its changes reaches at most
 abbrev pub Acts : Context → Request → Partition → ℕ → Decision → Type 0
 Acts c r p j (Refused n) = Unit {0}
-Acts c r p j (Unchanged v e) = (eqb j 9 || actsOnNamed j) ≡ false
+Acts c r p j (Unchanged v e) = (eqb j 9 || acts_on_named j) ≡ false
 Acts c r p j Ticked = ⊥
-Acts c r p j (Blocked id y) = (id ≡ c.caller) × (normalMode p ≡ true) × BlockedBy r j (process id p) y
+Acts c r p j (Blocked id y) = (id ≡ c.caller) × (normal_mode p ≡ true) × BlockedBy r j (process id p) y
 Acts c r p j (Changed a b v) =
-    Makes c r p j a × Makes c r p j b × ((touches b && touches a) ≡ false) × ((actsOnNamed j && not (touches a || touches b)) ≡ false)
+    Makes c r p j a × Makes c r p j b × ((touches b && touches a) ≡ false) × ((acts_on_named j && not (touches a || touches b)) ≡ false)
     × PutLast c r p j a b
 Acts c r p j (Restarted mode) = (j ≡ 1) × (r.a ≡ Number mode) × (mode ≤ 2)
 Acts c r p j (Written i x) = j ≡ 21
@@ -133,10 +133,10 @@ last_off true id = refl
 last_off false id = refl
 
 -- a mode other than 3
-pub mode-low : (f : Field) → between 0 modeLimit f ≡ true → is_number 3 f ≡ false → (f ≡ Number (number_of f)) × (number_of f ≤ 2)
-mode-low (Number n) h e = let b = in-limits 0 modeLimit (Number n) h in let ne = eqb-false n 3 e in (refl, omega arith)
-mode-low MinusOne h e = not-both _ h refl
-mode-low Other h e = not-both _ h refl
+pub mode_low : (f : Field) → between 0 mode_limit f ≡ true → is_number 3 f ≡ false → (f ≡ Number (number_of f)) × (number_of f ≤ 2)
+mode_low (Number n) h e = let b = in_limits 0 mode_limit (Number n) h in let ne = eqb-false n 3 e in (refl, omega arith)
+mode_low MinusOne h e = not_both _ h refl
+mode_low Other h e = not_both _ h refl
 
 pub live : (y : Process) → (not y.started || periodic y) ≡ false → y.started ≡ true
 live y h = not-false y.started (or_left (not y.started) (periodic y) h)

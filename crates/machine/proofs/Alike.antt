@@ -15,43 +15,43 @@ use Rattle.machine.specs.declared.Change.TheVariants.{Nothing, Stored, Created, 
 use Rattle.machine.specs.declared.Wait.TheVariants.{Normal}
 use Rattle.machine.specs.declared.Time.{Time}
 use Rattle.machine.specs.declared.Time.TheVariants.{Never, At}
-use Rattle.machine.specs.Limits.{processLimit, semaphoreLimit, eventLimit, bufferLimit, blackboardLimit}
-use Rattle.machine.specs.Process.{blankProcess, isNever, object, periodic, startRule, waitsForNormal, entered, withSuspended, withCurrent}
-use Rattle.machine.specs.Partition.{within, by_id, process, arrivedLast, storedSemaphore, storedEvent, storedBuffer, storedBlackboard, emptyBuffer, waiters, applied}
+use Rattle.machine.specs.Limits.{process_limit, semaphore_limit, event_limit, buffer_limit, blackboard_limit}
+use Rattle.machine.specs.Process.{blank_process, is_never, object, periodic, start_rule, waits_for_normal, entered, with_suspended, with_current}
+use Rattle.machine.specs.Partition.{within, by_id, process, arrived_last, stored_semaphore, stored_event, stored_buffer, stored_blackboard, empty_buffer, waiters, applied}
 use Rattle.machine.specs.Theorems.Valid.{contains, ListedIn}
-use Rattle.machine.specs.Theorems.Plain.{idsFrom}
-use Rattle.machine.specs.Theorems.EachCall.{periodicAt}
-use Rattle.machine.specs.Theorems.EachProcess.{begunWith, StartWait}
-use Rattle.machine.proofs.Tests.{by-test, not-both}
-use Rattle.machine.proofs.Bounds.{named-out, within-out}
+use Rattle.machine.specs.Theorems.Plain.{ids_from}
+use Rattle.machine.specs.Theorems.EachCall.{periodic_at}
+use Rattle.machine.specs.Theorems.EachProcess.{begun_with, StartWait}
+use Rattle.machine.proofs.Tests.{by_test, not_both}
+use Rattle.machine.proofs.Bounds.{named_out, within_out}
 use Rattle.machine.proofs.Either.{either}
-use Rattle.machine.proofs.Keeping.{from-has}
-use Rattle.machine.proofs.Reasons.{for-normal}
+use Rattle.machine.proofs.Keeping.{from_has}
+use Rattle.machine.proofs.Reasons.{for_normal_holds}
 use Rattle.machine.proofs.Acts.{touches}
 use Rattle.machine.proofs.Orders.{same_queue}
 
 -- ---------------------------------------------------------------- equal records
 module _ {x y : Process} (e : x ≡ y) where
-  pub same-started : x.started ≡ y.started
-  same-started = ap (λ (z : Process). z.started) e
+  pub same_started : x.started ≡ y.started
+  same_started = ap (λ (z : Process). z.started) e
 
-  pub same-wait : x.wait ≡ y.wait
-  same-wait = ap (λ (z : Process). z.wait) e
+  pub same_wait : x.wait ≡ y.wait
+  same_wait = ap (λ (z : Process). z.wait) e
 
-  pub same-mark : x.suspended ≡ y.suspended
-  same-mark = ap (λ (z : Process). z.suspended) e
+  pub same_mark : x.suspended ≡ y.suspended
+  same_mark = ap (λ (z : Process). z.suspended) e
 
-  pub same-missed : x.missed ≡ y.missed
-  same-missed = ap (λ (z : Process). z.missed) e
+  pub same_missed : x.missed ≡ y.missed
+  same_missed = ap (λ (z : Process). z.missed) e
 
-  pub same-given : x.given ≡ y.given
-  same-given = ap (λ (z : Process). z.given) e
+  pub same_given : x.given ≡ y.given
+  same_given = ap (λ (z : Process). z.given) e
 
-  pub same-current : x.current ≡ y.current
-  same-current = ap (λ (z : Process). z.current) e
+  pub same_current : x.current ≡ y.current
+  same_current = ap (λ (z : Process). z.current) e
 
-  pub same-release : x.times.release ≡ y.times.release
-  same-release = ap (λ (z : Process). z.times.release) e
+  pub same_release : x.times.release ≡ y.times.release
+  same_release = ap (λ (z : Process). z.times.release) e
 
 -- ---------------------------------------------------------------- partitions that differ in no process
 -- no process and no queue differs
@@ -62,69 +62,69 @@ pub record Alike (p q : Partition) : Type 0 where
 pub alike_same : (p : Partition) → Alike p p
 alike_same p = record { processes = refl; waiting = refl }
 
-pub buffer-alike : (k : ℕ) (b : Buffer) (p : Partition) → Alike p (storedBuffer k b p)
-unfolding storedBuffer
-buffer-alike k b p = by-test (Alike p) (within bufferLimit k) (λ _. record { processes = refl; waiting = refl }) (λ _. alike_same p)
+pub buffer_alike : (k : ℕ) (b : Buffer) (p : Partition) → Alike p (stored_buffer k b p)
+unfolding stored_buffer
+buffer_alike k b p = by_test (Alike p) (within buffer_limit k) (λ _. record { processes = refl; waiting = refl }) (λ _. alike_same p)
 
 -- a change that reaches no process
 pub untouched : (a : Change) (p : Partition) → touches a ≡ false → Alike p (applied a p)
-unfolding arrivedLast storedSemaphore storedEvent storedBuffer storedBlackboard
+unfolding arrived_last stored_semaphore stored_event stored_buffer stored_blackboard
 untouched Nothing p h = alike_same p
-untouched (Stored id y) p h = not-both _ refl h
-untouched (Created id y) p h = not-both _ refl h
+untouched (Stored id y) p h = not_both _ refl h
+untouched (Created id y) p h = not_both _ refl h
 untouched (Last id) p h = record { processes = refl; waiting = refl }
-untouched (StoredSemaphore k s) p h = by-test (Alike p) (within semaphoreLimit k) (λ _. record { processes = refl; waiting = refl }) (λ _. alike_same p)
-untouched (StoredEvent k s) p h = by-test (Alike p) (within eventLimit k) (λ _. record { processes = refl; waiting = refl }) (λ _. alike_same p)
-untouched (CreatedBuffer k name limit) p h = buffer-alike k (emptyBuffer name limit) p
-untouched (Moved k a) p h = not-both _ refl h
-untouched (StoredBlackboard k b) p h = by-test (Alike p) (within blackboardLimit k) (λ _. record { processes = refl; waiting = refl }) (λ _. alike_same p)
-untouched (Ended o) p h = not-both _ refl h
-untouched (Handed o m) p h = not-both _ refl h
+untouched (StoredSemaphore k s) p h = by_test (Alike p) (within semaphore_limit k) (λ _. record { processes = refl; waiting = refl }) (λ _. alike_same p)
+untouched (StoredEvent k s) p h = by_test (Alike p) (within event_limit k) (λ _. record { processes = refl; waiting = refl }) (λ _. alike_same p)
+untouched (CreatedBuffer k name limit) p h = buffer_alike k (empty_buffer name limit) p
+untouched (Moved k a) p h = not_both _ refl h
+untouched (StoredBlackboard k b) p h = by_test (Alike p) (within blackboard_limit k) (λ _. record { processes = refl; waiting = refl }) (λ _. alike_same p)
+untouched (Ended o) p h = not_both _ refl h
+untouched (Handed o m) p h = not_both _ refl h
 untouched (LevelSet level holder) p h = record { processes = refl; waiting = refl }
-untouched (Entered d) p h = not-both _ refl h
+untouched (Entered d) p h = not_both _ refl h
 
-pub alike-along : (p q r : Partition) → Alike p q → Alike q r → Alike p r
-alike-along p q r a b = record { processes = b.processes ∙ a.processes; waiting = b.waiting ∙ a.waiting }
+pub alike_along : (p q r : Partition) → Alike p q → Alike q r → Alike p r
+alike_along p q r a b = record { processes = b.processes ∙ a.processes; waiting = b.waiting ∙ a.waiting }
 
-pub alike-process : (p q : Partition) → Alike p q → (id : ℕ) → process id q ≡ process id p
-alike-process p q a id = ap (by_id processLimit blankProcess id) a.processes
+pub alike_process : (p q : Partition) → Alike p q → (id : ℕ) → process id q ≡ process id p
+alike_process p q a id = ap (by_id process_limit blank_process id) a.processes
 
-pub alike-waiters : (p q : Partition) → Alike p q → (o : ℕ) → waiters o q ≡ waiters o p
-alike-waiters p q a o = same_queue o p q a.waiting (λ y. ap (λ (x : Process). object x.wait) (alike-process p q a y))
+pub alike_waiters : (p q : Partition) → Alike p q → (o : ℕ) → waiters o q ≡ waiters o p
+alike_waiters p q a o = same_queue o p q a.waiting (λ y. ap (λ (x : Process). object x.wait) (alike_process p q a y))
 
 -- where no process has been created stands a blank one
-pub not-created : (p : Partition) → ListedIn p → (id : ℕ) → contains id (idsFrom p.processCount 1) ≡ false → process id p ≡ blankProcess
-not-created p v id h = either (within processLimit id)
+pub not_created : (p : Partition) → ListedIn p → (id : ℕ) → contains id (ids_from p.processCount 1) ≡ false → process id p ≡ blank_process
+not_created p v id h = either (within process_limit id)
     (λ e. ⊎_elim
     (λ (out : p.processCount < id). v.numbered.past id out)
-    (λ (few : id ≤ p.processCount). not-both _ (from-has p.processCount 1 id (within-out processLimit id e).0 (omega arith)) h)
+    (λ (few : id ≤ p.processCount). not_both _ (from_has p.processCount 1 id (within_out process_limit id e).0 (omega arith)) h)
     (either (ltb p.processCount id) (λ t. inl (ltb-true _ _ t)) (λ t. inr (ltb-false _ _ t))))
-    (λ e. named-out processLimit id blankProcess p.processes e)
+    (λ e. named_out process_limit id blank_process p.processes e)
 
 -- ---------------------------------------------------------------- the start rule
 -- what it makes of a process
 pub record Begun (x y : Process) (n : ℕ) (mark : Bool) : Type 0 where
-  pub is : y ≡ begunWith y.times n mark y.wait x
+  pub is : y ≡ begun_with y.times n mark y.wait x
   pub wait : StartWait x y.wait
 
-periodic-at : (a : Time) (b : Bool) → not (isNever a) ≡ b → periodicAt a ≡ b
-periodic-at Never b e = e
-periodic-at (At n) b e = e
+periodic_at_holds : (a : Time) (b : Bool) → not (is_never a) ≡ b → periodic_at a ≡ b
+periodic_at_holds Never b e = e
+periodic_at_holds (At n) b e = e
 
-pub starts-as : (c : Context) (delay : ℕ) (x : Process) → Begun x (startRule c delay x) x.given.base false
-unfolding startRule
-starts-as c delay x = by-test (λ (y : Process). Begun x y x.given.base false) (periodic x)
-    (λ e. record { is = refl; wait = rw (periodic-at x.given.period true e) refl })
-    (λ e. by-test (λ (y : Process). Begun x y x.given.base false) (eqb delay 0)
-    (λ _. record { is = refl; wait = rw (periodic-at x.given.period false e) (inl refl) })
-    (λ _. record { is = refl; wait = rw (periodic-at x.given.period false e) (inr refl) }))
+pub starts_as : (c : Context) (delay : ℕ) (x : Process) → Begun x (start_rule c delay x) x.given.base false
+unfolding start_rule
+starts_as c delay x = by_test (λ (y : Process). Begun x y x.given.base false) (periodic x)
+    (λ e. record { is = refl; wait = rw (periodic_at_holds x.given.period true e) refl })
+    (λ e. by_test (λ (y : Process). Begun x y x.given.base false) (eqb delay 0)
+    (λ _. record { is = refl; wait = rw (periodic_at_holds x.given.period false e) (inl refl) })
+    (λ _. record { is = refl; wait = rw (periodic_at_holds x.given.period false e) (inr refl) }))
 
 -- on entering NORMAL
 abbrev pub Enters : Process → Process → Type 0
 Enters x y = ((x.wait ≡ Normal) × Begun x y x.current x.suspended) ⊎ ((x.wait ≡ Normal → ⊥) × (y ≡ x))
 
-pub enters-as : (c : Context) (x : Process) → Enters x (entered c x)
+pub enters_as : (c : Context) (x : Process) → Enters x (entered c x)
 unfolding entered
-enters-as c x = by-test (Enters x) (waitsForNormal x.wait)
-    (λ e. let b = starts-as c x.times.delay x in inl (for-normal x.wait e, record { is = ap (λ (y : Process). withSuspended x.suspended (withCurrent x.current y)) b.is; wait = b.wait }))
-    (λ t. inr (λ z. not-both _ (ap waitsForNormal z) t, refl))
+enters_as c x = by_test (Enters x) (waits_for_normal x.wait)
+    (λ e. let b = starts_as c x.times.delay x in inl (for_normal_holds x.wait e, record { is = ap (λ (y : Process). with_suspended x.suspended (with_current x.current y)) b.is; wait = b.wait }))
+    (λ t. inr (λ z. not_both _ (ap waits_for_normal z) t, refl))

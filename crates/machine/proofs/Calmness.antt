@@ -21,36 +21,36 @@ use Rattle.machine.specs.declared.Buffer.{Buffer}
 use Rattle.machine.specs.declared.Field.{Field}
 use Rattle.machine.specs.declared.Field.TheVariants.{Number, MinusOne, Other}
 use Rattle.machine.specs.declared.Wait.{Wait}
-use Rattle.machine.specs.Limits.{processLimit, semaphoreLimit, eventLimit, bufferLimit, blackboardLimit, modeLimit}
+use Rattle.machine.specs.Limits.{process_limit, semaphore_limit, event_limit, buffer_limit, blackboard_limit, mode_limit}
 use Rattle.machine.specs.Messages.{sent, received}
 use Rattle.machine.specs.Ids.{members}
 use Rattle.machine.specs.Fields.{is_number, between}
-use Rattle.machine.specs.Process.{class_of, blankProcess, object, onObject, ready, served, handed, entered, ticked, due, waitsForNormal, woken}
-use Rattle.machine.specs.Partition.{normalMode, noBuffer, process, buffer, emptyBuffer, movedIn, endedBy, withMode, stored, waitsOn, waiters, firstWaiter, changedAll, each, tickPartition, enteredNormal, storedSemaphore, storedEvent, storedBuffer, storedBlackboard, applied, within, arrivedLast}
+use Rattle.machine.specs.Process.{class_of, blank_process, object, on_object, ready, served, handed, entered, ticked, due, waits_for_normal, woken}
+use Rattle.machine.specs.Partition.{normal_mode, no_buffer, process, buffer, empty_buffer, moved_in, ended_by, with_mode, stored, waits_on, waiters, first_waiter, changed_all, each, tick_partition, entered_normal, stored_semaphore, stored_event, stored_buffer, stored_blackboard, applied, within, arrived_last}
 use Rattle.machine.specs.Semaphores.{signalled}
 use Rattle.machine.specs.Theorems.Valid.{Between, contains, Distinct, ListedIn, Valid, SoundContext, SoundMove, SoundEnd, SoundChange}
 use mathlib.Core.Logic.{◌⊎◌, inl, inr, ⊎_elim}
-use Rattle.machine.specs.Theorems.Queues.{queueNumber}
+use Rattle.machine.specs.Theorems.Queues.{queue_number}
 use Rattle.machine.specs.declared.Wait.TheVariants.{None}
-use Rattle.machine.proofs.Tests.{by-test, not-both, and_left, and_right}
-use Rattle.machine.proofs.Bounds.{same_or_not, within_in, within-out, named-same, named_other, created-in, created-out, buffer-in, buffer-out}
+use Rattle.machine.proofs.Tests.{by_test, not_both, and_left, and_right}
+use Rattle.machine.proofs.Bounds.{same_or_not, within_in, within_out, named_same, named_other, created_in, created_out, buffer_in, buffer_out}
 use Rattle.machine.proofs.Either.{either}
-use Rattle.machine.proofs.Tracking.{contains-kept}
-use Rattle.machine.proofs.Keeping.{process-created, Rest, stored-rest, process-other, process-stored, AllCreated, rest-count, changed-rest, changed-process, each-rest, each-listed, each-process}
-use Rattle.machine.proofs.Sound.{ready-off}
-use Rattle.machine.proofs.Kept.{waiters-distinct, waiters-created, first-in, take_in, firsts-created, firsts-distinct, let-in-valid, ended-valid, end_same, change-valid, normal-caller}
-use Rattle.machine.proofs.Orders.{Part, part-whole, part-trans, all-part, expired-wait, ticked-object, start-object, normal-off, ended-part}
+use Rattle.machine.proofs.Tracking.{contains_kept}
+use Rattle.machine.proofs.Keeping.{process_created, Rest, stored_rest, process_other, process_stored, AllCreated, rest_count, changed_rest, changed_process, each_rest, each_listed, each_process_holds}
+use Rattle.machine.proofs.Sound.{ready_off}
+use Rattle.machine.proofs.Kept.{waiters_distinct, waiters_created, first_in, take_in, firsts_created, firsts_distinct, let_in_valid, ended_valid, end_same, change_valid, normal_caller}
+use Rattle.machine.proofs.Orders.{Part, part_whole, part_trans, all_part, expired_wait, ticked_object, start_object, normal_off, ended_part}
 
 -- 0..3 and not 3
-pub below-three : (f : Field) → between 0 modeLimit f ≡ true → is_number 3 f ≡ false → between 0 2 f ≡ true
-below-three (Number n) h e = let r = leb-true n modeLimit (and_right (leb 0 n) (leb n modeLimit) h) in let ne = eqb-false n 3 e in rw (le-leb 0 n (omega arith), le-leb n 2 (omega arith))
-below-three MinusOne h e = not-both _ h refl
-below-three Other h e = not-both _ h refl
+pub below_three : (f : Field) → between 0 mode_limit f ≡ true → is_number 3 f ≡ false → between 0 2 f ≡ true
+below_three (Number n) h e = let r = leb-true n mode_limit (and_right (leb 0 n) (leb n mode_limit) h) in let ne = eqb-false n 3 e in rw (le-leb 0 n (omega arith), le-leb n 2 (omega arith))
+below_three MinusOne h e = not_both _ h refl
+below_three Other h e = not_both _ h refl
 
 -- one of a queue waits on its object
-pub on-queue : (p : Partition) (o id : ℕ) → contains id (waiters o p) ≡ true → object (process id p).wait ≡ o
+pub on_queue_holds : (p : Partition) (o id : ℕ) → contains id (waiters o p) ≡ true → object (process id p).wait ≡ o
 unfolding waiters
-on-queue p o id c = eqb-true _ o (and_left (waitsOn o p id) _ (sym (contains-kept (waitsOn o p) id (members p.waiting)) ∙ c))
+on_queue_holds p o id c = eqb-true _ o (and_left (waits_on o p id) _ (sym (contains_kept (waits_on o p) id (members p.waiting)) ∙ c))
 
 -- the kinds of queues of senders, by the kinds of class_of: 3 of buffers, 6 of channels
 pub record OfSenders (kind : ℕ) : Type 0 where
@@ -62,10 +62,10 @@ pub record OfSenders (kind : ℕ) : Type 0 where
 module _ (kind j : ℕ) (of : OfSenders kind) (low : j ≤ 16) where
   -- the senders of buffer j, or of channel j
   abbrev pub senders : ℕ
-  senders = queueNumber kind j
+  senders = queue_number kind j
 
-  pub senders-some : senders ≡ 0 → ⊥
-  senders-some z = omega (arith, of.low)
+  pub senders_some : senders ≡ 0 → ⊥
+  senders_some z = omega (arith, of.low)
 
   -- a process with the wait w gets the wait w': it waits to send only where it did so with the same wait, and ceases only by call 5
   abbrev pub KeepsSending : ℕ → Wait → Wait → Type 0
@@ -75,11 +75,11 @@ module _ (kind j : ℕ) (of : OfSenders kind) (low : j ≤ 16) where
   keeps_same n w = (λ _. refl, λ e. inl e)
 
   -- it waits to send neither before nor after
-  keeps-off : (n : ℕ) (w w' : Wait) → (object w ≡ senders → ⊥) → (object w' ≡ senders → ⊥) → KeepsSending n w w'
-  keeps-off n w w' a b = (λ e. absurd (b e), λ e. absurd (a e))
+  keeps_off : (n : ℕ) (w w' : Wait) → (object w ≡ senders → ⊥) → (object w' ≡ senders → ⊥) → KeepsSending n w w'
+  keeps_off n w w' a b = (λ e. absurd (b e), λ e. absurd (a e))
 
-  no-sender : (n : ℕ) → n ≡ 0 → n ≡ senders → ⊥
-  no-sender n z e = senders-some (sym e ∙ z)
+  no_sender : (n : ℕ) → n ≡ 0 → n ≡ senders → ⊥
+  no_sender n z e = senders_some (sym e ∙ z)
 
   -- what stays: buffer j with its messages, and each wait to send, but for call 5
   pub record Stays (n : ℕ) (p q : Partition) : Type 0 where
@@ -90,8 +90,8 @@ module _ (kind j : ℕ) (of : OfSenders kind) (low : j ≤ 16) where
   pub stays_same : (n : ℕ) (p : Partition) → Stays n p p
   stays_same n p = record { same = λ _. refl; count = omega arith; waits = λ id. keeps_same n (process id p).wait }
 
-  pub stays-along : (n : ℕ) (p q r : Partition) → Stays n p q → Stays n q r → Stays n p r
-  stays-along n p q r a b = record {
+  pub stays_along : (n : ℕ) (p q r : Partition) → Stays n p q → Stays n q r → Stays n p r
+  stays_along n p q r a b = record {
     same = λ e. b.same e ∙ a.same e;
     count = omega (arith, a.count, b.count);
     waits = λ id.
@@ -124,107 +124,107 @@ module _ (kind j : ℕ) (of : OfSenders kind) (low : j ≤ 16) where
   CalmChange n p (Entered c) = Unit {0}
 
   -- processes that change, and nothing else
-  rest-stays : (n : ℕ) (p q : Partition) → Rest p q → ((id : ℕ) → KeepsSending n (process id p).wait (process id q).wait) → Stays n p q
-  rest-stays n p q e w = record { same = λ _. ap (λ (r : Partition). buffer j r) e; count = let f : q.bufferCount ≡ p.bufferCount = ap (λ (r : Partition). r.bufferCount) e in omega arith; waits = w }
+  rest_stays : (n : ℕ) (p q : Partition) → Rest p q → ((id : ℕ) → KeepsSending n (process id p).wait (process id q).wait) → Stays n p q
+  rest_stays n p q e w = record { same = λ _. ap (λ (r : Partition). buffer j r) e; count = let f : q.bufferCount ≡ p.bufferCount = ap (λ (r : Partition). r.bufferCount) e in omega arith; waits = w }
 
   -- a process that is as it was
-  same-process : (n id : ℕ) (p q : Partition) → process id q ≡ process id p → KeepsSending n (process id p).wait (process id q).wait
-  same-process n id p q e = rw e (keeps_same n (process id p).wait)
+  same_process : (n id : ℕ) (p q : Partition) → process id q ≡ process id p → KeepsSending n (process id p).wait (process id q).wait
+  same_process n id p q e = rw e (keeps_same n (process id p).wait)
 
   -- one process stored
-  stored-stays : (n : ℕ) (p : Partition) → ListedIn p → (id : ℕ) → Between 1 p.processCount id → (x : Process) → KeepsSending n (process id p).wait x.wait → Stays n p (stored id x p)
-  stored-stays n p v id b x g = rest-stays n p _ (stored-rest p id x) (λ y. ⊎_elim
-      (λ (s : y ≡ id). rw (s, process-stored p id x v b) g)
-      (λ (ne : y ≡ id → ⊥). same-process n y p (stored id x p) (process-other p id x y ne))
+  stored_stays : (n : ℕ) (p : Partition) → ListedIn p → (id : ℕ) → Between 1 p.processCount id → (x : Process) → KeepsSending n (process id p).wait x.wait → Stays n p (stored id x p)
+  stored_stays n p v id b x g = rest_stays n p _ (stored_rest p id x) (λ y. ⊎_elim
+      (λ (s : y ≡ id). rw (s, process_stored p id x v b) g)
+      (λ (ne : y ≡ id → ⊥). same_process n y p (stored id x p) (process_other p id x y ne))
       (same_or_not y id))
 
   -- another buffer stored
-  other-stays : (n k : ℕ) (b : Buffer) (p : Partition) → (kind ≡ 3 → k ≡ j → ⊥) → Stays n p (storedBuffer k b p)
-  other-stays n k b p ne = either (within bufferLimit k)
-      (λ e. rw (buffer-in k b p e) (record { same = λ is. named_other bufferLimit noBuffer k b p.buffers (within-out bufferLimit k e).0 j (λ s. ne is (sym s)); count = omega arith; waits = λ id. keeps_same n (process id p).wait }))
-      (λ e. rw (buffer-out k b p e) (stays_same n p))
+  other_stays : (n k : ℕ) (b : Buffer) (p : Partition) → (kind ≡ 3 → k ≡ j → ⊥) → Stays n p (stored_buffer k b p)
+  other_stays n k b p ne = either (within buffer_limit k)
+      (λ e. rw (buffer_in k b p e) (record { same = λ is. named_other buffer_limit no_buffer k b p.buffers (within_out buffer_limit k e).0 j (λ s. ne is (sym s)); count = omega arith; waits = λ id. keeps_same n (process id p).wait }))
+      (λ e. rw (buffer_out k b p e) (stays_same n p))
 
   -- the wait that a transfer ends
-  pub end_stays : (n : ℕ) (p : Partition) → ListedIn p → (a : Transfer) → SoundEnd p a → CalmEnd n p a → Stays n p (endedBy a p)
+  pub end_stays : (n : ℕ) (p : Partition) → ListedIn p → (a : Transfer) → SoundEnd p a → CalmEnd n p a → Stays n p (ended_by a p)
   end_stays n p v (Put m) h g = stays_same n p
-  end_stays n p v (HandedTo id m) h g = stored-stays n p v id h.0 (handed m (process id p)) g
+  end_stays n p v (HandedTo id m) h g = stored_stays n p v id h.0 (handed m (process id p)) g
   end_stays n p v Taken h g = stays_same n p
-  end_stays n p v (LetIn id m) h g = stored-stays n p v id h.0 (served (process id p)) g
+  end_stays n p v (LetIn id m) h g = stored_stays n p v id h.0 (served (process id p)) g
 
   -- a partition with the same processes
-  calm-same : (n : ℕ) (p q : Partition) (a : Transfer) → q.processes ≡ p.processes → CalmEnd n p a → CalmEnd n q a
-  calm-same n p q (Put m) e h = tt
-  calm-same n p q (HandedTo id m) e h = rw e h
-  calm-same n p q Taken e h = tt
-  calm-same n p q (LetIn id m) e h = rw e h
+  calm_same : (n : ℕ) (p q : Partition) (a : Transfer) → q.processes ≡ p.processes → CalmEnd n p a → CalmEnd n q a
+  calm_same n p q (Put m) e h = tt
+  calm_same n p q (HandedTo id m) e h = rw e h
+  calm_same n p q Taken e h = tt
+  calm_same n p q (LetIn id m) e h = rw e h
 
   -- these processes, which wait on another object, are changed by f, which ends waits
-  waits-stay : (n : ℕ) (f : Process → Process) → ((x : Process) → object (f x).wait ≡ 0) → (o : ℕ) (p : Partition) → ListedIn p → (o ≡ senders → ⊥)
-      → (l : List ℕ) → AllCreated l p.processCount → Distinct l → ((id : ℕ) → contains id l ≡ true → object (process id p).wait ≡ o) → Stays n p (changedAll f l p)
-  waits-stay n f ends o p v ne l all once on =
-      let q = changedAll f l p in
-      rest-stays n p q (changed-rest f l p) (λ id.
-      let is = changed-process f l p v all once id in
+  waits_stay : (n : ℕ) (f : Process → Process) → ((x : Process) → object (f x).wait ≡ 0) → (o : ℕ) (p : Partition) → ListedIn p → (o ≡ senders → ⊥)
+      → (l : List ℕ) → AllCreated l p.processCount → Distinct l → ((id : ℕ) → contains id l ≡ true → object (process id p).wait ≡ o) → Stays n p (changed_all f l p)
+  waits_stay n f ends o p v ne l all once on =
+      let q = changed_all f l p in
+      rest_stays n p q (changed_rest f l p) (λ id.
+      let is = changed_process f l p v all once id in
       either (contains id l)
-      (λ c. rw (is, c) (keeps-off n (process id p).wait (f (process id p)).wait (λ e. ne (sym (on id c) ∙ e)) (no-sender _ (ends (process id p)))))
-      (λ c. same-process n id p q (is ∙ rw c)))
+      (λ c. rw (is, c) (keeps_off n (process id p).wait (f (process id p)).wait (λ e. ne (sym (on id c) ∙ e)) (no_sender _ (ends (process id p)))))
+      (λ c. same_process n id p q (is ∙ rw c)))
 
-  ended-stays : (n : ℕ) (f : Process → Process) → ((x : Process) → object (f x).wait ≡ 0) → (o : ℕ) (p : Partition) → ListedIn p → (o ≡ senders → ⊥) → Stays n p (changedAll f (waiters o p) p)
-  ended-stays n f ends o p v ne = waits-stay n f ends o p v ne (waiters o p) (waiters-created p v o) (waiters-distinct p v o) (on-queue p o)
+  ended_stays : (n : ℕ) (f : Process → Process) → ((x : Process) → object (f x).wait ≡ 0) → (o : ℕ) (p : Partition) → ListedIn p → (o ≡ senders → ⊥) → Stays n p (changed_all f (waiters o p) p)
+  ended_stays n f ends o p v ne = waits_stay n f ends o p v ne (waiters o p) (waiters_created p v o) (waiters_distinct p v o) (on_queue_holds p o)
 
   -- a process as NORMAL is entered
-  entered-keeps : (n : ℕ) (c : Context) (x : Process) → KeepsSending n x.wait (entered c x).wait
+  entered_keeps : (n : ℕ) (c : Context) (x : Process) → KeepsSending n x.wait (entered c x).wait
   unfolding entered
-  entered-keeps n c x = by-test (λ (y : Process). KeepsSending n x.wait y.wait) (waitsForNormal x.wait)
-      (λ e. keeps-off n x.wait _ (no-sender _ (normal-off (class_of x.wait) e)) (no-sender _ (start-object c x.times.delay x)))
+  entered_keeps n c x = by_test (λ (y : Process). KeepsSending n x.wait y.wait) (waits_for_normal x.wait)
+      (λ e. keeps_off n x.wait _ (no_sender _ (normal_off (class_of x.wait) e)) (no_sender _ (start_object c x.times.delay x)))
       (λ _. keeps_same n x.wait)
 
   -- every process changed
-  each-stays : (n : ℕ) (f : Process → Process) (p : Partition) → ListedIn p → ((x : Process) → KeepsSending n x.wait (f x).wait) → Stays n p (each f p)
-  each-stays n f p v k = rest-stays n p _ (each-rest f p v) (λ id. either (leb 1 id && leb id p.processCount)
-      (λ e. rw (each-process f p v id (leb-true 1 id (and_left (leb 1 id) _ e), leb-true id p.processCount (and_right (leb 1 id) _ e))) (k (process id p)))
-      (λ e. keeps-off n (process id p).wait (process id (each f p)).wait
-      (λ s. not-both _ (inside id (process-created onObject refl p v id (on (process id p).wait s))) e)
-      (λ s. not-both _ (inside id (rw (rest-count p _ (each-rest f p v)) at (process-created onObject refl (each f p) (each-listed f p v) id (on (process id (each f p)).wait s)))) e)))
+  each_stays : (n : ℕ) (f : Process → Process) (p : Partition) → ListedIn p → ((x : Process) → KeepsSending n x.wait (f x).wait) → Stays n p (each f p)
+  each_stays n f p v k = rest_stays n p _ (each_rest f p v) (λ id. either (leb 1 id && leb id p.processCount)
+      (λ e. rw (each_process_holds f p v id (leb-true 1 id (and_left (leb 1 id) _ e), leb-true id p.processCount (and_right (leb 1 id) _ e))) (k (process id p)))
+      (λ e. keeps_off n (process id p).wait (process id (each f p)).wait
+      (λ s. not_both _ (inside id (process_created on_object refl p v id (on (process id p).wait s))) e)
+      (λ s. not_both _ (inside id (rw (rest_count p _ (each_rest f p v)) at (process_created on_object refl (each f p) (each_listed f p v) id (on (process id (each f p)).wait s)))) e)))
     where
       on : (w : Wait) → object w ≡ senders → not (eqb (object w) 0) ≡ true
-      on w s = rw (s, ne_eqb senders 0 senders-some)
+      on w s = rw (s, ne_eqb senders 0 senders_some)
 
       inside : (id : ℕ) → Between 1 p.processCount id → (leb 1 id && leb id p.processCount) ≡ true
       inside id b = rw (le-leb 1 id b.0, le-leb id p.processCount b.1)
 
   -- one change
-  change-stays : (n : ℕ) (c : Context) (p : Partition) → Valid c.frame c.time p → (a : Change) → SoundChange c p a → CalmChange n p a → Stays n p (applied a p)
-  unfolding arrivedLast storedSemaphore storedEvent storedBlackboard enteredNormal
-  change-stays n c p v Nothing h g = stays_same n p
-  change-stays n c p v (Stored id x) h g = stored-stays n p v.lists id h.0 x g
-  change-stays n c p v (Created id x) h g = either (within processLimit id)
-      (λ e. rw (created-in id x p e) (record {
+  change_stays : (n : ℕ) (c : Context) (p : Partition) → Valid c.frame c.time p → (a : Change) → SoundChange c p a → CalmChange n p a → Stays n p (applied a p)
+  unfolding arrived_last stored_semaphore stored_event stored_blackboard entered_normal
+  change_stays n c p v Nothing h g = stays_same n p
+  change_stays n c p v (Stored id x) h g = stored_stays n p v.lists id h.0 x g
+  change_stays n c p v (Created id x) h g = either (within process_limit id)
+      (λ e. rw (created_in id x p e) (record {
         same = λ _. refl;
         count = omega arith;
         waits = λ y. ⊎_elim
             (λ (s : y ≡ id).
-            let hi = (within-out processLimit id e).1 in
+            let hi = (within_out process_limit id e).1 in
             let off : object (process id p).wait ≡ 0 = ap (λ (z : Process). object z.wait) (v.lists.numbered.past id (omega (arith, h.next))) in
-            rw (s, named-same processLimit blankProcess id x p.processes (within-out processLimit id e).0 hi (omega (arith, hi, v.lists.numbered.size)))
-            (keeps-off n (process id p).wait x.wait (no-sender _ off) (no-sender _ (ap (λ (z : Process). object z.wait) h.dormant))))
-            (λ (ne : y ≡ id → ⊥). rw (named_other processLimit blankProcess id x p.processes (within-out processLimit id e).0 y ne) (keeps_same n (process y p).wait))
+            rw (s, named_same process_limit blank_process id x p.processes (within_out process_limit id e).0 hi (omega (arith, hi, v.lists.numbered.size)))
+            (keeps_off n (process id p).wait x.wait (no_sender _ off) (no_sender _ (ap (λ (z : Process). object z.wait) h.dormant))))
+            (λ (ne : y ≡ id → ⊥). rw (named_other process_limit blank_process id x p.processes (within_out process_limit id e).0 y ne) (keeps_same n (process y p).wait))
             (same_or_not y id);
       }))
-      (λ e. rw (created-out id x p e) (stays_same n p))
-  change-stays n c p v (Last id) h g = record { same = λ _. refl; count = omega arith; waits = λ id. keeps_same n (process id p).wait }
-  change-stays n c p v (StoredSemaphore k s) h g = by-test (Stays n p) (within semaphoreLimit k) (λ _. record { same = λ _. refl; count = omega arith; waits = λ id. keeps_same n (process id p).wait }) (λ _. stays_same n p)
-  change-stays n c p v (StoredEvent k e) h g = by-test (Stays n p) (within eventLimit k) (λ _. record { same = λ _. refl; count = omega arith; waits = λ id. keeps_same n (process id p).wait }) (λ _. stays_same n p)
-  change-stays n c p v (CreatedBuffer k name limit) h g = other-stays n k (emptyBuffer name limit) p g
-  change-stays n c p v (Moved k a) h g =
-      let b = movedIn a (buffer k p) in
-      let is = buffer-in k b p (within_in bufferLimit k h.0.0 (omega (arith, h.0.1, v.objects.buffers.numbered.few))) in
-      stays-along n p (storedBuffer k b p) _ (other-stays n k b p g.0) (end_stays n (storedBuffer k b p) (rw is v.lists) a (rw is (end_same p _ a refl refl h.2)) (rw is (calm-same n p _ a refl g.1)))
-  change-stays n c p v (StoredBlackboard k b) h g = by-test (Stays n p) (within blackboardLimit k) (λ _. record { same = λ _. refl; count = omega arith; waits = λ id. keeps_same n (process id p).wait }) (λ _. stays_same n p)
-  change-stays n c p v (Ended o) h g = ended-stays n served (λ _. refl) o p v.lists g
-  change-stays n c p v (Handed o m) h g = ended-stays n (handed m) (λ _. refl) o p v.lists g
-  change-stays n c p v (LevelSet level holder) h g = record { same = λ _. refl; count = omega arith; waits = λ id. keeps_same n (process id p).wait }
-  change-stays n c p v (Entered d) h g = stays-along n p (withMode 3 p) _ (record { same = λ _. refl; count = omega arith; waits = λ id. keeps_same n (process id p).wait }) (each-stays n (entered d) (withMode 3 p) v.lists (entered-keeps n d))
+      (λ e. rw (created_out id x p e) (stays_same n p))
+  change_stays n c p v (Last id) h g = record { same = λ _. refl; count = omega arith; waits = λ id. keeps_same n (process id p).wait }
+  change_stays n c p v (StoredSemaphore k s) h g = by_test (Stays n p) (within semaphore_limit k) (λ _. record { same = λ _. refl; count = omega arith; waits = λ id. keeps_same n (process id p).wait }) (λ _. stays_same n p)
+  change_stays n c p v (StoredEvent k e) h g = by_test (Stays n p) (within event_limit k) (λ _. record { same = λ _. refl; count = omega arith; waits = λ id. keeps_same n (process id p).wait }) (λ _. stays_same n p)
+  change_stays n c p v (CreatedBuffer k name limit) h g = other_stays n k (empty_buffer name limit) p g
+  change_stays n c p v (Moved k a) h g =
+      let b = moved_in a (buffer k p) in
+      let is = buffer_in k b p (within_in buffer_limit k h.0.0 (omega (arith, h.0.1, v.objects.buffers.numbered.few))) in
+      stays_along n p (stored_buffer k b p) _ (other_stays n k b p g.0) (end_stays n (stored_buffer k b p) (rw is v.lists) a (rw is (end_same p _ a refl refl h.2)) (rw is (calm_same n p _ a refl g.1)))
+  change_stays n c p v (StoredBlackboard k b) h g = by_test (Stays n p) (within blackboard_limit k) (λ _. record { same = λ _. refl; count = omega arith; waits = λ id. keeps_same n (process id p).wait }) (λ _. stays_same n p)
+  change_stays n c p v (Ended o) h g = ended_stays n served (λ _. refl) o p v.lists g
+  change_stays n c p v (Handed o m) h g = ended_stays n (handed m) (λ _. refl) o p v.lists g
+  change_stays n c p v (LevelSet level holder) h g = record { same = λ _. refl; count = omega arith; waits = λ id. keeps_same n (process id p).wait }
+  change_stays n c p v (Entered d) h g = stays_along n p (with_mode 3 p) _ (record { same = λ _. refl; count = omega arith; waits = λ id. keeps_same n (process id p).wait }) (each_stays n (entered d) (with_mode 3 p) v.lists (entered_keeps n d))
 
   -- ---------------------------------------------------------------- decisions
   -- a decides for call 1
@@ -242,63 +242,63 @@ module _ (kind j : ℕ) (of : OfSenders kind) (low : j ≤ 16) where
     pub is : Calm n f p d
 
   -- two changes
-  pub changed-stays : (n : ℕ) (c : Context) {o : Partition} → SoundContext c o → (p : Partition) → Valid c.frame c.time p → (a b : Change) → SoundChange c p a → SoundChange c (applied a p) b → CalmChange n p a → CalmChange n (applied a p) b → Stays n p (applied b (applied a p))
-  changed-stays n c s p v a b f g h k = stays-along n p (applied a p) _ (change-stays n c p v a f h) (change-stays n c (applied a p) (change-valid c s p v a f) b g k)
+  pub changed_stays : (n : ℕ) (c : Context) {o : Partition} → SoundContext c o → (p : Partition) → Valid c.frame c.time p → (a b : Change) → SoundChange c p a → SoundChange c (applied a p) b → CalmChange n p a → CalmChange n (applied a p) b → Stays n p (applied b (applied a p))
+  changed_stays n c s p v a b f g h k = stays_along n p (applied a p) _ (change_stays n c p v a f h) (change_stays n c (applied a p) (change_valid c s p v a f) b g k)
 
   -- the caller, which is READY, begins to wait, and not to send
-  pub blocked-stays : (n : ℕ) (p : Partition) → ListedIn p → (id : ℕ) → Between 1 p.processCount id → (x : Process) → ready (process id p) ≡ true → (object x.wait ≡ senders → ⊥) → Stays n p (stored id x p)
-  blocked-stays n p v id b x h ne = stored-stays n p v id b x (keeps-off n (process id p).wait x.wait (no-sender _ (ready-off (process id p) h)) ne)
+  pub blocked_stays : (n : ℕ) (p : Partition) → ListedIn p → (id : ℕ) → Between 1 p.processCount id → (x : Process) → ready (process id p) ≡ true → (object x.wait ≡ senders → ⊥) → Stays n p (stored id x p)
+  blocked_stays n p v id b x h ne = stored_stays n p v id b x (keeps_off n (process id p).wait x.wait (no_sender _ (ready_off (process id p) h)) ne)
 
   -- a transfer to or from the first of another queue
   module _ (n o : ℕ) (p : Partition) (ne : o ≡ senders → ⊥) where
-    first-calm : (firstWaiter o p ≡ 0 → ⊥) → KeepsSending n (process (firstWaiter o p) p).wait None
-    first-calm some = keeps-off n (process (firstWaiter o p) p).wait None (λ e. ne (sym (on-queue p o (firstWaiter o p) (first-in (waiters o p) some)) ∙ e)) (no-sender _ refl)
+    first_calm : (first_waiter o p ≡ 0 → ⊥) → KeepsSending n (process (first_waiter o p) p).wait None
+    first_calm some = keeps_off n (process (first_waiter o p) p).wait None (λ e. ne (sym (on_queue_holds p o (first_waiter o p) (first_in (waiters o p) some)) ∙ e)) (no_sender _ refl)
 
-    pub sent-calm : (m : ℕ) → CalmEnd n p (sent (firstWaiter o p) m)
+    pub sent_calm : (m : ℕ) → CalmEnd n p (sent (first_waiter o p) m)
     unfolding sent
-    sent-calm m = by-test (CalmEnd n p) (eqb (firstWaiter o p) 0) (λ _. tt) (λ e. first-calm (eqb-false _ 0 e))
+    sent_calm m = by_test (CalmEnd n p) (eqb (first_waiter o p) 0) (λ _. tt) (λ e. first_calm (eqb-false _ 0 e))
 
-    pub received-calm : (m : ℕ) → CalmEnd n p (received (firstWaiter o p) m)
+    pub received_calm : (m : ℕ) → CalmEnd n p (received (first_waiter o p) m)
     unfolding received
-    received-calm m = by-test (CalmEnd n p) (eqb (firstWaiter o p) 0) (λ _. tt) (λ e. first-calm (eqb-false _ 0 e))
+    received_calm m = by_test (CalmEnd n p) (eqb (first_waiter o p) 0) (λ _. tt) (λ e. first_calm (eqb-false _ 0 e))
 
   -- ---------------------------------------------------------------- every other call
   module _ (n : ℕ) (f : Field) (c : Context) (p : Partition) (v : Valid c.frame c.time p) (s : SoundContext c p) (there : kind ≡ 3 → p.bufferCount < j → ⊥) where
     -- a process on another object, whose wait ends; one on no object
     pub elsewhere : (id : ℕ) (w : Wait) (o : ℕ) → object (process id p).wait ≡ o → (o ≡ senders → ⊥) → object w ≡ 0 → KeepsSending n (process id p).wait w
-    elsewhere id w o is ne off = keeps-off n (process id p).wait w (λ e. ne (sym is ∙ e)) (no-sender _ off)
+    elsewhere id w o is ne off = keeps_off n (process id p).wait w (λ e. ne (sym is ∙ e)) (no_sender _ off)
 
     pub idle : (id : ℕ) (w : Wait) → object (process id p).wait ≡ 0 → object w ≡ 0 → KeepsSending n (process id p).wait w
-    idle id w z off = elsewhere id w 0 z (λ e. senders-some (sym e)) off
+    idle id w z off = elsewhere id w 0 z (λ e. senders_some (sym e)) off
 
-    pub caller-off : normalMode p ≡ true → object (process c.caller p).wait ≡ 0
-    caller-off h = ready-off (process c.caller p) (normal-caller c p v s h).isReady
+    pub caller_off : normal_mode p ≡ true → object (process c.caller p).wait ≡ 0
+    caller_off h = ready_off (process c.caller p) (normal_caller c p v s h).is_ready
 
     -- the first of a queue
-    first-of-queue : (o : ℕ) (l : List ℕ) (id : ℕ) → waiters o p ≡ id ∷ l → object (process id p).wait ≡ o
+    first_of_queue : (o : ℕ) (l : List ℕ) (id : ℕ) → waiters o p ≡ id ∷ l → object (process id p).wait ≡ o
     unfolding contains
-    first-of-queue o l id e = on-queue p o id (rw (e, eq-eqb id id refl))
+    first_of_queue o l id e = on_queue_holds p o id (rw (e, eq-eqb id id refl))
 
-    pub signalled-calm : (l : List ℕ) (k : ℕ) → k ≤ 8 → waiters (queueNumber 1 k) p ≡ l → CalmChange n p (signalled l k p)
+    pub signalled_calm : (l : List ℕ) (k : ℕ) → k ≤ 8 → waiters (queue_number 1 k) p ≡ l → CalmChange n p (signalled l k p)
     unfolding signalled
-    signalled-calm [] k few e = tt
-    signalled-calm (id ∷ l) k few e = elsewhere id None (queueNumber 1 k) (first-of-queue (queueNumber 1 k) l id e) (λ z. omega (arith, of.low)) refl
+    signalled_calm [] k few e = tt
+    signalled_calm (id ∷ l) k few e = elsewhere id None (queue_number 1 k) (first_of_queue (queue_number 1 k) l id e) (λ z. omega (arith, of.low)) refl
 
   -- ---------------------------------------------------------------- the tick
   -- a tick ends waits; who still waits to send keeps its wait
-  pub tick-keeps : (t : ℕ) (x : Process) → object (ticked t x).wait ≡ senders → (ticked t x).wait ≡ x.wait
+  pub tick_keeps : (t : ℕ) (x : Process) → object (ticked t x).wait ≡ senders → (ticked t x).wait ≡ x.wait
   unfolding woken
-  tick-keeps t x e = expired-wait t (woken t x) ∙ either (due t x.times.wake)
-      (λ d. absurd (senders-some (sym e ∙ ticked-object t x ∙ rw d)))
+  tick_keeps t x e = expired_wait t (woken t x) ∙ either (due t x.times.wake)
+      (λ d. absurd (senders_some (sym e ∙ ticked_object t x ∙ rw d)))
       (λ d. rw d)
 
-  tick-each : (n t : ℕ) (x : Process) → n ≡ 5 → KeepsSending n x.wait (ticked t x).wait
-  tick-each n t x five = (tick-keeps t x, λ _. inr five)
+  tick_each : (n t : ℕ) (x : Process) → n ≡ 5 → KeepsSending n x.wait (ticked t x).wait
+  tick_each n t x five = (tick_keeps t x, λ _. inr five)
 
   -- as STOP does
-  pub tick-stays : (t : ℕ) (p : Partition) → ListedIn p → Stays 5 p (tickPartition t p)
-  unfolding tickPartition
-  tick-stays t p v = by-test (Stays 5 p) (normalMode p) (λ _. each-stays 5 (ticked t) p v (λ x. tick-each 5 t x refl)) (λ _. stays_same 5 p)
+  pub tick_stays : (t : ℕ) (p : Partition) → ListedIn p → Stays 5 p (tick_partition t p)
+  unfolding tick_partition
+  tick_stays t p v = by_test (Stays 5 p) (normal_mode p) (λ _. each_stays 5 (ticked t) p v (λ x. tick_each 5 t x refl)) (λ _. stays_same 5 p)
 
   -- ---------------------------------------------------------------- another partition's event
   -- the partition with the senders after it: who waits to send goes on waiting, in the same order
@@ -307,27 +307,27 @@ module _ (kind j : ℕ) (of : OfSenders kind) (low : j ≤ 16) where
     pub lists : ListedIn q
     pub part : Part (waiters senders p) (waiters senders q)
 
-  pub leaves-same : (p : Partition) → ListedIn p → Leaves p p
-  leaves-same p v = record { stays = stays_same 0 p; lists = v; part = part-whole (waiters senders p) }
+  pub leaves_same : (p : Partition) → ListedIn p → Leaves p p
+  leaves_same p v = record { stays = stays_same 0 p; lists = v; part = part_whole (waiters senders p) }
 
-  pub leaves-along : (p q r : Partition) → Leaves p q → Leaves q r → Leaves p r
-  leaves-along p q r a b = record { stays = stays-along 0 p q r a.stays b.stays; lists = b.lists; part = part-trans a.part b.part }
+  pub leaves_along : (p q r : Partition) → Leaves p q → Leaves q r → Leaves p r
+  leaves_along p q r a b = record { stays = stays_along 0 p q r a.stays b.stays; lists = b.lists; part = part_trans a.part b.part }
 
   -- a transfer that ends a wait on another object
-  pub end_leaves : (frame t : ℕ) (p : Partition) → Valid frame t p → (limit : ℕ) (q : Queue) (a : Transfer) → SoundMove limit q a → SoundEnd p a → CalmEnd 0 p a → Leaves p (endedBy a p)
+  pub end_leaves : (frame t : ℕ) (p : Partition) → Valid frame t p → (limit : ℕ) (q : Queue) (a : Transfer) → SoundMove limit q a → SoundEnd p a → CalmEnd 0 p a → Leaves p (ended_by a p)
   end_leaves frame t p v limit q a h e c = record {
     stays = end_stays 0 p v.lists a e c;
-    lists = (ended-valid frame t p v limit q a h e).lists;
-    part = ended-part senders senders-some p v.lists a e;
+    lists = (ended_valid frame t p v limit q a h e).lists;
+    part = ended_part senders senders_some p v.lists a e;
   }
 
   -- the first who wait on another object let in
-  pub let-in-leaves : (frame t : ℕ) (p : Partition) → Valid frame t p → (o n : ℕ) → (o ≡ senders → ⊥) → Leaves p (changedAll served (take n (waiters o p)) p)
-  let-in-leaves frame t p v o n ne =
+  pub let_in_leaves : (frame t : ℕ) (p : Partition) → Valid frame t p → (o n : ℕ) → (o ≡ senders → ⊥) → Leaves p (changed_all served (take n (waiters o p)) p)
+  let_in_leaves frame t p v o n ne =
       let l = take n (waiters o p) in
-      let all = firsts-created frame t p v o n in
+      let all = firsts_created frame t p v o n in
       record {
-        stays = waits-stay 0 served (λ _. refl) o p v.lists ne l all (firsts-distinct frame t p v o n) (λ id c. on-queue p o id (take_in n (waiters o p) id c));
-        lists = (let-in-valid frame t p v o n).lists;
-        part = all-part senders senders-some served (λ x. inl refl) l p v.lists all;
+        stays = waits_stay 0 served (λ _. refl) o p v.lists ne l all (firsts_distinct frame t p v o n) (λ id c. on_queue_holds p o id (take_in n (waiters o p) id c));
+        lists = (let_in_valid frame t p v o n).lists;
+        part = all_part senders senders_some served (λ x. inl refl) l p v.lists all;
       }

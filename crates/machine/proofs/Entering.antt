@@ -15,24 +15,24 @@ use Rattle.machine.specs.declared.Time.TheVariants.{Never}
 use Rattle.machine.specs.declared.Wait.TheVariants.{Normal}
 use Rattle.machine.specs.declared.Partition.{Partition}
 use Rattle.machine.specs.declared.Process.{Process}
-use Rattle.machine.proofs.Calling.{calling-low, calling-sound, calling-valid, own-after}
-use Rattle.machine.proofs.Keeping.{distinct_from, each-changed, each-process, each-rest, from-range, process-created}
-use Rattle.machine.specs.Partition.{each, process, withModeAndLock}
-use Rattle.machine.proofs.EachCall.{each-call}
-use Rattle.machine.proofs.Plain.{each-plain}
+use Rattle.machine.proofs.Calling.{calling_low, calling_sound, calling_valid, own_after}
+use Rattle.machine.proofs.Keeping.{distinct_from, each_changed, each_process_holds, each_rest, from_range, process_created}
+use Rattle.machine.specs.Partition.{each, process, with_mode_and_lock}
+use Rattle.machine.proofs.EachCall.{each_call}
+use Rattle.machine.proofs.Plain.{each_plain}
 use Rattle.machine.proofs.Either.{either}
 use Rattle.machine.specs.Ids.{kept, members}
 use Rattle.machine.proofs.Tracking.{kept_same}
 use borrow.Author.Tests.{ne_eqb}
-use Rattle.machine.proofs.Tests.{not-both}
+use Rattle.machine.proofs.Tests.{not_both}
 use Rattle.machine.proofs.Bounds.{not_so}
-use Rattle.machine.specs.Theorems.Plain.{idsFrom, plainEach}
-use Rattle.machine.specs.Process.{ready, waitsForNormal}
-use Rattle.machine.proofs.Starts.{release-earliest}
-use Rattle.machine.specs.Windows.{releasePoint}
+use Rattle.machine.specs.Theorems.Plain.{ids_from, plain_each}
+use Rattle.machine.specs.Process.{ready, waits_for_normal}
+use Rattle.machine.proofs.Starts.{release_earliest}
+use Rattle.machine.specs.Windows.{release_point}
 use Rattle.machine.specs.Step.{step}
-use Rattle.machine.proofs.Queues.{all-arrive}
-use Rattle.machine.proofs.Reasons.{not-normal}
+use Rattle.machine.proofs.Queues.{all_arrive}
+use Rattle.machine.proofs.Reasons.{not_normal}
 use Rattle.machine.proofs.Terms.{terms}
 use Rattle.machine.proofs.Fairness.{none_in}
 
@@ -41,58 +41,58 @@ module _ (m : Module) (k : ℕ) (u : SoundModule m) (h : Calling m k) (early : (
   p = own m k
 
   v : Valid m.table.frame m.t p
-  v = calling-valid m k u h
+  v = calling_valid m k u h
 
   -- the next release point
   abbrev r : ℕ
-  r = releasePoint m.table m.t k
+  r = release_point m.table m.t k
 
   abbrev f : Process → Process
   f x = entering m.t r x
 
   abbrev q : Partition
-  q = withModeAndLock 3 0 0 p
+  q = with_mode_and_lock 3 0 0 p
 
-  gives_all : Puts m (enter k) 0 0 k (plainEach f q)
+  gives_all : Puts m (enter k) 0 0 k (plain_each f q)
   unfolding Checks
-  gives_all = ((((((each-call m k h).setMode (pos 3)).1 refl).1 (rw (ne_eqb p.mode 3 early))).1 refl).1 (rw (ne_eqb p.processCount 0 some))).0 refl r
-      (release-earliest m.table u.table m.t k (h.some, calling-low m k u h) u.time)
+  gives_all = ((((((each_call m k h).set_mode (pos 3)).1 refl).1 (rw (ne_eqb p.mode 3 early))).1 refl).1 (rw (ne_eqb p.processCount 0 some))).0 refl r
+      (release_earliest m.table u.table m.t k (h.some, calling_low m k u h) u.time)
 
   after_is : own (step m (enter k)).state k ≡ each f q
-  after_is = own-after m k u h _ gives_all ∙ sym (each-plain f q v.lists)
+  after_is = own_after m k u h _ gives_all ∙ sym (each_plain f q v.lists)
 
-  process-is : (id : ℕ) → Between 1 p.processCount id → process id (own (step m (enter k)).state k) ≡ f (process id p)
-  process-is id b = ap (process id) after_is ∙ each-process f q v.lists id b
+  process_is : (id : ℕ) → Between 1 p.processCount id → process id (own (step m (enter k)).state k) ≡ f (process id p)
+  process_is id b = ap (process id) after_is ∙ each_process_holds f q v.lists id b
 
   -- nobody is READY in a start mode
-  none-ready : (id : ℕ) → ready (process id p) ≡ false
-  none-ready id = not_so _ (λ t.
-      let b = process-created ready refl p v.lists id t in
-      let w = terms.readyIs (process id p) t in
-      not-both _ (ap waitsForNormal ((v.eachProcess id b).early w.0 (ne_eqb p.mode 3 early)).wait) (ap waitsForNormal w.2))
+  none_ready : (id : ℕ) → ready (process id p) ≡ false
+  none_ready id = not_so _ (λ t.
+      let b = process_created ready refl p v.lists id t in
+      let w = terms.ready_is (process id p) t in
+      not_both _ (ap waits_for_normal ((v.each_process id b).early w.0 (ne_eqb p.mode 3 early)).wait) (ap waits_for_normal w.2))
 
-  none-arrived : members p.arrival ≡ []
-  none-arrived = none_in (members p.arrival) (λ id c. not-both _ (sym (v.lists.arrivals.exact id) ∙ c) (none-ready id))
+  none_arrived : members p.arrival ≡ []
+  none_arrived = none_in (members p.arrival) (λ id c. not_both _ (sym (v.lists.arrivals.exact id) ∙ c) (none_ready id))
 
-  arrived : members (each f q).arrival ≡ kept (λ id. ready (f (process id p))) (idsFrom p.processCount 1)
+  arrived : members (each f q).arrival ≡ kept (λ id. ready (f (process id p))) (ids_from p.processCount 1)
   arrived =
-      ap (λ (x : Partition). members x.arrival) (each-changed f p.processCount 1 q)
-      ∙ all-arrive f (idsFrom p.processCount 1) q v.lists (λ y c. let b = from-range p.processCount 1 y c in (b.0, omega arith)) (distinct_from p.processCount 1) (λ y _. none-ready y)
-      ∙ ap (λ (l : List ℕ). l ++ kept (λ id. ready (f (process id p))) (idsFrom p.processCount 1)) none-arrived
+      ap (λ (x : Partition). members x.arrival) (each_changed f p.processCount 1 q)
+      ∙ all_arrive f (ids_from p.processCount 1) q v.lists (λ y c. let b = from_range p.processCount 1 y c in (b.0, omega arith)) (distinct_from p.processCount 1) (λ y _. none_ready y)
+      ∙ ap (λ (l : List ℕ). l ++ kept (λ id. ready (f (process id p))) (ids_from p.processCount 1)) none_arrived
 
-  started-ready : (x : Process) → x.wait ≡ Normal → x.given.period ≡ Never → ready (f x) ≡ (not x.suspended && eqb x.times.delay 0)
-  started-ready x w never = rw (w, never) (either (eqb x.times.delay 0) (λ e. rw e) (λ e. rw e))
+  started_ready : (x : Process) → x.wait ≡ Normal → x.given.period ≡ Never → ready (f x) ≡ (not x.suspended && eqb x.times.delay 0)
+  started_ready x w never = rw (w, never) (either (eqb x.times.delay 0) (λ e. rw e) (λ e. rw e))
 
   enters_is : Enters m k
   enters_is = record {
-    code = gives_all.codeIs;
-    mode = ap (λ (x : Partition). x.mode) after_is ∙ ap (λ (x : Partition). x.mode) (each-rest f q v.lists);
-    aperiodic = λ id b w never. process-is id b ∙ rw (w, never);
-    readyAt = λ id b w never. ap ready (process-is id b) ∙ started-ready (process id p) w never;
-    others = λ id b w. process-is id b ∙ rw (not-normal (process id p).wait w);
-    arrival = ap (λ (x : Partition). members x.arrival) after_is ∙ arrived ∙ kept_same _ _ (idsFrom p.processCount 1) (λ y c. let b = from-range p.processCount 1 y c in sym (ap ready (process-is y (b.0, omega arith))));
+    code = gives_all.code_is;
+    mode = ap (λ (x : Partition). x.mode) after_is ∙ ap (λ (x : Partition). x.mode) (each_rest f q v.lists);
+    aperiodic = λ id b w never. process_is id b ∙ rw (w, never);
+    ready_at = λ id b w never. ap ready (process_is id b) ∙ started_ready (process id p) w never;
+    others = λ id b w. process_is id b ∙ rw (not_normal (process id p).wait w);
+    arrival = ap (λ (x : Partition). members x.arrival) after_is ∙ arrived ∙ kept_same _ _ (ids_from p.processCount 1) (λ y c. let b = from_range p.processCount 1 y c in sym (ap ready (process_is y (b.0, omega arith))));
   }
 
 -- Law. Entering NORMAL.
 pub enters : (m : Module) (k : ℕ) → Calling m k → ((own m k).mode ≡ 3 → ⊥) → ((own m k).processCount ≡ 0 → ⊥) → Enters m k
-enters m k h = enters_is m k (calling-sound m k h) h
+enters m k h = enters_is m k (calling_sound m k h) h

@@ -20,47 +20,47 @@ use Rattle.machine.specs.declared.Time.TheVariants.{At}
 use Rattle.machine.specs.declared.Field.TheVariants.{Number}
 use Rattle.machine.specs.declared.Event.{Event as EventT}
 use Rattle.machine.specs.declared.Module.{Module}
-use Rattle.machine.specs.Limits.{blackboardLimit, durationLimit}
+use Rattle.machine.specs.Limits.{blackboard_limit, duration_limit}
 use Rattle.machine.specs.Fields.{field}
 use Rattle.machine.specs.Messages.{held, first, sent, received}
 use Rattle.machine.specs.Process.{object, carried, served, handed}
-use Rattle.machine.specs.Partition.{noBlackboard, process, buffer, blackboard, withBlackboards, stored, storedBuffer, movedIn, storedBlackboard, waiters, changedAll, applied}
+use Rattle.machine.specs.Partition.{no_blackboard, process, buffer, blackboard, with_blackboards, stored, stored_buffer, moved_in, stored_blackboard, waiters, changed_all, applied}
 use Rattle.machine.specs.Decisions.{checked, changed, awaiting}
-use Rattle.machine.specs.Buffers.{hasRoom, holds, sendBuffer, receives, receiveBuffer}
+use Rattle.machine.specs.Buffers.{has_room, holds, send_buffer, receives, receive_buffer}
 use Rattle.machine.specs.Blackboards.{show}
-use Rattle.machine.specs.Services.{services, callDecision}
-use Rattle.machine.specs.Places.{strayField}
-use Rattle.machine.specs.Module.{part, withPart}
+use Rattle.machine.specs.Services.{services, call_decision}
+use Rattle.machine.specs.Places.{stray_field}
+use Rattle.machine.specs.Module.{part, with_part}
 use Rattle.machine.specs.Step.{step}
 use Rattle.machine.specs.Theorems.Valid.{Between, SoundBuffer, Valid, SoundModule}
 use Rattle.machine.specs.Theorems.Events.{own, call_by, TimeOut, Calling, Gives}
 use Rattle.machine.specs.Theorems.Queues.{SameObjects, FirstServed, NoneServed, AllServed, has, Queues}
-use Rattle.machine.proofs.Bounds.{within_in, named-same, blackboard-in}
+use Rattle.machine.proofs.Bounds.{within_in, named_same, blackboard_in}
 use Rattle.machine.proofs.Either.{either}
-use Rattle.machine.proofs.Messages.{queue-first}
-use Rattle.machine.proofs.Lists.{cons-not}
+use Rattle.machine.proofs.Messages.{queue_first}
+use Rattle.machine.proofs.Lists.{cons_not}
 use Rattle.machine.proofs.Moves as Mo
-use Rattle.machine.proofs.Keeping.{stored-rest, changed-rest}
-use Rattle.machine.proofs.Sound.{carried-sound}
-use Rattle.machine.proofs.Calling.{field-number, calling-sound, calling-valid, calling-place, decides, gives, own-after, known}
-use Rattle.machine.proofs.Reached.{valid-sound, reached-valid}
-use Rattle.machine.proofs.Queues.{queue-after, first-created, ended_is, time-out, a-message, ends-handed, first-served-by, none-served, all-served-by, signal-first, signal-none, set-event}
-use Rattle.machine.proofs.Orders.{rest-objects, changes-queue, blackboard-queue}
-use Rattle.machine.proofs.Available.{none-waits}
-use Rattle.machine.proofs.Ends.{channel-ends}
-use Rattle.machine.proofs.Transfers.{channel-calls}
+use Rattle.machine.proofs.Keeping.{stored_rest, changed_rest}
+use Rattle.machine.proofs.Sound.{carried_sound}
+use Rattle.machine.proofs.Calling.{field_number, calling_sound, calling_valid, calling_place, decides, gives, own_after, known}
+use Rattle.machine.proofs.Reached.{valid_sound, reached_valid}
+use Rattle.machine.proofs.Queues.{queue_after, first_created, ended_is, time_out, a_message, ends_handed, first_served_by, none_served, all_served_by, signal_first_holds, signal_none_holds, set_event_holds}
+use Rattle.machine.proofs.Orders.{rest_objects, changes_queue, blackboard_queue}
+use Rattle.machine.proofs.Available.{none_waits}
+use Rattle.machine.proofs.Ends.{channel_ends}
+use Rattle.machine.proofs.Transfers.{channel_calls}
 
 module _ (m : Module) (k : ℕ) (u : SoundModule m) (h : Calling m k) where
   abbrev p : Partition
   p = own m k
 
   valid : Valid m.table.frame m.t p
-  valid = calling-valid m k u h
+  valid = calling_valid m k u h
 
   -- ---------------------------------------------------------------- buffers
   module _ (j : ℕ) (normal : p.mode ≡ 3) (b : Between 1 p.bufferCount j) where
     is_field : field (pos j) ≡ Number j
-    is_field = field-number j (omega (arith, b.1, valid.objects.buffers.numbered.few))
+    is_field = field_number j (omega (arith, b.1, valid.objects.buffers.numbered.few))
 
     abbrev sound : SoundBuffer (buffer j p)
     sound = Mo.sound m.table.frame m.t p valid j b
@@ -72,139 +72,139 @@ module _ (m : Module) (k : ℕ) (u : SoundModule m) (h : Calling m k) where
     size = Mo.size m.table.frame m.t p valid j b
 
     abbrev moving : Transfer → Partition
-    moving a = storedBuffer j (movedIn a (buffer j p)) p
+    moving a = stored_buffer j (moved_in a (buffer j p)) p
 
     -- SEND
-    module _ (x : ℕ) (a : ℤ) (ok : x ≤ durationLimit) (t : TimeOut a) where
+    module _ (x : ℕ) (a : ℤ) (ok : x ≤ duration_limit) (t : TimeOut a) where
       abbrev sends : EventT
       sends = call_by k 24 (pos j) (pos x) a (pos 0)
 
-      send-gives : (l : List ℕ) → waiters (object (Receiving j)) p ≡ l → hasRoom (buffer j p) ≡ true → Gives m sends 0 0 (At 0) (withPart (k - 1) (applied (Moved j (sent (get_or l 0 0) x)) p) m)
-      unfolding callDecision services strayField sendBuffer awaiting checked
-      send-gives l e room =
+      send_gives : (l : List ℕ) → waiters (object (Receiving j)) p ≡ l → has_room (buffer j p) ≡ true → Gives m sends 0 0 (At 0) (with_part (k - 1) (applied (Moved j (sent (get_or l 0 0) x)) p) m)
+      unfolding call_decision services stray_field send_buffer awaiting checked
+      send_gives l e room =
           gives m k u h 24 (pos j) (pos x) a (pos 0) (omega arith) (omega arith) refl (changed (Moved j (sent (get_or l 0 0) x)))
-          (rw (is_field, field-number x (omega arith), known m k u h j p.bufferCount b, eq-eqb p.mode 3 normal, a-message x ok, time-out a t, room, e))
+          (rw (is_field, field_number x (omega arith), known m k u h j p.bufferCount b, eq-eqb p.mode 3 normal, a_message x ok, time_out a t, room, e))
 
-      send-first : (id : ℕ) (rest : List ℕ) → waiters (object (Receiving j)) p ≡ id ∷ rest → FirstServed m k sends (object (Receiving j)) id rest x × SameObjects p (own (step m sends).state k)
+      send_first_holds : (id : ℕ) (rest : List ℕ) → waiters (object (Receiving j)) p ≡ id ∷ rest → FirstServed m k sends (object (Receiving j)) id rest x × SameObjects p (own (step m sends).state k)
       unfolding sent
-      send-first id rest e =
-          let none : (buffer j p).queue.len ≡ 0 = either (holds (buffer j p)) (λ s. absurd (cons-not id rest (sym e ∙ none-waits m h.reached (k - 1) (calling-place m k u h) 4 j s))) (λ s. omega (arith, ltb-false 0 (buffer j p).queue.len s)) in
-          let g = send-gives (id ∷ rest) e (lt-ltb (buffer j p).queue.len (buffer j p).limit (omega (arith, none, sound.limit.0))) in
+      send_first_holds id rest e =
+          let none : (buffer j p).queue.len ≡ 0 = either (holds (buffer j p)) (λ s. absurd (cons_not id rest (sym e ∙ none_waits m h.reached (k - 1) (calling_place m k u h) 4 j s))) (λ s. omega (arith, ltb-false 0 (buffer j p).queue.len s)) in
+          let g = send_gives (id ∷ rest) e (lt-ltb (buffer j p).queue.len (buffer j p).limit (omega (arith, none, sound.limit.0))) in
           let q = stored id (handed x (process id p)) p in
-          let c = first-created (object (Receiving j)) (λ z. omega arith) p valid.lists id rest e in
-          let is : applied (Moved j (sent id x)) p ≡ q = rw (ne_eqb id 0 (λ z. omega (arith, c.0)), Mo.handed-same m.table.frame m.t p valid j b id x) in
+          let c = first_created (object (Receiving j)) (λ z. omega arith) p valid.lists id rest e in
+          let is : applied (Moved j (sent id x)) p ≡ q = rw (ne_eqb id 0 (λ z. omega (arith, c.0)), Mo.handed_same m.table.frame m.t p valid j b id x) in
           let g = rw is at g in (
-            first-served-by m k u h (object (Receiving j)) (λ z. omega arith) p valid.lists (λ _. refl) (handed x) (ends-handed x) id rest e 0 sends g,
-            rw (own-after m k u h q g) (rest-objects p q (stored-rest p id (handed x (process id p)))),
+            first_served_by m k u h (object (Receiving j)) (λ z. omega arith) p valid.lists (λ _. refl) (handed x) (ends_handed x) id rest e 0 sends g,
+            rw (own_after m k u h q g) (rest_objects p q (stored_rest p id (handed x (process id p)))),
           )
 
-      send-none : waiters (object (Receiving j)) p ≡ [] → (buffer j p).queue.len < (buffer j p).limit → NoneServed m k sends (object (Receiving j)) × (held (buffer j (own (step m sends).state k)).queue ≡ messages ++ (x ∷ []))
+      send_none_holds : waiters (object (Receiving j)) p ≡ [] → (buffer j p).queue.len < (buffer j p).limit → NoneServed m k sends (object (Receiving j)) × (held (buffer j (own (step m sends).state k)).queue ≡ messages ++ (x ∷ []))
       unfolding sent
-      send-none e room =
+      send_none_holds e room =
           let q = moving (Put x) in
-          let g = send-gives [] e (lt-ltb (buffer j p).queue.len (buffer j p).limit room) in (
-            none-served m k u h (object (Receiving j)) 0 sends q g (Mo.moving-queue m.table.frame m.t p valid j b (Put x) (object (Receiving j)) (λ z. omega arith) ∙ e) (Mo.moving-processes m.table.frame m.t p valid j b (Put x)),
-            rw (own-after m k u h q g) (Mo.moving-held m.table.frame m.t p valid j b (Put x) (room, ok)),
+          let g = send_gives [] e (lt-ltb (buffer j p).queue.len (buffer j p).limit room) in (
+            none_served m k u h (object (Receiving j)) 0 sends q g (Mo.moving_queue m.table.frame m.t p valid j b (Put x) (object (Receiving j)) (λ z. omega arith) ∙ e) (Mo.moving_processes m.table.frame m.t p valid j b (Put x)),
+            rw (own_after m k u h q g) (Mo.moving_held m.table.frame m.t p valid j b (Put x) (room, ok)),
           )
 
     -- RECEIVE
-    module _ (a : ℤ) (t : TimeOut a) (x : ℕ) (l : List ℕ) (first-is : messages ≡ x ∷ l) where
+    module _ (a : ℤ) (t : TimeOut a) (x : ℕ) (l : List ℕ) (first_is : messages ≡ x ∷ l) where
       abbrev takes : EventT
       takes = call_by k 25 (pos j) a (pos 0) (pos 0)
 
       some : 1 ≤ (buffer j p).queue.len
-      some = let z : length messages ≡ suc (length l) = ap length first-is in omega (arith, size)
+      some = let z : length messages ≡ suc (length l) = ap length first_is in omega (arith, size)
 
-      value-is : first (buffer j p).queue ≡ x
-      value-is = queue-first (buffer j p).limit (buffer j p).queue sound.queue ∙ ap (λ (r : List ℕ). get_or r 0 0) first-is
+      value_is_holds : first (buffer j p).queue ≡ x
+      value_is_holds = queue_first (buffer j p).limit (buffer j p).queue sound.queue ∙ ap (λ (r : List ℕ). get_or r 0 0) first_is
 
-      takes-as : (w : List ℕ) (d : Decision) → waiters (object (Sending j 0)) p ≡ w → receives (get_or w 0 0) j p ≡ d → decides m k u h 25 (pos j) a (pos 0) (pos 0) (omega arith) (omega arith) ≡ d
-      unfolding callDecision services receiveBuffer awaiting checked
-      takes-as w d e is =
-          rw (is_field, known m k u h j p.bufferCount b, eq-eqb p.mode 3 normal, time-out a t, lt-ltb 0 (buffer j p).queue.len some, e) is
+      takes_as : (w : List ℕ) (d : Decision) → waiters (object (Sending j 0)) p ≡ w → receives (get_or w 0 0) j p ≡ d → decides m k u h 25 (pos j) a (pos 0) (pos 0) (omega arith) (omega arith) ≡ d
+      unfolding call_decision services receive_buffer awaiting checked
+      takes_as w d e is =
+          rw (is_field, known m k u h j p.bufferCount b, eq-eqb p.mode 3 normal, time_out a t, lt-ltb 0 (buffer j p).queue.len some, e) is
 
-      receive-first : (id : ℕ) (rest : List ℕ) → waiters (object (Sending j 0)) p ≡ id ∷ rest
+      receive_first_holds : (id : ℕ) (rest : List ℕ) → waiters (object (Sending j 0)) p ≡ id ∷ rest
           → FirstServed m k takes (object (Sending j 0)) id rest (has m k id) × ((step m takes).answer.value ≡ x) × (held (buffer j (own (step m takes).state k)).queue ≡ l ++ (carried (process id p) ∷ []))
-      unfolding received strayField services
-      receive-first id rest e =
+      unfolding received stray_field services
+      receive_first_holds id rest e =
           let o = object (Sending j 0) in
           let c = LetIn id (carried (process id p)) in
           let r = moving c in
           let y = served (process id p) in
           let q = stored id y r in
-          let in_List = first-created o (λ z. omega arith) p valid.lists id rest e in
-          let is : applied (Moved j c) p ≡ q = ap (λ (z : Process). stored id (served z) r) (Mo.moving-process m.table.frame m.t p valid j b c id) in
-          let queue : waiters o r ≡ id ∷ rest = Mo.moving-queue m.table.frame m.t p valid j b c o (λ z. omega arith) ∙ e in
-          let small = carried-sound _ (process id p) (valid.eachProcess id in_List) in
-          let g = gives m k u h 25 (pos j) a (pos 0) (pos 0) (omega arith) (omega arith) refl (Changed (Moved j c) Nothing (first (buffer j p).queue)) (takes-as (id ∷ rest) _ e (rw (ne_eqb id 0 (λ z. omega (arith, in_List.0))))) in
+          let in_List = first_created o (λ z. omega arith) p valid.lists id rest e in
+          let is : applied (Moved j c) p ≡ q = ap (λ (z : Process). stored id (served z) r) (Mo.moving_process m.table.frame m.t p valid j b c id) in
+          let queue : waiters o r ≡ id ∷ rest = Mo.moving_queue m.table.frame m.t p valid j b c o (λ z. omega arith) ∙ e in
+          let small = carried_sound _ (process id p) (valid.each_process id in_List) in
+          let g = gives m k u h 25 (pos j) a (pos 0) (pos 0) (omega arith) (omega arith) refl (Changed (Moved j c) Nothing (first (buffer j p).queue)) (takes_as (id ∷ rest) _ e (rw (ne_eqb id 0 (λ z. omega (arith, in_List.0))))) in
           let g = rw is at g in (
-            first-served-by m k u h o (λ z. omega arith) r (Mo.moving-listed m.table.frame m.t p valid j b c) (Mo.moving-process m.table.frame m.t p valid j b c) served ended_is id rest queue (first (buffer j p).queue) takes g,
-            g.valueIs ∙ value-is,
-            rw (own-after m k u h q g) (Mo.moving-stored m.table.frame m.t p valid j b c id y (some, small) ∙ ap (λ (s : List ℕ). drop 1 s ++ (carried (process id p) ∷ [])) first-is),
+            first_served_by m k u h o (λ z. omega arith) r (Mo.moving_listed m.table.frame m.t p valid j b c) (Mo.moving_process m.table.frame m.t p valid j b c) served ended_is id rest queue (first (buffer j p).queue) takes g,
+            g.value_is ∙ value_is_holds,
+            rw (own_after m k u h q g) (Mo.moving_stored m.table.frame m.t p valid j b c id y (some, small) ∙ ap (λ (s : List ℕ). drop 1 s ++ (carried (process id p) ∷ [])) first_is),
           )
 
-      receive-none : waiters (object (Sending j 0)) p ≡ [] → NoneServed m k takes (object (Sending j 0)) × ((step m takes).answer.value ≡ x) × (held (buffer j (own (step m takes).state k)).queue ≡ l)
-      unfolding received strayField services
-      receive-none e =
+      receive_none_holds : waiters (object (Sending j 0)) p ≡ [] → NoneServed m k takes (object (Sending j 0)) × ((step m takes).answer.value ≡ x) × (held (buffer j (own (step m takes).state k)).queue ≡ l)
+      unfolding received stray_field services
+      receive_none_holds e =
           let o = object (Sending j 0) in
           let q = moving Taken in
-          let g = gives m k u h 25 (pos j) a (pos 0) (pos 0) (omega arith) (omega arith) refl (Changed (Moved j Taken) Nothing (first (buffer j p).queue)) (takes-as [] _ e refl) in (
-            none-served m k u h o (first (buffer j p).queue) takes q g (Mo.moving-queue m.table.frame m.t p valid j b Taken o (λ z. omega arith) ∙ e) (Mo.moving-processes m.table.frame m.t p valid j b Taken),
-            g.valueIs ∙ value-is,
-            rw (own-after m k u h q g) (Mo.moving-held m.table.frame m.t p valid j b Taken some ∙ ap (drop 1) first-is),
+          let g = gives m k u h 25 (pos j) a (pos 0) (pos 0) (omega arith) (omega arith) refl (Changed (Moved j Taken) Nothing (first (buffer j p).queue)) (takes_as [] _ e refl) in (
+            none_served m k u h o (first (buffer j p).queue) takes q g (Mo.moving_queue m.table.frame m.t p valid j b Taken o (λ z. omega arith) ∙ e) (Mo.moving_processes m.table.frame m.t p valid j b Taken),
+            g.value_is ∙ value_is_holds,
+            rw (own_after m k u h q g) (Mo.moving_held m.table.frame m.t p valid j b Taken some ∙ ap (drop 1) first_is),
           )
 
   -- ---------------------------------------------------------------- blackboards
   module _ (j : ℕ) (b : Between 1 p.blackboardCount j) where
-    low : j ≤ blackboardLimit
+    low : j ≤ blackboard_limit
     low = omega (arith, b.1, valid.objects.blackboards.numbered.few)
 
     the_field : field (pos j) ≡ Number j
-    the_field = field-number j (omega (arith, low))
+    the_field = field_number j (omega (arith, low))
 
     -- the blackboard stored
     abbrev board : Bool → ℕ → BlackboardT
     board shown x = record { name = (blackboard j p).name; shown = shown; message = x }
 
-    stored_is : (s : BlackboardT) → storedBlackboard j s p ≡ withBlackboards (set p.blackboards (j - 1) s) (max p.blackboardCount j) p
-    stored_is s = blackboard-in j s p (within_in blackboardLimit j b.0 low)
+    stored_is : (s : BlackboardT) → stored_blackboard j s p ≡ with_blackboards (set p.blackboards (j - 1) s) (max p.blackboardCount j) p
+    stored_is s = blackboard_in j s p (within_in blackboard_limit j b.0 low)
 
-    stored-has : (s : BlackboardT) → blackboard j (storedBlackboard j s p) ≡ s
-    stored-has s = rw (stored_is s) (named-same blackboardLimit noBlackboard j s p.blackboards b.0 low (omega (arith, low, valid.objects.blackboards.numbered.size)))
+    stored_has : (s : BlackboardT) → blackboard j (stored_blackboard j s p) ≡ s
+    stored_has s = rw (stored_is s) (named_same blackboard_limit no_blackboard j s p.blackboards b.0 low (omega (arith, low, valid.objects.blackboards.numbered.size)))
 
-    show-all : (x : ℕ) → x ≤ durationLimit → let e = call_by k 27 (pos j) (pos x) (pos 0) (pos 0) in
+    show_all : (x : ℕ) → x ≤ duration_limit → let e = call_by k 27 (pos j) (pos x) (pos 0) (pos 0) in
         AllServed m k e (object (Blackboard j)) (λ _. x) × (blackboard j (own (step m e).state k) ≡ board true x)
-    unfolding callDecision services strayField show checked
-    show-all x ok =
+    unfolding call_decision services stray_field show checked
+    show_all x ok =
         let o = object (Blackboard j) in
         let e = call_by k 27 (pos j) (pos x) (pos 0) (pos 0) in
         let s = board true x in
-        let r = storedBlackboard j s p in
-        let q = changedAll (handed x) (waiters o r) r in
-        let g = gives m k u h 27 (pos j) (pos x) (pos 0) (pos 0) (omega arith) (omega arith) refl (Changed (StoredBlackboard j s) (Handed o x) 0) (rw (the_field, field-number x (omega arith), known m k u h j p.blackboardCount b, a-message x ok)) in (
-          all-served-by m k u h o (λ z. omega arith) r (rw (stored_is s) valid.lists) (blackboard-queue p valid.lists o (λ z. omega arith) j s) (λ y. rw (stored_is s)) (rw (stored_is s)) (handed x) (ends-handed x) e g,
-          rw (own-after m k u h q g) (ap (λ (z : Partition). blackboard j z) (changed-rest (handed x) (waiters o r) r) ∙ stored-has s),
+        let r = stored_blackboard j s p in
+        let q = changed_all (handed x) (waiters o r) r in
+        let g = gives m k u h 27 (pos j) (pos x) (pos 0) (pos 0) (omega arith) (omega arith) refl (Changed (StoredBlackboard j s) (Handed o x) 0) (rw (the_field, field_number x (omega arith), known m k u h j p.blackboardCount b, a_message x ok)) in (
+          all_served_by m k u h o (λ z. omega arith) r (rw (stored_is s) valid.lists) (blackboard_queue p valid.lists o (λ z. omega arith) j s) (λ y. rw (stored_is s)) (rw (stored_is s)) (handed x) (ends_handed x) e g,
+          rw (own_after m k u h q g) (ap (λ (z : Partition). blackboard j z) (changed_rest (handed x) (waiters o r) r) ∙ stored_has s),
         )
 
 -- Law. A waiter joins its object's queue last, ended waits leave it and the others keep their order, the first is served first, and nobody waits for
 -- what is there.
 pub queues : Queues
 queues = record {
-  events = queue-after;
-  changes = λ m h i l. changes-queue (part m i) ((valid-sound m (reached-valid m h) i l).eachPartition i l).lists;
-  none = none-waits;
-  ends = channel-ends;
-  channels = channel-calls;
-  calls = λ m k h j. let u = calling-sound m k h in record {
-    signalFirst = λ id rest b below. signal-first m k u h j b below id rest;
-    signalNone = signal-none m k u h j;
-    setEvent = set-event m k u h j;
+  events = queue_after;
+  changes = λ m h i l. changes_queue (part m i) ((valid_sound m (reached_valid m h) i l).each_partition i l).lists;
+  none = none_waits;
+  ends = channel_ends;
+  channels = channel_calls;
+  calls = λ m k h j. let u = calling_sound m k h in record {
+    signal_first = λ id rest b below. signal_first_holds m k u h j b below id rest;
+    signal_none = signal_none_holds m k u h j;
+    set_event = set_event_holds m k u h j;
   };
-  messages = λ m k h j. let u = calling-sound m k h in record {
-    sendFirst = λ x id rest a normal b e ok t. send-first m k u h j normal b x a ok t id rest e;
-    sendNone = λ x a normal b e room ok t. send-none m k u h j normal b x a ok t e room;
-    receiveFirst = λ x l id rest a normal b is e t. receive-first m k u h j normal b a t x l is id rest e;
-    receiveNone = λ x l a normal b is e t. receive-none m k u h j normal b a t x l is e;
-    show = λ x b ok. show-all m k u h j b x ok;
+  messages = λ m k h j. let u = calling_sound m k h in record {
+    send_first = λ x id rest a normal b e ok t. send_first_holds m k u h j normal b x a ok t id rest e;
+    send_none = λ x a normal b e room ok t. send_none_holds m k u h j normal b x a ok t e room;
+    receive_first = λ x l id rest a normal b is e t. receive_first_holds m k u h j normal b a t x l is id rest e;
+    receive_none = λ x l a normal b is e t. receive_none_holds m k u h j normal b a t x l is e;
+    show = λ x b ok. show_all m k u h j b x ok;
   };
 }

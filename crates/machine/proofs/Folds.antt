@@ -15,65 +15,65 @@ use Rattle.machine.specs.declared.Module.{Module}
 use Rattle.machine.specs.declared.Message.{Message}
 use Rattle.machine.specs.declared.Table.{Table}
 use Rattle.machine.specs.Ids.{members}
-use Rattle.machine.specs.Partition.{process, stored, preferred, chosen, changedAll, eachFrom}
+use Rattle.machine.specs.Partition.{process, stored, preferred, chosen, changed_all, each_from}
 use Rattle.machine.specs.Module.{channel}
-use Rattle.machine.specs.Decisions.{noMessage}
-use Rattle.machine.specs.Ticks.{tickAt, tickTo}
+use Rattle.machine.specs.Decisions.{no_message}
+use Rattle.machine.specs.Ticks.{tick_at, tick_to}
 use Rattle.machine.specs.Channels.{kept_to}
-use Rattle.machine.proofs.Lists.{next-member, no_member}
+use Rattle.machine.proofs.Lists.{next_member, no_member}
 
 -- a list of ids, from place i on
 module _ (q : Ids) (i : ℕ) (p : Partition) where
-  pub changed-more : (f : Process → Process) → i < length (members q) → changedAll f (drop i (members q)) p ≡ changedAll f (drop (i + 1) (members q)) (stored (get_or q.items i 0) (f (process (get_or q.items i 0) p)) p)
-  unfolding changedAll
-  changed-more f h = rw (next-member q i h)
+  pub changed_more : (f : Process → Process) → i < length (members q) → changed_all f (drop i (members q)) p ≡ changed_all f (drop (i + 1) (members q)) (stored (get_or q.items i 0) (f (process (get_or q.items i 0) p)) p)
+  unfolding changed_all
+  changed_more f h = rw (next_member q i h)
 
-  pub changed-done : (f : Process → Process) → length (members q) ≤ i → changedAll f (drop i (members q)) p ≡ p
-  unfolding changedAll
-  changed-done f h = rw (no_member q i h)
+  pub changed_done : (f : Process → Process) → length (members q) ≤ i → changed_all f (drop i (members q)) p ≡ p
+  unfolding changed_all
+  changed_done f h = rw (no_member q i h)
 
   pub chosen_more : (c : Choice) → i < length (members q) → chosen p c (drop i (members q)) ≡ chosen p (preferred c (get_or q.items i 0) (process (get_or q.items i 0) p).current) (drop (i + 1) (members q))
   unfolding chosen
-  chosen_more c h = rw (next-member q i h)
+  chosen_more c h = rw (next_member q i h)
 
-  pub chosen-done : (c : Choice) → length (members q) ≤ i → chosen p c (drop i (members q)) ≡ c
+  pub chosen_done : (c : Choice) → length (members q) ≤ i → chosen p c (drop i (members q)) ≡ c
   unfolding chosen
-  chosen-done c h = rw (no_member q i h)
+  chosen_done c h = rw (no_member q i h)
 
 -- the ids 1 to n, after id
 less_one : (n id : ℕ) → id < n → n - id ≡ suc (n - (id + 1))
 less_one n id h = omega arith
 
 module _ (n id : ℕ) (p : Partition) where
-  pub each_more : (f : Process → Process) → id < n → eachFrom f (n - id) (id + 1) p ≡ eachFrom f (n - (id + 1)) (id + 1 + 1) (stored (id + 1) (f (process (id + 1) p)) p)
-  unfolding eachFrom
+  pub each_more : (f : Process → Process) → id < n → each_from f (n - id) (id + 1) p ≡ each_from f (n - (id + 1)) (id + 1 + 1) (stored (id + 1) (f (process (id + 1) p)) p)
+  unfolding each_from
   each_more f h = rw (less_one n id h)
 
-  pub each-done : (f : Process → Process) → n ≤ id → eachFrom f (n - id) (id + 1) p ≡ p
-  unfolding eachFrom
-  each-done f h = let e : n - id ≡ 0 = omega arith in rw e
+  pub each_done : (f : Process → Process) → n ≤ id → each_from f (n - id) (id + 1) p ≡ p
+  unfolding each_from
+  each_done f h = let e : n - id ≡ 0 = omega arith in rw e
 
 -- the first partitions, the first channels
 module _ (n : ℕ) (m : Module) where
-  pub tick-to-more : tickTo (n + 1) m ≡ tickAt n (tickTo n m)
-  unfolding tickTo
-  tick-to-more = rw (add-one n)
+  pub tick_to_more : tick_to (n + 1) m ≡ tick_at n (tick_to n m)
+  unfolding tick_to
+  tick_to_more = rw (add-one n)
 
 module _ (m : Module) where
-  pub tick-to-none : tickTo 0 m ≡ m
-  unfolding tickTo
-  tick-to-none = refl
+  pub tick_to_none : tick_to 0 m ≡ m
+  unfolding tick_to
+  tick_to_none = refl
 
 -- the messages on the first channels
 module _ (T : Table) (k n : ℕ) (l : List Message) where
-  pub kept-erased : (channel T n).destination ≡ k → set (kept_to T k n l) n noMessage ≡ kept_to T k (n + 1) l
+  pub kept_erased : (channel T n).destination ≡ k → set (kept_to T k n l) n no_message ≡ kept_to T k (n + 1) l
   unfolding kept_to
-  kept-erased e = rw (add-one n, kept_to, eq-eqb _ _ e)
+  kept_erased e = rw (add-one n, kept_to, eq-eqb _ _ e)
 
   pub kept_same : ((channel T n).destination ≡ k → ⊥) → kept_to T k n l ≡ kept_to T k (n + 1) l
   unfolding kept_to
   kept_same e = rw (add-one n, kept_to, ne_eqb _ _ e)
 
-pub kept-none : (T : Table) (k : ℕ) (l : List Message) → l ≡ kept_to T k 0 l
+pub kept_none : (T : Table) (k : ℕ) (l : List Message) → l ≡ kept_to T k 0 l
 unfolding kept_to
-kept-none T k l = refl
+kept_none T k l = refl

@@ -29,104 +29,104 @@ use Rattle.machine.specs.declared.Field.{Field}
 use Rattle.machine.specs.declared.Field.TheVariants.{Number, MinusOne, Other}
 use Rattle.machine.specs.declared.Time.{Time}
 use Rattle.machine.specs.declared.Time.TheVariants.{Never, At}
-use Rattle.machine.specs.Limits.{processLimit, semaphoreLimit, eventLimit, bufferLimit, blackboardLimit, nameLimit, priorityLimit, modeLimit, durationLimit, timeLimit, frameLimit, greatestValue}
-use Rattle.machine.specs.Messages.{queueOf, sent, received}
+use Rattle.machine.specs.Limits.{process_limit, semaphore_limit, event_limit, buffer_limit, blackboard_limit, name_limit, priority_limit, mode_limit, duration_limit, time_limit, frame_limit, greatest_value}
+use Rattle.machine.specs.Messages.{queue_of, sent, received}
 use Rattle.machine.specs.Ids.{members}
-use Rattle.machine.specs.Fields.{is_number, between, isDuration, isMinusOne, isTimeout, isName, number_of, timeOf}
-use Rattle.machine.specs.Process.{createdProcess, blankProcess, later, object, onObject, periodic, ready, carried, served, handed, entered, ticked}
-use Rattle.machine.specs.Partition.{normalMode, idleMode, locked, by_id, nothingCreated, noSemaphore, noEvent, noBuffer, noBlackboard, process, semaphore, buffer, blackboard, emptyBuffer, movedIn, endedBy, withMode, stored, waitsOn, waiters, firstWaiter, changedAll, each, running, tickPartition, enteredNormal, created, storedSemaphore, storedEvent, storedBuffer, storedBlackboard, applied, partitionAfter, freshPartition}
-use Rattle.machine.specs.Scheduling.{isMultiple, above, isPriority, admissible, reaches, status}
-use Rattle.machine.specs.Semaphores.{withValue, withUp, oneMore, signalled}
+use Rattle.machine.specs.Fields.{is_number, between, is_duration, is_minus_one, is_timeout, is_name, number_of, time_of}
+use Rattle.machine.specs.Process.{created_process, blank_process, later, object, on_object, periodic, ready, carried, served, handed, entered, ticked}
+use Rattle.machine.specs.Partition.{normal_mode, idle_mode, locked, by_id, nothing_created, no_semaphore, no_event, no_buffer, no_blackboard, process, semaphore, buffer, blackboard, empty_buffer, moved_in, ended_by, with_mode, stored, waits_on, waiters, first_waiter, changed_all, each, running, tick_partition, entered_normal, created, stored_semaphore, stored_event, stored_buffer, stored_blackboard, applied, partition_after, fresh_partition}
+use Rattle.machine.specs.Scheduling.{is_multiple, above, is_priority, admissible, reaches, status}
+use Rattle.machine.specs.Semaphores.{with_value, with_up, one_more, signalled}
 use Rattle.machine.specs.Theorems.Valid.{counted, Between, contains, Distinct, Tracks, Timeout, Ahead, SoundPeriod, SoundCapacity, NotAbove, Below, SoundGiven, SoundProcess, SoundSemaphore, SoundEvent, SoundBuffer, SoundBlackboard, AllMessages, SoundQueue, Numbered, Family, KnownOrNext, ObjectsIn, ListedIn, setting_of, SoundLock, LockIn, HolderReady, Valid, SoundContext, SoundMessage, SoundMove, SoundEnd, SoundChange, SoundDecision, NotAfter}
-use Rattle.machine.proofs.Tests.{by-test, by_tests, not-both}
-use Rattle.machine.proofs.Bounds.{not_so, or-false-parts, and-true-parts, within_in, named-same, named_other, named-replicate, created-in, semaphore-in, event-in, buffer-in, blackboard-in}
+use Rattle.machine.proofs.Tests.{by_test, by_tests, not_both}
+use Rattle.machine.proofs.Bounds.{not_so, or_false_parts, and_true_parts, within_in, named_same, named_other, named_replicate, created_in, semaphore_in, event_in, buffer_in, blackboard_in}
 use Rattle.machine.proofs.Either.{either}
-use Rattle.machine.proofs.Fields.{in-limits}
-use Rattle.machine.proofs.Tracking.{contains-kept, distinct-kept, tracks_same}
-use Rattle.machine.proofs.Messages.{queue-sound, moved-in-sound}
-use Rattle.machine.proofs.Keeping.{numbered-set, all_set, family-set, process-created, each-rest, each-listed, each-process, AllCreated, changed-rest, changed-listed, changed-process, valid-of, stored-valid, arrived-valid}
-use Rattle.machine.proofs.Sound.{outside-normal, more-objects, ahead-later, created-sound, entered-sound, ended-sound, handed-sound, carried-sound, ticked-sound, ticked-ready, ready-no-object, object-not-ready, early-waits}
-use Rattle.machine.proofs.Running.{holder-runs, running-ready}
-use Rattle.machine.specs.Decisions.{startMode, dormant}
+use Rattle.machine.proofs.Fields.{in_limits}
+use Rattle.machine.proofs.Tracking.{contains_kept, distinct_kept, tracks_same}
+use Rattle.machine.proofs.Messages.{queue_sound, moved_in_sound}
+use Rattle.machine.proofs.Keeping.{numbered_set, all_set, family_set, process_created, each_rest, each_listed, each_process_holds, AllCreated, changed_rest, changed_listed, changed_process, valid_of, stored_valid, arrived_valid}
+use Rattle.machine.proofs.Sound.{outside_normal, more_objects, ahead_later, created_sound, entered_sound, ended_sound, handed_sound, carried_sound, ticked_sound, ticked_ready, ready_no_object, object_not_ready, early_waits}
+use Rattle.machine.proofs.Running.{holder_runs, running_ready}
+use Rattle.machine.specs.Decisions.{start_mode, dormant}
 
 -- ---------------------------------------------------------------- the preemption lock
 -- level 0 with no holder
-pub no-lock : (normal isReady : Bool) → SoundLock 0 0 normal isReady
-no-lock normal isReady = record { few = omega arith; free = λ _. refl; normal = λ some. absurd (omega arith); held = λ some. absurd (omega arith) }
+pub no_lock : (normal is_ready : Bool) → SoundLock 0 0 normal is_ready
+no_lock normal is_ready = record { few = omega arith; free = λ _. refl; normal = λ some. absurd (omega arith); held = λ some. absurd (omega arith) }
 
-holder-created : (p : Partition) → ListedIn p → LockIn p → 0 < p.level → Between 1 p.processCount p.holder
-holder-created p v lock some = process-created ready refl p v p.holder (lock.held some)
+holder_created : (p : Partition) → ListedIn p → LockIn p → 0 < p.level → Between 1 p.processCount p.holder
+holder_created p v lock some = process_created ready refl p v p.holder (lock.held some)
 
 -- a process that is not READY does not hold it
-pub not-holder : (p : Partition) → LockIn p → (id : ℕ) (b : Bool) → ready (process id p) ≡ false → 0 < p.level → id ≡ p.holder → b ≡ true
-not-holder p lock id b off some e = not-both _ (lock.held some) (ap (λ y. ready (process y p)) (sym e) ∙ off)
+pub not_holder : (p : Partition) → LockIn p → (id : ℕ) (b : Bool) → ready (process id p) ≡ false → 0 < p.level → id ≡ p.holder → b ≡ true
+not_holder p lock id b off some e = not_both _ (lock.held some) (ap (λ y. ready (process y p)) (sym e) ∙ off)
 
 -- ---------------------------------------------------------------- the tick
-pub tick-valid : (frame t : ℕ) (p : Partition) → Valid frame t p → Valid frame (t + 1) (tickPartition (t + 1) p)
-unfolding tickPartition
-tick-valid frame t p v = by-test (Valid frame (t + 1)) (normalMode p)
-    (λ e. valid-of frame (t + 1) p (each (ticked (t + 1)) p) (each-rest (ticked (t + 1)) p v.lists) v.mode v.lock (λ some. rw (each-process (ticked (t + 1)) p v.lists p.holder (holder-created p v.lists v.lock some)) (ticked-ready (t + 1) (process p.holder p) (v.lock.held some))) v.objects (each-listed (ticked (t + 1)) p v.lists) (λ id b.
-    rw (each-process (ticked (t + 1)) p v.lists id b) (ticked-sound frame t _ (normalMode p) e (process id p) (v.eachProcess id b))))
+pub tick_valid : (frame t : ℕ) (p : Partition) → Valid frame t p → Valid frame (t + 1) (tick_partition (t + 1) p)
+unfolding tick_partition
+tick_valid frame t p v = by_test (Valid frame (t + 1)) (normal_mode p)
+    (λ e. valid_of frame (t + 1) p (each (ticked (t + 1)) p) (each_rest (ticked (t + 1)) p v.lists) v.mode v.lock (λ some. rw (each_process_holds (ticked (t + 1)) p v.lists p.holder (holder_created p v.lists v.lock some)) (ticked_ready (t + 1) (process p.holder p) (v.lock.held some))) v.objects (each_listed (ticked (t + 1)) p v.lists) (λ id b.
+    rw (each_process_holds (ticked (t + 1)) p v.lists id b) (ticked_sound frame t _ (normal_mode p) e (process id p) (v.each_process id b))))
     (λ e. record {
       mode = v.mode;
       lock = v.lock;
       lists = v.lists;
       objects = v.objects;
-      eachProcess = λ id b. outside-normal (setting_of frame t p) (setting_of frame (t + 1) p) (process id p) e e refl (v.eachProcess id b);
+      each_process = λ id b. outside_normal (setting_of frame t p) (setting_of frame (t + 1) p) (process id p) e e refl (v.each_process id b);
     })
 
 -- ---------------------------------------------------------------- nothing created
-pub nothing-valid : (frame t mode : ℕ) → mode ≤ modeLimit → Valid frame t (nothingCreated mode)
+pub nothing_valid : (frame t mode : ℕ) → mode ≤ mode_limit → Valid frame t (nothing_created mode)
 unfolding contains Distinct
-nothing-valid frame t mode h = record {
+nothing_valid frame t mode h = record {
   mode = h;
-  lock = no-lock _ _;
+  lock = no_lock _ _;
   lists = record {
-    numbered = none processLimit blankProcess;
-    arrivals = record { canonical = refl; distinct = tt; exact = λ id. rw (named-replicate processLimit processLimit id blankProcess) };
-    waitings = record { canonical = refl; distinct = tt; exact = λ id. rw (named-replicate processLimit processLimit id blankProcess) };
+    numbered = none process_limit blank_process;
+    arrivals = record { canonical = refl; distinct = tt; exact = λ id. rw (named_replicate process_limit process_limit id blank_process) };
+    waitings = record { canonical = refl; distinct = tt; exact = λ id. rw (named_replicate process_limit process_limit id blank_process) };
   };
   objects = record {
-    semaphores = no-objects semaphoreLimit noSemaphore SoundSemaphore;
-    events = no-objects eventLimit noEvent SoundEvent;
-    buffers = no-objects bufferLimit noBuffer SoundBuffer;
-    blackboards = no-objects blackboardLimit noBlackboard SoundBlackboard;
+    semaphores = no_objects semaphore_limit no_semaphore SoundSemaphore;
+    events = no_objects event_limit no_event SoundEvent;
+    buffers = no_objects buffer_limit no_buffer SoundBuffer;
+    blackboards = no_objects blackboard_limit no_blackboard SoundBlackboard;
   };
-  eachProcess = λ id b. absurd (omega (arith, b.0, b.1));
+  each_process = λ id b. absurd (omega (arith, b.0, b.1));
 }
   where
     none : {A : Type 0} (limit : ℕ) (d : A) → Numbered limit d (replicate limit d) 0
-    none limit d = record { size = length-replicate limit d; few = omega arith; past = λ id _. named-replicate limit limit id d }
+    none limit d = record { size = length-replicate limit d; few = omega arith; past = λ id _. named_replicate limit limit id d }
 
-    no-objects : {A : Type 0} (limit : ℕ) (d : A) (Sound : A → Type 0) → Family limit d Sound (replicate limit d) 0
-    no-objects limit d Sound = record { numbered = none limit d; each = λ k b. absurd (omega (arith, b.0, b.1)) }
+    no_objects : {A : Type 0} (limit : ℕ) (d : A) (Sound : A → Type 0) → Family limit d Sound (replicate limit d) 0
+    no_objects limit d Sound = record { numbered = none limit d; each = λ k b. absurd (omega (arith, b.0, b.1)) }
 
-pub fresh-valid : (frame t : ℕ) → Valid frame t freshPartition
-unfolding freshPartition
-fresh-valid frame t = nothing-valid frame t 1 (omega arith)
+pub fresh_valid : (frame t : ℕ) → Valid frame t fresh_partition
+unfolding fresh_partition
+fresh_valid frame t = nothing_valid frame t 1 (omega arith)
 
 -- outside NORMAL no process is READY
-pub none-ready : (frame t : ℕ) (p : Partition) → Valid frame t p → normalMode p ≡ false → (id : ℕ) → ready (process id p) ≡ false
-none-ready frame t p v n id = not_so (ready (process id p)) (λ k. not-both _ k (early-waits _ (process id p) (v.eachProcess id (process-created ready refl p v.lists id k)) n))
+pub none_ready : (frame t : ℕ) (p : Partition) → Valid frame t p → normal_mode p ≡ false → (id : ℕ) → ready (process id p) ≡ false
+none_ready frame t p v n id = not_so (ready (process id p)) (λ k. not_both _ k (early_waits _ (process id p) (v.each_process id (process_created ready refl p v.lists id k)) n))
 
 -- ---------------------------------------------------------------- what checks tell of fields
-not-zero : (n : ℕ) → is_number 0 (Number n) ≡ false → n ≡ 0 → ⊥
-not-zero n h e = eqb-false n 0 h e
+not_zero : (n : ℕ) → is_number 0 (Number n) ≡ false → n ≡ 0 → ⊥
+not_zero n h e = eqb-false n 0 h e
 
-pub duration-ahead : (t : ℕ) (a : Field) → t ≤ timeLimit → isDuration a ≡ true → is_number 0 a ≡ false → Ahead t (later (At t) (timeOf a))
-duration-ahead t (Number n) ends h z = ahead-later t n ends (not-zero n z) (in-limits 0 durationLimit (Number n) h).1
-duration-ahead t MinusOne ends h z = not-both _ h refl
-duration-ahead t Other ends h z = not-both _ h refl
+pub duration_ahead : (t : ℕ) (a : Field) → t ≤ time_limit → is_duration a ≡ true → is_number 0 a ≡ false → Ahead t (later (At t) (time_of a))
+duration_ahead t (Number n) ends h z = ahead_later t n ends (not_zero n z) (in_limits 0 duration_limit (Number n) h).1
+duration_ahead t MinusOne ends h z = not_both _ h refl
+duration_ahead t Other ends h z = not_both _ h refl
 
-pub timeout-ahead : (t : ℕ) (a : Field) → t ≤ timeLimit → isTimeout a ≡ true → is_number 0 a ≡ false → Timeout t (later (At t) (timeOf a))
-timeout-ahead t (Number n) ends h z = ahead-later t n ends (not-zero n z) (in-limits 0 durationLimit (Number n) h).1
-timeout-ahead t MinusOne ends h z = tt
-timeout-ahead t Other ends h z = not-both _ h refl
+pub timeout_ahead : (t : ℕ) (a : Field) → t ≤ time_limit → is_timeout a ≡ true → is_number 0 a ≡ false → Timeout t (later (At t) (time_of a))
+timeout_ahead t (Number n) ends h z = ahead_later t n ends (not_zero n z) (in_limits 0 duration_limit (Number n) h).1
+timeout_ahead t MinusOne ends h z = tt
+timeout_ahead t Other ends h z = not_both _ h refl
 
 -- ---------------------------------------------------------------- objects
 -- no object is lost
-counted-more : (a b c d a' b' c' d' : ℕ) → a ≤ a' → b ≤ b' → c ≤ c' → d ≤ d' → (kind : ℕ) → counted a b c d kind ≤ counted a' b' c' d' kind
-counted-more a b c d a' b' c' d' f g h k kind =
+counted_more : (a b c d a' b' c' d' : ℕ) → a ≤ a' → b ≤ b' → c ≤ c' → d ≤ d' → (kind : ℕ) → counted a b c d kind ≤ counted a' b' c' d' kind
+counted_more a b c d a' b' c' d' f g h k kind =
     by_tests (λ (x y : ℕ). x ≤ y) (eqb kind 1) _ refl (λ _. f) λ _.
     by_tests (λ (x y : ℕ). x ≤ y) (eqb kind 2) _ refl (λ _. g) λ _.
     by_tests (λ (x y : ℕ). x ≤ y) (eqb kind 3) _ refl (λ _. h) λ _.
@@ -134,18 +134,18 @@ counted-more a b c d a' b' c' d' f g h k kind =
     by_tests (λ (x y : ℕ). x ≤ y) (eqb kind 5) _ refl (λ _. k) λ _. omega arith
 
 -- the objects of q are sound and as many at least, and all else is as in p
-objects-valid : (frame t : ℕ) (p q : Partition) → Valid frame t p
+objects_valid : (frame t : ℕ) (p q : Partition) → Valid frame t p
     → q.mode ≡ p.mode → q.level ≡ p.level → q.holder ≡ p.holder → ListedIn q → q.processes ≡ p.processes → q.processCount ≡ p.processCount → ObjectsIn q
     → p.semaphoreCount ≤ q.semaphoreCount → p.eventCount ≤ q.eventCount → p.bufferCount ≤ q.bufferCount → p.blackboardCount ≤ q.blackboardCount
     → Valid frame t q
-objects-valid frame t p q v mode level holder lists processes count objects a b c d = record {
+objects_valid frame t p q v mode level holder lists processes count objects a b c d = record {
   mode = rw mode v.mode;
   lock = rw (mode, level, holder, processes) v.lock;
   lists = lists;
   objects = objects;
-  eachProcess = λ id r.
+  each_process = λ id r.
       rw (mode, processes)
-      (more-objects frame t (normalMode p) _ _ (counted-more _ _ _ _ _ _ _ _ a b c d) (process id p) (v.eachProcess id (r.0, omega (arith, r.1, count))));
+      (more_objects frame t (normal_mode p) _ _ (counted_more _ _ _ _ _ _ _ _ a b c d) (process id p) (v.each_process id (r.0, omega (arith, r.1, count))));
 }
 
 -- one stored that is known, or the next
@@ -153,32 +153,32 @@ module _ (frame t : ℕ) (p : Partition) (v : Valid frame t p) (k : ℕ) where
   abbrev o : ObjectsIn p
   o = v.objects
 
-  pub semaphore-valid : KnownOrNext semaphoreLimit p.semaphoreCount k → (s : SemaphoreT) → SoundSemaphore s → Valid frame t (storedSemaphore k s p)
-  semaphore-valid b s sound =
-      rw (semaphore-in k s p (within_in semaphoreLimit k b.0.0 b.1))
-      (objects-valid frame t p _ v refl refl refl v.lists refl refl
-      (record { semaphores = family-set o.semaphores k b s sound; events = o.events; buffers = o.buffers; blackboards = o.blackboards })
+  pub semaphore_valid : KnownOrNext semaphore_limit p.semaphoreCount k → (s : SemaphoreT) → SoundSemaphore s → Valid frame t (stored_semaphore k s p)
+  semaphore_valid b s sound =
+      rw (semaphore_in k s p (within_in semaphore_limit k b.0.0 b.1))
+      (objects_valid frame t p _ v refl refl refl v.lists refl refl
+      (record { semaphores = family_set o.semaphores k b s sound; events = o.events; buffers = o.buffers; blackboards = o.blackboards })
       (omega arith) (omega arith) (omega arith) (omega arith))
 
-  pub event-valid : KnownOrNext eventLimit p.eventCount k → (s : EventState) → SoundEvent s → Valid frame t (storedEvent k s p)
-  event-valid b s sound =
-      rw (event-in k s p (within_in eventLimit k b.0.0 b.1))
-      (objects-valid frame t p _ v refl refl refl v.lists refl refl
-      (record { semaphores = o.semaphores; events = family-set o.events k b s sound; buffers = o.buffers; blackboards = o.blackboards })
+  pub event_valid : KnownOrNext event_limit p.eventCount k → (s : EventState) → SoundEvent s → Valid frame t (stored_event k s p)
+  event_valid b s sound =
+      rw (event_in k s p (within_in event_limit k b.0.0 b.1))
+      (objects_valid frame t p _ v refl refl refl v.lists refl refl
+      (record { semaphores = o.semaphores; events = family_set o.events k b s sound; buffers = o.buffers; blackboards = o.blackboards })
       (omega arith) (omega arith) (omega arith) (omega arith))
 
-  pub buffer-valid : KnownOrNext bufferLimit p.bufferCount k → (s : Buffer) → SoundBuffer s → Valid frame t (storedBuffer k s p)
-  buffer-valid b s sound =
-      rw (buffer-in k s p (within_in bufferLimit k b.0.0 b.1))
-      (objects-valid frame t p _ v refl refl refl v.lists refl refl
-      (record { semaphores = o.semaphores; events = o.events; buffers = family-set o.buffers k b s sound; blackboards = o.blackboards })
+  pub buffer_valid : KnownOrNext buffer_limit p.bufferCount k → (s : Buffer) → SoundBuffer s → Valid frame t (stored_buffer k s p)
+  buffer_valid b s sound =
+      rw (buffer_in k s p (within_in buffer_limit k b.0.0 b.1))
+      (objects_valid frame t p _ v refl refl refl v.lists refl refl
+      (record { semaphores = o.semaphores; events = o.events; buffers = family_set o.buffers k b s sound; blackboards = o.blackboards })
       (omega arith) (omega arith) (omega arith) (omega arith))
 
-  pub blackboard-valid : KnownOrNext blackboardLimit p.blackboardCount k → (s : BlackboardT) → SoundBlackboard s → Valid frame t (storedBlackboard k s p)
-  blackboard-valid b s sound =
-      rw (blackboard-in k s p (within_in blackboardLimit k b.0.0 b.1))
-      (objects-valid frame t p _ v refl refl refl v.lists refl refl
-      (record { semaphores = o.semaphores; events = o.events; buffers = o.buffers; blackboards = family-set o.blackboards k b s sound })
+  pub blackboard_valid : KnownOrNext blackboard_limit p.blackboardCount k → (s : BlackboardT) → SoundBlackboard s → Valid frame t (stored_blackboard k s p)
+  blackboard_valid b s sound =
+      rw (blackboard_in k s p (within_in blackboard_limit k b.0.0 b.1))
+      (objects_valid frame t p _ v refl refl refl v.lists refl refl
+      (record { semaphores = o.semaphores; events = o.events; buffers = o.buffers; blackboards = family_set o.blackboards k b s sound })
       (omega arith) (omega arith) (omega arith) (omega arith))
 
 -- one that is known
@@ -188,155 +188,155 @@ known_next limit count k b few = ((b.0, omega (arith, b.1)), omega (arith, b.1))
 -- ---------------------------------------------------------------- queues
 -- the queue of an object holds just the processes that wait on it, each once
 module _ (p : Partition) (v : ListedIn p) (o : ℕ) where
-  pub waiters-distinct : Distinct (waiters o p)
+  pub waiters_distinct : Distinct (waiters o p)
   unfolding waiters
-  waiters-distinct = distinct-kept (waitsOn o p) (members p.waiting) v.waitings.distinct
+  waiters_distinct = distinct_kept (waits_on o p) (members p.waiting) v.waitings.distinct
 
-  pub waiters-exact : (o ≡ 0 → ⊥) → (id : ℕ) → contains id (waiters o p) ≡ waitsOn o p id
+  pub waiters_exact : (o ≡ 0 → ⊥) → (id : ℕ) → contains id (waiters o p) ≡ waits_on o p id
   unfolding waiters
-  waiters-exact some id = contains-kept (waitsOn o p) id (members p.waiting) ∙ rw (v.waitings.exact id) (either (waitsOn o p id)
+  waiters_exact some id = contains_kept (waits_on o p) id (members p.waiting) ∙ rw (v.waitings.exact id) (either (waits_on o p id)
       (λ e. rw (e, ne_eqb (object (process id p).wait) 0 (λ z. some (sym (eqb-true _ o e) ∙ z))))
       (λ e. rw e))
 
-  pub waiters-on : (id : ℕ) → contains id (waiters o p) ≡ true → onObject (process id p) ≡ true
+  pub waiters_on : (id : ℕ) → contains id (waiters o p) ≡ true → on_object (process id p) ≡ true
   unfolding waiters
-  waiters-on id h = sym (v.waitings.exact id) ∙ (and-true-parts (waitsOn o p id) _ (sym (contains-kept (waitsOn o p) id (members p.waiting)) ∙ h)).1
+  waiters_on id h = sym (v.waitings.exact id) ∙ (and_true_parts (waits_on o p id) _ (sym (contains_kept (waits_on o p) id (members p.waiting)) ∙ h)).1
 
-  pub waiters-created : AllCreated (waiters o p) p.processCount
-  waiters-created id h = process-created onObject refl p v id (waiters-on id h)
+  pub waiters_created : AllCreated (waiters o p) p.processCount
+  waiters_created id h = process_created on_object refl p v id (waiters_on id h)
 
 -- the first of a list is in it
-pub first-in : (l : List ℕ) → (get_or l 0 0 ≡ 0 → ⊥) → contains (get_or l 0 0) l ≡ true
+pub first_in : (l : List ℕ) → (get_or l 0 0 ≡ 0 → ⊥) → contains (get_or l 0 0) l ≡ true
 unfolding contains
-first-in [] some = absurd (some refl)
-first-in (x ∷ l) some = rw (eq-eqb x x refl)
+first_in [] some = absurd (some refl)
+first_in (x ∷ l) some = rw (eq-eqb x x refl)
 
 -- the first of a queue has been created, and waits on the object
-pub first-waits : (p : Partition) → ListedIn p → (o : ℕ) → (firstWaiter o p ≡ 0 → ⊥) → Between 1 p.processCount (firstWaiter o p) × (onObject (process (firstWaiter o p) p) ≡ true)
-first-waits p v o some =
-    let i = first-in (waiters o p) some in
-    (waiters-created p v o (firstWaiter o p) i, waiters-on p v o (firstWaiter o p) i)
+pub first_waits : (p : Partition) → ListedIn p → (o : ℕ) → (first_waiter o p ≡ 0 → ⊥) → Between 1 p.processCount (first_waiter o p) × (on_object (process (first_waiter o p) p) ≡ true)
+first_waits p v o some =
+    let i = first_in (waiters o p) some in
+    (waiters_created p v o (first_waiter o p) i, waiters_on p v o (first_waiter o p) i)
 
 -- a send where there is room, and a receive where there is a message: to and from the first who waits on o in partition p
-pub sent-sound : (p : Partition) → ListedIn p → (o limit : ℕ) (q : Queue) (m : ℕ) → q.len < limit → m ≤ durationLimit → SoundMove limit q (sent (firstWaiter o p) m) × SoundEnd p (sent (firstWaiter o p) m)
+pub sent_sound : (p : Partition) → ListedIn p → (o limit : ℕ) (q : Queue) (m : ℕ) → q.len < limit → m ≤ duration_limit → SoundMove limit q (sent (first_waiter o p) m) × SoundEnd p (sent (first_waiter o p) m)
 unfolding sent
-sent-sound p v o limit q m room few = by-test (λ (a : Transfer). SoundMove limit q a × SoundEnd p a) (eqb (firstWaiter o p) 0)
+sent_sound p v o limit q m room few = by_test (λ (a : Transfer). SoundMove limit q a × SoundEnd p a) (eqb (first_waiter o p) 0)
     (λ _. ((room, few), tt))
-    (λ e. (few, first-waits p v o (eqb-false _ 0 e)))
+    (λ e. (few, first_waits p v o (eqb-false _ 0 e)))
 
-pub received-sound : (frame t : ℕ) (p : Partition) → Valid frame t p → (o limit : ℕ) (q : Queue) → 0 < q.len → let a = received (firstWaiter o p) (carried (process (firstWaiter o p) p)) in SoundMove limit q a × SoundEnd p a
+pub received_sound : (frame t : ℕ) (p : Partition) → Valid frame t p → (o limit : ℕ) (q : Queue) → 0 < q.len → let a = received (first_waiter o p) (carried (process (first_waiter o p) p)) in SoundMove limit q a × SoundEnd p a
 unfolding received
-received-sound frame t p v o limit q some = by-test (λ (a : Transfer). SoundMove limit q a × SoundEnd p a) (eqb (firstWaiter o p) 0)
+received_sound frame t p v o limit q some = by_test (λ (a : Transfer). SoundMove limit q a × SoundEnd p a) (eqb (first_waiter o p) 0)
     (λ _. (some, tt))
-    (λ e. let f = first-waits p v.lists o (eqb-false _ 0 e) in ((some, carried-sound _ (process (firstWaiter o p) p) (v.eachProcess (firstWaiter o p) f.0)), f))
+    (λ e. let f = first_waits p v.lists o (eqb-false _ 0 e) in ((some, carried_sound _ (process (first_waiter o p) p) (v.each_process (first_waiter o p) f.0)), f))
 
 -- waits on objects end, each of these processes changed by f
 module _ (frame t : ℕ) (p : Partition) (v : Valid frame t p) (f : Process → Process)
-    (sound : (x : Process) → SoundProcess (setting_of frame t p) x → onObject x ≡ true → SoundProcess (setting_of frame t p) (f x)) where
-  pub changed-valid : (l : List ℕ) → AllCreated l p.processCount → Distinct l → ((id : ℕ) → contains id l ≡ true → onObject (process id p) ≡ true) → Valid frame t (changedAll f l p)
-  changed-valid l all once on =
-      valid-of frame t p (changedAll f l p) (changed-rest f l p) v.mode v.lock
-      (λ some. rw (changed-process f l p v.lists all once p.holder, not_so (contains p.holder l) (λ e. not-both _ (on p.holder e) (ready-no-object (process p.holder p) (v.lock.held some)))) (v.lock.held some))
-      v.objects (changed-listed f l p v.lists all) (λ id b.
-      rw (changed-process f l p v.lists all once id) (by-test (SoundProcess (setting_of frame t p)) (contains id l)
-      (λ e. sound (process id p) (v.eachProcess id b) (on id e))
-      (λ _. v.eachProcess id b)))
+    (sound : (x : Process) → SoundProcess (setting_of frame t p) x → on_object x ≡ true → SoundProcess (setting_of frame t p) (f x)) where
+  pub changed_valid : (l : List ℕ) → AllCreated l p.processCount → Distinct l → ((id : ℕ) → contains id l ≡ true → on_object (process id p) ≡ true) → Valid frame t (changed_all f l p)
+  changed_valid l all once on =
+      valid_of frame t p (changed_all f l p) (changed_rest f l p) v.mode v.lock
+      (λ some. rw (changed_process f l p v.lists all once p.holder, not_so (contains p.holder l) (λ e. not_both _ (on p.holder e) (ready_no_object (process p.holder p) (v.lock.held some)))) (v.lock.held some))
+      v.objects (changed_listed f l p v.lists all) (λ id b.
+      rw (changed_process f l p v.lists all once id) (by_test (SoundProcess (setting_of frame t p)) (contains id l)
+      (λ e. sound (process id p) (v.each_process id b) (on id e))
+      (λ _. v.each_process id b)))
 
-  all_valid : (o : ℕ) → Valid frame t (changedAll f (waiters o p) p)
-  all_valid o = changed-valid (waiters o p) (waiters-created p v.lists o) (waiters-distinct p v.lists o) (waiters-on p v.lists o)
+  all_valid : (o : ℕ) → Valid frame t (changed_all f (waiters o p) p)
+  all_valid o = changed_valid (waiters o p) (waiters_created p v.lists o) (waiters_distinct p v.lists o) (waiters_on p v.lists o)
 
 -- the first n of a list
 pub take_in : (n : ℕ) (l : List ℕ) (id : ℕ) → contains id (take n l) ≡ true → contains id l ≡ true
 unfolding contains
-take_in zero l id h = not-both _ h refl
+take_in zero l id h = not_both _ h refl
 take_in (suc n) [] id h = h
 take_in (suc n) (x ∷ l) id h = either (eqb x id) (λ e. rw e) (λ e. rw e (take_in n l id (rw e at h)))
 
-take-distinct : (n : ℕ) (l : List ℕ) → Distinct l → Distinct (take n l)
+take_distinct : (n : ℕ) (l : List ℕ) → Distinct l → Distinct (take n l)
 unfolding Distinct
-take-distinct zero l h = tt
-take-distinct (suc n) [] h = tt
-take-distinct (suc n) (x ∷ l) h = (not_so _ (λ e. not-both _ (take_in n l x e) h.0), take-distinct n l h.1)
+take_distinct zero l h = tt
+take_distinct (suc n) [] h = tt
+take_distinct (suc n) (x ∷ l) h = (not_so _ (λ e. not_both _ (take_in n l x e) h.0), take_distinct n l h.1)
 
 -- the first n who wait on an object are let in
 module _ (frame t : ℕ) (p : Partition) (v : Valid frame t p) (o n : ℕ) where
   abbrev firsts : List ℕ
   firsts = take n (waiters o p)
 
-  pub firsts-created : AllCreated firsts p.processCount
-  firsts-created id h = waiters-created p v.lists o id (take_in n (waiters o p) id h)
+  pub firsts_created : AllCreated firsts p.processCount
+  firsts_created id h = waiters_created p v.lists o id (take_in n (waiters o p) id h)
 
-  pub firsts-distinct : Distinct firsts
-  firsts-distinct = take-distinct n (waiters o p) (waiters-distinct p v.lists o)
+  pub firsts_distinct : Distinct firsts
+  firsts_distinct = take_distinct n (waiters o p) (waiters_distinct p v.lists o)
 
-  firsts-on : (id : ℕ) → contains id firsts ≡ true → onObject (process id p) ≡ true
-  firsts-on id h = waiters-on p v.lists o id (take_in n (waiters o p) id h)
+  firsts_on : (id : ℕ) → contains id firsts ≡ true → on_object (process id p) ≡ true
+  firsts_on id h = waiters_on p v.lists o id (take_in n (waiters o p) id h)
 
-  pub let-in-valid : Valid frame t (changedAll served firsts p)
-  let-in-valid = changed-valid frame t p v served (λ x g on. ended-sound _ x g on) firsts firsts-created firsts-distinct firsts-on
+  pub let_in_valid : Valid frame t (changed_all served firsts p)
+  let_in_valid = changed_valid frame t p v served (λ x g on. ended_sound _ x g on) firsts firsts_created firsts_distinct firsts_on
 
   -- their messages
-  carried-all : (l : List ℕ) → AllCreated l p.processCount → AllMessages (map (λ id. carried (process id p)) l)
+  carried_all : (l : List ℕ) → AllCreated l p.processCount → AllMessages (map (λ id. carried (process id p)) l)
   unfolding AllMessages contains
-  carried-all [] all = tt
-  carried-all (id ∷ l) all = (carried-sound _ (process id p) (v.eachProcess id (all id (rw (eq-eqb id id refl)))), carried-all l (λ y c. all y (rw c (or-true (eqb id y)))))
+  carried_all [] all = tt
+  carried_all (id ∷ l) all = (carried_sound _ (process id p) (v.each_process id (all id (rw (eq-eqb id id refl)))), carried_all l (λ y c. all y (rw c (or-true (eqb id y)))))
 
-  length-firsts : (n : ℕ) (l : List ℕ) → length (map (λ id. carried (process id p)) (take n l)) ≤ n
-  length-firsts zero l = omega arith
-  length-firsts (suc n) [] = omega arith
-  length-firsts (suc n) (x ∷ l) = let h = length-firsts n l in omega arith
+  length_firsts : (n : ℕ) (l : List ℕ) → length (map (λ id. carried (process id p)) (take n l)) ≤ n
+  length_firsts zero l = omega arith
+  length_firsts (suc n) [] = omega arith
+  length_firsts (suc n) (x ∷ l) = let h = length_firsts n l in omega arith
 
-  pub let-in-queue : SoundQueue n (queueOf (map (λ id. carried (process id p)) firsts))
-  let-in-queue = queue-sound n (map (λ id. carried (process id p)) firsts) (length-firsts n (waiters o p)) (carried-all firsts firsts-created)
+  pub let_in_queue : SoundQueue n (queue_of (map (λ id. carried (process id p)) firsts))
+  let_in_queue = queue_sound n (map (λ id. carried (process id p)) firsts) (length_firsts n (waiters o p)) (carried_all firsts firsts_created)
 
 -- ---------------------------------------------------------------- the changes
 module _ (c : Context) (p : Partition) (v : Valid c.frame c.time p) where
   puts : (id : ℕ) → Between 1 p.processCount id → (x : Process) → SoundProcess (setting_of c.frame c.time p) x → HolderReady p id x → Valid c.frame c.time (stored id x p)
-  puts id b x s keeps = stored-valid c.frame c.time p v id b x s keeps
+  puts id b x s keeps = stored_valid c.frame c.time p v id b x s keeps
 
   -- the next process, DORMANT
-  new-process-valid : p.processCount < processLimit → (g : Given) → SoundGiven c.frame g → Valid c.frame c.time (created (p.processCount + 1) (createdProcess g) p)
-  new-process-valid room g h =
+  new_process_valid : p.processCount < process_limit → (g : Given) → SoundGiven c.frame g → Valid c.frame c.time (created (p.processCount + 1) (created_process g) p)
+  new_process_valid room g h =
       let n = p.processCount + 1 in
-      let x = createdProcess g in
+      let x = created_process g in
       let o = v.lists in
-      let tracked : (f : Process → Bool) → f blankProcess ≡ f x → (q : Ids) → Tracks (λ y. f (process y p)) q → Tracks (λ y. f (by_id processLimit blankProcess y (set p.processes (n - 1) x))) q = λ f e q tr.
-      tracks_same (λ y. f (process y p)) q tr (λ y. f (by_id processLimit blankProcess y (set p.processes (n - 1) x))) n
-      (λ y ne. ap f (named_other processLimit blankProcess n x p.processes (omega arith) y ne))
-      (ap f (named-same processLimit blankProcess n x p.processes (omega arith) (omega arith) (omega (arith, o.numbered.size))) ∙ sym e ∙ ap f (sym (o.numbered.past n (omega arith)))) in
+      let tracked : (f : Process → Bool) → f blank_process ≡ f x → (q : Ids) → Tracks (λ y. f (process y p)) q → Tracks (λ y. f (by_id process_limit blank_process y (set p.processes (n - 1) x))) q = λ f e q tr.
+      tracks_same (λ y. f (process y p)) q tr (λ y. f (by_id process_limit blank_process y (set p.processes (n - 1) x))) n
+      (λ y ne. ap f (named_other process_limit blank_process n x p.processes (omega arith) y ne))
+      (ap f (named_same process_limit blank_process n x p.processes (omega arith) (omega arith) (omega (arith, o.numbered.size))) ∙ sym e ∙ ap f (sym (o.numbered.past n (omega arith)))) in
       let e : max p.processCount n ≡ n = omega arith in
-      rw (created-in n x p (within_in processLimit n (omega arith) (omega arith)), e) (record {
+      rw (created_in n x p (within_in process_limit n (omega arith) (omega arith)), e) (record {
         mode = v.mode;
         lock = record {
           few = v.lock.few;
           free = v.lock.free;
           normal = v.lock.normal;
-          held = λ some. let b = holder-created p o v.lock some in rw (named_other processLimit blankProcess n x p.processes (omega arith) p.holder (λ y. omega (arith, b.1, y))) (v.lock.held some);
+          held = λ some. let b = holder_created p o v.lock some in rw (named_other process_limit blank_process n x p.processes (omega arith) p.holder (λ y. omega (arith, b.1, y))) (v.lock.held some);
         };
         lists = record {
-          numbered = numbered-set o.numbered n x n (omega arith) (omega arith, omega arith) (omega arith);
+          numbered = numbered_set o.numbered n x n (omega arith) (omega arith, omega arith) (omega arith);
           arrivals = tracked ready refl p.arrival o.arrivals;
-          waitings = tracked onObject refl p.waiting o.waitings;
+          waitings = tracked on_object refl p.waiting o.waitings;
         };
         objects = v.objects;
-        eachProcess = all_set o.numbered n x n (omega arith) (omega arith, omega arith) (omega arith) (SoundProcess (setting_of c.frame c.time p)) (created-sound _ g h) (λ y b ne. v.eachProcess y (b.0, omega (arith, b.1, ne)));
+        each_process = all_set o.numbered n x n (omega arith) (omega arith, omega arith) (omega arith) (SoundProcess (setting_of c.frame c.time p)) (created_sound _ g h) (λ y b ne. v.each_process y (b.0, omega (arith, b.1, ne)));
       })
 
   -- entering NORMAL
-  entered-valid : c.time ≤ timeLimit → c.frame ≤ frameLimit → c.release ≤ c.time + c.frame → normalMode p ≡ false → Valid c.frame c.time (enteredNormal c p)
-  unfolding enteredNormal
-  entered-valid ends frame near e =
-      let q = withMode 3 p in
+  entered_valid : c.time ≤ time_limit → c.frame ≤ frame_limit → c.release ≤ c.time + c.frame → normal_mode p ≡ false → Valid c.frame c.time (entered_normal c p)
+  unfolding entered_normal
+  entered_valid ends frame near e =
+      let q = with_mode 3 p in
       let f = entered c in
-      valid-of c.frame c.time q (each f q) (each-rest f q v.lists) (omega arith) (no-lock _ _) (λ some. absurd (omega arith)) v.objects (each-listed f q v.lists) (λ id b.
-      rw (each-process f q v.lists id b) (entered-sound c ends frame near true refl _ c.time (normalMode p) e (process id p) (v.eachProcess id b)))
+      valid_of c.frame c.time q (each f q) (each_rest f q v.lists) (omega arith) (no_lock _ _) (λ some. absurd (omega arith)) v.objects (each_listed f q v.lists) (λ id b.
+      rw (each_process_holds f q v.lists id b) (entered_sound c ends frame near true refl _ c.time (normal_mode p) e (process id p) (v.each_process id b)))
 
 -- the wait that a transfer ends
-pub ended-valid : (frame t : ℕ) (p : Partition) → Valid frame t p → (limit : ℕ) (q : Queue) (a : Transfer) → SoundMove limit q a → SoundEnd p a → Valid frame t (endedBy a p)
-ended-valid frame t p v limit q (Put m) h e = v
-ended-valid frame t p v limit q (HandedTo id m) h e = stored-valid frame t p v id e.0 _ (handed-sound _ (process id p) (v.eachProcess id e.0) e.1 m h) (not-holder p v.lock id _ (object-not-ready (process id p) e.1))
-ended-valid frame t p v limit q Taken h e = v
-ended-valid frame t p v limit q (LetIn id m) h e = stored-valid frame t p v id e.0 _ (ended-sound _ (process id p) (v.eachProcess id e.0) e.1) (not-holder p v.lock id _ (object-not-ready (process id p) e.1))
+pub ended_valid : (frame t : ℕ) (p : Partition) → Valid frame t p → (limit : ℕ) (q : Queue) (a : Transfer) → SoundMove limit q a → SoundEnd p a → Valid frame t (ended_by a p)
+ended_valid frame t p v limit q (Put m) h e = v
+ended_valid frame t p v limit q (HandedTo id m) h e = stored_valid frame t p v id e.0 _ (handed_sound _ (process id p) (v.each_process id e.0) e.1 m h) (not_holder p v.lock id _ (object_not_ready (process id p) e.1))
+ended_valid frame t p v limit q Taken h e = v
+ended_valid frame t p v limit q (LetIn id m) h e = stored_valid frame t p v id e.0 _ (ended_sound _ (process id p) (v.each_process id e.0) e.1) (not_holder p v.lock id _ (object_not_ready (process id p) e.1))
 
 -- a partition with the same processes
 pub end_same : (p q : Partition) (a : Transfer) → q.processes ≡ p.processes → q.processCount ≡ p.processCount → SoundEnd p a → SoundEnd q a
@@ -346,36 +346,36 @@ end_same p q Taken e f h = tt
 end_same p q (LetIn id m) e f h = rw (e, f) h
 
 -- each change keeps a partition valid; k says that the call was made at a sound time
-pub change-valid : (c : Context) {o : Partition} → SoundContext c o → (p : Partition) → Valid c.frame c.time p → (a : Change) → SoundChange c p a → Valid c.frame c.time (applied a p)
-change-valid c k p v Nothing h = v
-change-valid c k p v (Stored id x) h = puts c p v id h.0 x h.1 h.2
-change-valid c k p v (Created id x) h = rw (h.next, h.dormant) (new-process-valid c p v h.room x.given h.given)
-change-valid c k p v (Last id) h = arrived-valid c.frame c.time p v id h
-change-valid c k p v (StoredSemaphore j s) h = semaphore-valid c.frame c.time p v j h.0 s h.1
-change-valid c k p v (StoredEvent j e) h = event-valid c.frame c.time p v j h.0 e h.1
-change-valid c k p v (CreatedBuffer j name limit) h = buffer-valid c.frame c.time p v j h.0 (emptyBuffer name limit) h.1
-change-valid c k p v (Moved j a) h =
-    let q = movedIn a (buffer j p) in
+pub change_valid : (c : Context) {o : Partition} → SoundContext c o → (p : Partition) → Valid c.frame c.time p → (a : Change) → SoundChange c p a → Valid c.frame c.time (applied a p)
+change_valid c k p v Nothing h = v
+change_valid c k p v (Stored id x) h = puts c p v id h.0 x h.1 h.2
+change_valid c k p v (Created id x) h = rw (h.next, h.dormant) (new_process_valid c p v h.room x.given h.given)
+change_valid c k p v (Last id) h = arrived_valid c.frame c.time p v id h
+change_valid c k p v (StoredSemaphore j s) h = semaphore_valid c.frame c.time p v j h.0 s h.1
+change_valid c k p v (StoredEvent j e) h = event_valid c.frame c.time p v j h.0 e h.1
+change_valid c k p v (CreatedBuffer j name limit) h = buffer_valid c.frame c.time p v j h.0 (empty_buffer name limit) h.1
+change_valid c k p v (Moved j a) h =
+    let q = moved_in a (buffer j p) in
     let few = v.objects.buffers.numbered.few in
-    let w = buffer-valid c.frame c.time p v j (known_next bufferLimit p.bufferCount j h.0 few) q (moved-in-sound (buffer j p) (v.objects.buffers.each j h.0) a h.1) in
-    let is = buffer-in j q p (within_in bufferLimit j h.0.0 (omega (arith, h.0.1, few))) in
-    ended-valid c.frame c.time _ w (buffer j p).limit (buffer j p).queue a h.1 (rw is (end_same p _ a refl refl h.2))
-change-valid c k p v (StoredBlackboard j s) h = blackboard-valid c.frame c.time p v j h.0 s h.1
-change-valid c k p v (Ended o) h = all_valid c.frame c.time p v served (λ x g on. ended-sound _ x g on) o
-change-valid c k p v (Handed o m) h = all_valid c.frame c.time p v (handed m) (λ x g on. handed-sound _ x g on m h) o
-change-valid c k p v (LevelSet level holder) h = record { mode = v.mode; lock = h.0; lists = v.lists; objects = v.objects; eachProcess = v.eachProcess }
-change-valid c k p v (Entered d) h = rw h.0 (entered-valid c p v k.time k.frame.1 k.near h.1)
+    let w = buffer_valid c.frame c.time p v j (known_next buffer_limit p.bufferCount j h.0 few) q (moved_in_sound (buffer j p) (v.objects.buffers.each j h.0) a h.1) in
+    let is = buffer_in j q p (within_in buffer_limit j h.0.0 (omega (arith, h.0.1, few))) in
+    ended_valid c.frame c.time _ w (buffer j p).limit (buffer j p).queue a h.1 (rw is (end_same p _ a refl refl h.2))
+change_valid c k p v (StoredBlackboard j s) h = blackboard_valid c.frame c.time p v j h.0 s h.1
+change_valid c k p v (Ended o) h = all_valid c.frame c.time p v served (λ x g on. ended_sound _ x g on) o
+change_valid c k p v (Handed o m) h = all_valid c.frame c.time p v (handed m) (λ x g on. handed_sound _ x g on m h) o
+change_valid c k p v (LevelSet level holder) h = record { mode = v.mode; lock = h.0; lists = v.lists; objects = v.objects; each_process = v.each_process }
+change_valid c k p v (Entered d) h = rw h.0 (entered_valid c p v k.time k.frame.1 k.near h.1)
 
 -- and so does each decision
-pub decision-valid : (c : Context) (p : Partition) → SoundContext c p → Valid c.frame c.time p → (d : Decision) → SoundDecision c p d → Valid c.frame c.time (partitionAfter d p)
-decision-valid c p k v (Refused n) h = v
-decision-valid c p k v (Unchanged n e) h = v
-decision-valid c p k v Ticked h = v
-decision-valid c p k v (Blocked id x) h = change-valid c k p v (Stored id x) h
-decision-valid c p k v (Changed a b n) h = change-valid c k (applied a p) (change-valid c k p v a h.0) b h.1
-decision-valid c p k v (Restarted mode) h = nothing-valid c.frame c.time mode h
-decision-valid c p k v (Written i x) h = v
-decision-valid c p k v (PassedOn i a n) h = v
+pub decision_valid : (c : Context) (p : Partition) → SoundContext c p → Valid c.frame c.time p → (d : Decision) → SoundDecision c p d → Valid c.frame c.time (partition_after d p)
+decision_valid c p k v (Refused n) h = v
+decision_valid c p k v (Unchanged n e) h = v
+decision_valid c p k v Ticked h = v
+decision_valid c p k v (Blocked id x) h = change_valid c k p v (Stored id x) h
+decision_valid c p k v (Changed a b n) h = change_valid c k (applied a p) (change_valid c k p v a h.0) b h.1
+decision_valid c p k v (Restarted mode) h = nothing_valid c.frame c.time mode h
+decision_valid c p k v (Written i x) h = v
+decision_valid c p k v (PassedOn i a n) h = v
 
 -- ---------------------------------------------------------------- the calls
 pub record Sound (c : Context) (p : Partition) (d : Decision) : Type 0 where
@@ -384,72 +384,72 @@ pub record Sound (c : Context) (p : Partition) (d : Decision) : Type 0 where
 -- what the caller of a call is in NORMAL
 pub record Caller (id : ℕ) (p : Partition) : Type 0 where
   pub created : Between 1 p.processCount id
-  pub isReady : ready (process id p) ≡ true
+  pub is_ready : ready (process id p) ≡ true
 
-pub running-caller : (p : Partition) → ListedIn p → LockIn p → (running p ≡ 0 → ⊥) → Caller (running p) p
-running-caller p v lock some = let k = running-ready p v lock some in record { created = process-created ready refl p v (running p) k; isReady = k }
+pub running_caller : (p : Partition) → ListedIn p → LockIn p → (running p ≡ 0 → ⊥) → Caller (running p) p
+running_caller p v lock some = let k = running_ready p v lock some in record { created = process_created ready refl p v (running p) k; is_ready = k }
 
 -- periodic and delay ≥ period is refused
-pub reaches-below : (period : Time) (delay : ℕ) → reaches period delay ≡ false → Below period delay
-reaches-below Never delay h = tt
-reaches-below (At n) delay h = leb-false n delay h
+pub reaches_below : (period : Time) (delay : ℕ) → reaches period delay ≡ false → Below period delay
+reaches_below Never delay h = tt
+reaches_below (At n) delay h = leb-false n delay h
 
 pub more_room : (m n : ℕ) (t : Time) → m ≤ n → NotAfter m t → NotAfter n t
 more_room m n Never h k = tt
 more_room m n (At a) h k = omega arith
 
-pub status-small : (c : Context) (id : ℕ) (x : Process) → status c id x ≤ 3
-status-small c id x = by-test (λ (n : ℕ). n ≤ 3) (dormant x) (λ _. omega arith) (λ _. by-test (λ (n : ℕ). n ≤ 3) (eqb id c.caller) (λ _. omega arith) (λ _. by-test (λ (n : ℕ). n ≤ 3) (ready x) (λ _. omega arith) (λ _. omega arith)))
+pub status_small : (c : Context) (id : ℕ) (x : Process) → status c id x ≤ 3
+status_small c id x = by_test (λ (n : ℕ). n ≤ 3) (dormant x) (λ _. omega arith) (λ _. by_test (λ (n : ℕ). n ≤ 3) (eqb id c.caller) (λ _. omega arith) (λ _. by_test (λ (n : ℕ). n ≤ 3) (ready x) (λ _. omega arith) (λ _. omega arith)))
 
 -- ---------------------------------------------------------------- what CREATE_PROCESS admits
-field-period : (frame : ℕ) (f : Field) → (isMinusOne f || isMultiple frame f) ≡ true → SoundPeriod frame (timeOf f)
-field-period frame (Number n) h =
-    let r = and-true-parts (between 1 durationLimit (Number n)) _ h in
-    (in-limits 1 durationLimit (Number n) r.0, eqb-true (n % frame) 0 (and-true-parts (not (eqb frame 0)) _ r.1).1)
-field-period frame MinusOne h = tt
-field-period frame Other h = tt
+field_period : (frame : ℕ) (f : Field) → (is_minus_one f || is_multiple frame f) ≡ true → SoundPeriod frame (time_of f)
+field_period frame (Number n) h =
+    let r = and_true_parts (between 1 duration_limit (Number n)) _ h in
+    (in_limits 1 duration_limit (Number n) r.0, eqb-true (n % frame) 0 (and_true_parts (not (eqb frame 0)) _ r.1).1)
+field_period frame MinusOne h = tt
+field_period frame Other h = tt
 
-field-above : (n : ℕ) (f : Field) → not (above (Number n) f) ≡ true → NotAbove (timeOf f) n
-field-above n (Number m) h = ltb-false m n (not-true _ h)
-field-above n MinusOne h = tt
-field-above n Other h = tt
+field_above : (n : ℕ) (f : Field) → not (above (Number n) f) ≡ true → NotAbove (time_of f) n
+field_above n (Number m) h = ltb-false m n (not-true _ h)
+field_above n MinusOne h = tt
+field_above n Other h = tt
 
-field-capacity : (e f : Field) → (isMinusOne e || between 1 durationLimit e) ≡ true → not (above e f) ≡ true → SoundCapacity (timeOf f) (timeOf e)
-field-capacity (Number n) f h k = (in-limits 1 durationLimit (Number n) h, field-above n f k)
-field-capacity MinusOne f h k = tt
-field-capacity Other f h k = tt
+field_capacity : (e f : Field) → (is_minus_one e || between 1 duration_limit e) ≡ true → not (above e f) ≡ true → SoundCapacity (time_of f) (time_of e)
+field_capacity (Number n) f h k = (in_limits 1 duration_limit (Number n) h, field_above n f k)
+field_capacity MinusOne f h k = tt
+field_capacity Other f h k = tt
 
-abbrev pub givenBy : Request → Given
-givenBy r = record { name = number_of r.a; base = number_of r.b; period = timeOf r.c; capacity = timeOf r.e }
+abbrev pub given_by : Request → Given
+given_by r = record { name = number_of r.a; base = number_of r.b; period = time_of r.c; capacity = time_of r.e }
 
-pub admitted : (c : Context) (r : Request) → admissible c r ≡ true → SoundGiven c.frame (givenBy r)
+pub admitted : (c : Context) (r : Request) → admissible c r ≡ true → SoundGiven c.frame (given_by r)
 admitted c r h =
-    let h1 = and-true-parts (isName r.a) _ h in
-    let h2 = and-true-parts (isPriority r.b) _ h1.1 in
-    let h3 = and-true-parts (isMinusOne r.c || isMultiple c.frame r.c) _ h2.1 in
-    let h4 = and-true-parts (isMinusOne r.e || between 1 durationLimit r.e) _ h3.1 in
+    let h1 = and_true_parts (is_name r.a) _ h in
+    let h2 = and_true_parts (is_priority r.b) _ h1.1 in
+    let h3 = and_true_parts (is_minus_one r.c || is_multiple c.frame r.c) _ h2.1 in
+    let h4 = and_true_parts (is_minus_one r.e || between 1 duration_limit r.e) _ h3.1 in
     record {
-      name = in-limits 1 nameLimit r.a h1.0;
-      base = in-limits 1 priorityLimit r.b h2.0;
-      period = field-period c.frame r.c h3.0;
-      capacity = field-capacity r.e r.c h4.0 h4.1;
+      name = in_limits 1 name_limit r.a h1.0;
+      base = in_limits 1 priority_limit r.b h2.0;
+      period = field_period c.frame r.c h3.0;
+      capacity = field_capacity r.e r.c h4.0 h4.1;
     }
 
 -- what a call decides of a valid partition that may make it
 module _ (c : Context) (p : Partition) (v : Valid c.frame c.time p) (k : SoundContext c p) where
-  pub normal-caller : normalMode p ≡ true → Caller c.caller p
-  normal-caller n = rw k.caller (running-caller p v.lists v.lock (λ z. not-both _ (rw (n, z)) (or-false-parts (idleMode p) _ k.calls).1))
+  pub normal_caller : normal_mode p ≡ true → Caller c.caller p
+  normal_caller n = rw k.caller (running_caller p v.lists v.lock (λ z. not_both _ (rw (n, z)) (or_false_parts (idle_mode p) _ k.calls).1))
 
   -- not a start mode
-  pub in-normal : startMode p ≡ false → normalMode p ≡ true
-  in-normal h = not-false (normalMode p) h
+  pub in_normal : start_mode p ≡ false → normal_mode p ≡ true
+  in_normal h = not-false (normal_mode p) h
 
   -- the holder of the preemption lock is the caller; who is not the caller does not hold it
-  pub holder-calls : 0 < p.level → p.holder ≡ c.caller
-  holder-calls some = sym (k.caller ∙ holder-runs p v.lists (v.lock.normal some) some)
+  pub holder_calls : 0 < p.level → p.holder ≡ c.caller
+  holder_calls some = sym (k.caller ∙ holder_runs p v.lists (v.lock.normal some) some)
 
-  pub not-caller : (id : ℕ) (b : Bool) → eqb id c.caller ≡ false → 0 < p.level → id ≡ p.holder → b ≡ true
-  not-caller id b h some e = absurd (eqb-false id c.caller h (e ∙ holder-calls some))
+  pub not_caller : (id : ℕ) (b : Bool) → eqb id c.caller ≡ false → 0 < p.level → id ≡ p.holder → b ≡ true
+  not_caller id b h some e = absurd (eqb-false id c.caller h (e ∙ holder_calls some))
 
   -- where preemption is not locked nobody does
   pub unlocked : locked p.level ≡ false → (id : ℕ) (b : Bool) → 0 < p.level → id ≡ p.holder → b ≡ true
@@ -457,26 +457,26 @@ module _ (c : Context) (p : Partition) (v : Valid c.frame c.time p) (k : SoundCo
 
   -- DORMANT or periodic is refused
   pub fit : (id : ℕ) → (dormant (process id p) || periodic (process id p)) ≡ false → ((process id p).started ≡ true) × (periodic (process id p) ≡ false)
-  fit id h = let r = or-false-parts _ (periodic (process id p)) h in (not-false (process id p).started r.0, r.1)
+  fit id h = let r = or_false_parts _ (periodic (process id p)) h in (not-false (process id p).started r.0, r.1)
 
   -- one that is known
-  pub value-sound : (j : ℕ) → Between 1 p.semaphoreCount j → (n : ℕ) → n ≤ (semaphore j p).max → SoundChange c p (withValue j n p)
-  value-sound j b n h = let s = v.objects.semaphores.each j b in (known_next semaphoreLimit p.semaphoreCount j b v.objects.semaphores.numbered.few, record { name = s.name; value = h; max = s.max })
+  pub value_sound : (j : ℕ) → Between 1 p.semaphoreCount j → (n : ℕ) → n ≤ (semaphore j p).max → SoundChange c p (with_value j n p)
+  value_sound j b n h = let s = v.objects.semaphores.each j b in (known_next semaphore_limit p.semaphoreCount j b v.objects.semaphores.numbered.few, record { name = s.name; value = h; max = s.max })
 
-  pub up-sound : (j : ℕ) → Between 1 p.eventCount j → (up : Bool) → SoundChange c p (withUp j up p)
-  up-sound j b up = (known_next eventLimit p.eventCount j b v.objects.events.numbered.few, record { name = (v.objects.events.each j b).name })
+  pub up_sound : (j : ℕ) → Between 1 p.eventCount j → (up : Bool) → SoundChange c p (with_up j up p)
+  up_sound j b up = (known_next event_limit p.eventCount j b v.objects.events.numbered.few, record { name = (v.objects.events.each j b).name })
 
-  pub signalled-sound : (l : List ℕ) (j : ℕ) → Between 1 p.semaphoreCount j → ((semaphore j p).value ≡ (semaphore j p).max → ⊥) → ((id : ℕ) → contains id l ≡ true → onObject (process id p) ≡ true) → AllCreated l p.processCount → SoundChange c p (signalled l j p)
+  pub signalled_sound : (l : List ℕ) (j : ℕ) → Between 1 p.semaphoreCount j → ((semaphore j p).value ≡ (semaphore j p).max → ⊥) → ((id : ℕ) → contains id l ≡ true → on_object (process id p) ≡ true) → AllCreated l p.processCount → SoundChange c p (signalled l j p)
   unfolding signalled contains
-  signalled-sound [] j b below on all =
+  signalled_sound [] j b below on all =
       let s = v.objects.semaphores.each j b in
-      value-sound j b (oneMore (semaphore j p).value) (by-test (λ (n : ℕ). n ≤ (semaphore j p).max) (ltb (semaphore j p).value greatestValue) (λ _. omega (arith, s.value)) (λ _. s.value))
-  signalled-sound (id ∷ l) j b below on all = let i : (eqb id id || contains id l) ≡ true = rw (eq-eqb id id refl) in (all id i, ended-sound _ (process id p) (v.eachProcess id (all id i)) (on id i), not-holder p v.lock id _ (object-not-ready (process id p) (on id i)))
+      value_sound j b (one_more (semaphore j p).value) (by_test (λ (n : ℕ). n ≤ (semaphore j p).max) (ltb (semaphore j p).value greatest_value) (λ _. omega (arith, s.value)) (λ _. s.value))
+  signalled_sound (id ∷ l) j b below on all = let i : (eqb id id || contains id l) ≡ true = rw (eq-eqb id id refl) in (all id i, ended_sound _ (process id p) (v.each_process id (all id i)) (on id i), not_holder p v.lock id _ (object_not_ready (process id p) (on id i)))
 
-  pub blackboard-known : (j : ℕ) → Between 1 p.blackboardCount j → (shown : Bool) (m : ℕ) → m ≤ durationLimit → (shown ≡ false → m ≡ 0) → SoundChange c p (StoredBlackboard j (record { name = (blackboard j p).name; shown = shown; message = m }))
-  blackboard-known j b shown m few blank = (known_next blackboardLimit p.blackboardCount j b v.objects.blackboards.numbered.few, record { name = (v.objects.blackboards.each j b).name; message = few; blank = blank })
+  pub blackboard_known : (j : ℕ) → Between 1 p.blackboardCount j → (shown : Bool) (m : ℕ) → m ≤ duration_limit → (shown ≡ false → m ≡ 0) → SoundChange c p (StoredBlackboard j (record { name = (blackboard j p).name; shown = shown; message = m }))
+  blackboard_known j b shown m few blank = (known_next blackboard_limit p.blackboardCount j b v.objects.blackboards.numbered.few, record { name = (v.objects.blackboards.each j b).name; message = few; blank = blank })
 
 -- what a call sees of a channel is sound: the message of a sampling one, the first of a queuing one
 pub record SoundPort (t : ℕ) (x : Port) : Type 0 where
   pub message : SoundMessage t x.message
-  pub first : x.traffic.first ≤ durationLimit
+  pub first : x.traffic.first ≤ duration_limit

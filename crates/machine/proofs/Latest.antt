@@ -12,148 +12,148 @@ use Rattle.machine.specs.declared.EventState.{EventState}
 use Rattle.machine.specs.declared.Blackboard.{Blackboard as BlackboardT}
 use Rattle.machine.specs.declared.Partition.{Partition}
 use Rattle.machine.specs.declared.Module.{Module}
-use Rattle.machine.specs.Limits.{eventLimit, blackboardLimit, durationLimit}
-use Rattle.machine.specs.Partition.{by_id, noEvent, noBlackboard, event, blackboard}
-use Rattle.machine.specs.Table.{readTable}
+use Rattle.machine.specs.Limits.{event_limit, blackboard_limit, duration_limit}
+use Rattle.machine.specs.Partition.{by_id, no_event, no_blackboard, event, blackboard}
+use Rattle.machine.specs.Table.{read_table}
 use Rattle.machine.specs.Step.{step}
-use Rattle.machine.specs.Runs.{next, answeredEvent, after, answers}
+use Rattle.machine.specs.Runs.{next, answered_event, after, answers}
 use Rattle.machine.specs.Theorems.Valid.{Between, Reached}
 use Rattle.machine.specs.Theorems.Events.{own, call_by, Calling}
-use Rattle.machine.specs.Theorems.Account.{is_call, erases, erased, messageIn}
+use Rattle.machine.specs.Theorems.Account.{is_call, erases, erased, message_in}
 use Rattle.machine.specs.Theorems.EachCall.{id_of}
-use Rattle.machine.specs.Theorems.Latest.{along, done, shows, sets, lastWritten, lastShown, lastSet, Since, Latest}
+use Rattle.machine.specs.Theorems.Latest.{along, done, shows, sets, last_written, last_shown, last_set, Since, Latest}
 use Rattle.machine.proofs.Tests.{Passed, or_left, or_right}
-use Rattle.machine.proofs.Bounds.{named-same}
+use Rattle.machine.proofs.Bounds.{named_same}
 use Rattle.machine.proofs.Either.{either}
-use Rattle.machine.proofs.Calling.{calling-sound, calling-valid, own-after}
-use Rattle.machine.proofs.Reached.{valid-sound, reached-valid}
-use Rattle.machine.proofs.Account.{step-size, reached-after}
-use Rattle.machine.proofs.EachCall.{each-call}
+use Rattle.machine.proofs.Calling.{calling_sound, calling_valid, own_after}
+use Rattle.machine.proofs.Reached.{valid_sound, reached_valid}
+use Rattle.machine.proofs.Account.{step_size, reached_after}
+use Rattle.machine.proofs.EachCall.{each_call}
 use Rattle.machine.proofs.TicksLeft.{after_table}
 use Rattle.machine.proofs.Families.{queues}
-use Rattle.machine.proofs.Accepted.{plain_in, checks-passed, accepted, by-partition-of}
-use Rattle.machine.proofs.BoardsStay.{LeftBy, event-left}
-use Rattle.machine.proofs.Sampling.{along-list, done-by, done_at, done-zero, sampling, read-message}
+use Rattle.machine.proofs.Accepted.{plain_in, checks_passed, accepted, by_partition_of}
+use Rattle.machine.proofs.BoardsStay.{LeftBy, event_left}
+use Rattle.machine.proofs.Sampling.{along_list, done_by, done_at, done_zero, sampling, read_message}
 
 -- ---------------------------------------------------------------- an accepted call
 module _ (m : Module) (h : Reached m) (e : EventT) (k j : ℕ) (some : 1 ≤ k) where
   -- SHOW, CLEAR
-  shown : Between 1 (own m k).blackboardCount j → done k 27 j (answeredEvent m e) ≡ true → let b = blackboard j (own (step m e).state k) in (b.shown ≡ true) × (b.message ≡ messageIn e.b)
+  shown : Between 1 (own m k).blackboardCount j → done k 27 j (answered_event m e) ≡ true → let b = blackboard j (own (step m e).state k) in (b.shown ≡ true) × (b.message ≡ message_in e.b)
   unfolding Passed
   shown b t =
-      let z = done-zero m e k 27 j t in
-      let u = accepted m h e k 27 some (done-by m e k 27 j t) z in
-      let f = (checks-passed m e _ refl (rw (← u.is) at ((each-call m k u.calling).show e.a e.b)) z).0 in
-      let d = plain_in 0 durationLimit e.b (not-false _ f.1.0) in
+      let z = done_zero m e k 27 j t in
+      let u = accepted m h e k 27 some (done_by m e k 27 j t) z in
+      let f = (checks_passed m e _ refl (rw (← u.is) at ((each_call m k u.calling).show e.a e.b)) z).0 in
+      let d = plain_in 0 duration_limit e.b (not-false _ f.1.0) in
       let is : e ≡ call_by k 27 (pos j) (pos (id_of e.b)) (pos 0) (pos 0) = u.is ∙ ap (λ (a : ℤ). call_by k 27 a e.b (pos 0) (pos 0)) (done_at m e k 27 j t) ∙ ap (λ (a : ℤ). call_by k 27 (pos j) a (pos 0) (pos 0)) d.0 in
       let g = rw (← is) at ((queues.messages m k u.calling j).show (id_of e.b) b d.1.1).1 in
       (ap (λ (x : BlackboardT). x.shown) g, ap (λ (x : BlackboardT). x.message) g)
 
-  cleared : Between 1 (own m k).blackboardCount j → done k 29 j (answeredEvent m e) ≡ true → let b = blackboard j (own (step m e).state k) in (b.shown ≡ false) × (b.message ≡ 0)
+  cleared : Between 1 (own m k).blackboardCount j → done k 29 j (answered_event m e) ≡ true → let b = blackboard j (own (step m e).state k) in (b.shown ≡ false) × (b.message ≡ 0)
   cleared b t =
-      let z = done-zero m e k 29 j t in
-      let u = accepted m h e k 29 some (done-by m e k 29 j t) z in
-      let s = calling-sound m k u.calling in
+      let z = done_zero m e k 29 j t in
+      let u = accepted m h e k 29 some (done_by m e k 29 j t) z in
+      let s = calling_sound m k u.calling in
       let p = own m k in
-      let v = (calling-valid m k s u.calling).objects.blackboards.numbered in
-      let g = (checks-passed m e _ refl (rw (← u.is) at ((each-call m k u.calling).clear e.a)) z).1 in
+      let v = (calling_valid m k s u.calling).objects.blackboards.numbered in
+      let g = (checks_passed m e _ refl (rw (← u.is) at ((each_call m k u.calling).clear e.a)) z).1 in
       let at : id_of e.a ≡ j = ap id_of (done_at m e k 29 j t) in
-      let is : blackboard j (own (step m e).state k) ≡ record { name = (blackboard j p).name; shown = false; message = 0 } = ap (λ (x : Partition). blackboard j x) (own-after m k s u.calling _ g) ∙ rw at (named-same blackboardLimit noBlackboard j _ p.blackboards b.0 (omega (arith, b.1, v.few)) (omega (arith, b.1, v.few, v.size))) in
+      let is : blackboard j (own (step m e).state k) ≡ record { name = (blackboard j p).name; shown = false; message = 0 } = ap (λ (x : Partition). blackboard j x) (own_after m k s u.calling _ g) ∙ rw at (named_same blackboard_limit no_blackboard j _ p.blackboards b.0 (omega (arith, b.1, v.few)) (omega (arith, b.1, v.few, v.size))) in
       (ap (λ (x : BlackboardT). x.shown) is, ap (λ (x : BlackboardT). x.message) is)
 
   -- SET_EVENT, RESET_EVENT
-  up : Between 1 (own m k).eventCount j → done k 18 j (answeredEvent m e) ≡ true → (event j (own (step m e).state k)).up ≡ true
+  up : Between 1 (own m k).eventCount j → done k 18 j (answered_event m e) ≡ true → (event j (own (step m e).state k)).up ≡ true
   up b t =
-      let u = accepted m h e k 18 some (done-by m e k 18 j t) (done-zero m e k 18 j t) in
+      let u = accepted m h e k 18 some (done_by m e k 18 j t) (done_zero m e k 18 j t) in
       let is : e ≡ call_by k 18 (pos j) (pos 0) (pos 0) (pos 0) = u.is ∙ ap (λ (a : ℤ). call_by k 18 a (pos 0) (pos 0) (pos 0)) (done_at m e k 18 j t) in
-      rw (← is) at ((queues.calls m k u.calling j).setEvent b).1
+      rw (← is) at ((queues.calls m k u.calling j).set_event b).1
 
-  down : Between 1 (own m k).eventCount j → done k 19 j (answeredEvent m e) ≡ true → (event j (own (step m e).state k)).up ≡ false
+  down : Between 1 (own m k).eventCount j → done k 19 j (answered_event m e) ≡ true → (event j (own (step m e).state k)).up ≡ false
   down b t =
-      let z = done-zero m e k 19 j t in
-      let u = accepted m h e k 19 some (done-by m e k 19 j t) z in
-      let s = calling-sound m k u.calling in
+      let z = done_zero m e k 19 j t in
+      let u = accepted m h e k 19 some (done_by m e k 19 j t) z in
+      let s = calling_sound m k u.calling in
       let p = own m k in
-      let v = (calling-valid m k s u.calling).objects.events.numbered in
-      let g = (checks-passed m e _ refl (rw (← u.is) at ((each-call m k u.calling).resetEvent e.a)) z).1 in
+      let v = (calling_valid m k s u.calling).objects.events.numbered in
+      let g = (checks_passed m e _ refl (rw (← u.is) at ((each_call m k u.calling).reset_event e.a)) z).1 in
       let at : id_of e.a ≡ j = ap id_of (done_at m e k 19 j t) in
-      ap (λ (x : Partition). (event j x).up) (own-after m k s u.calling _ g)
-      ∙ rw at (ap (λ (x : EventState). x.up) (named-same eventLimit noEvent j _ p.events b.0 (omega (arith, b.1, v.few)) (omega (arith, b.1, v.few, v.size))))
+      ap (λ (x : Partition). (event j x).up) (own_after m k s u.calling _ g)
+      ∙ rw at (ap (λ (x : EventState). x.up) (named_same event_limit no_event j _ p.events b.0 (omega (arith, b.1, v.few)) (omega (arith, b.1, v.few, v.size))))
 
 -- ---------------------------------------------------------------- one event
 -- what blackboard j of partition k shows
-abbrev boardAt : ℕ → ℕ → Module → Bool × ℕ
-boardAt k j q = let x = blackboard j (own q k) in (x.shown, x.message)
+abbrev board_at : ℕ → ℕ → Module → Bool × ℕ
+board_at k j q = let x = blackboard j (own q k) in (x.shown, x.message)
 
 module _ (m : Module) (h : Reached m) (e : EventT) (k j : ℕ) (b : Between 1 m.table.size k) (lasts : erases k m e ≡ false) where
   left : LeftBy m e k (own m k) (own (step m e).state k)
   left =
       let same : k - 1 + 1 ≡ k = omega (arith, b.0) in
-      let s = valid-sound m (reached-valid m h) (k - 1) (omega (arith, b.0, b.1)) in
-      rw same at (event-left m e s (k - 1) (omega (arith, b.0, b.1)) (rw same lasts))
+      let s = valid_sound m (reached_valid m h) (k - 1) (omega (arith, b.0, b.1)) in
+      rw same at (event_left m e s (k - 1) (omega (arith, b.0, b.1)) (rw same lasts))
 
-  board-step : Between 1 (own m k).blackboardCount j → boardAt k j (next m e) ≡ shows k j (answeredEvent m e) (boardAt k j m)
-  board-step known = either (done k 27 j (answeredEvent m e))
+  board_step : Between 1 (own m k).blackboardCount j → board_at k j (next m e) ≡ shows k j (answered_event m e) (board_at k j m)
+  board_step known = either (done k 27 j (answered_event m e))
       (λ t. let g = shown m h e k j b.0 known t in rw t (λ i. (g.0 i, g.1 i)))
-      (λ t. either (done k 29 j (answeredEvent m e))
+      (λ t. either (done k 29 j (answered_event m e))
       (λ u. let g = cleared m h e k j b.0 known u in rw (t, u) (λ i. (g.0 i, g.1 i)))
       (λ u. rw (t, u) (ap (λ (x : BlackboardT). (x.shown, x.message)) (left.boards j known t u))))
 
-  event-step : Between 1 (own m k).eventCount j → (event j (own (next m e) k)).up ≡ sets k j (answeredEvent m e) (event j (own m k)).up
-  event-step known = either (done k 18 j (answeredEvent m e))
+  event_step : Between 1 (own m k).eventCount j → (event j (own (next m e) k)).up ≡ sets k j (answered_event m e) (event j (own m k)).up
+  event_step known = either (done k 18 j (answered_event m e))
       (λ t. rw t (up m h e k j b.0 known t))
-      (λ t. either (done k 19 j (answeredEvent m e))
+      (λ t. either (done k 19 j (answered_event m e))
       (λ u. rw (t, u) (down m h e k j b.0 known u))
       (λ u. rw (t, u) (ap (λ (x : EventState). x.up) (left.events j known t u))))
 
 -- ---------------------------------------------------------------- the creation
 -- the next of a list
-next-named : {A : Type 0} (limit : ℕ) (d a : A) (l : List A) (n j : ℕ) → length l ≡ limit → n < limit → n + 1 ≡ j → by_id limit d j (set l n a) ≡ a
-next-named limit d a l n j size room is =
+next_named : {A : Type 0} (limit : ℕ) (d a : A) (l : List A) (n j : ℕ) → length l ≡ limit → n < limit → n + 1 ≡ j → by_id limit d j (set l n a) ≡ a
+next_named limit d a l n j size room is =
     let e : j - 1 ≡ n = omega arith in
-    rw (← e) (named-same limit d j a l (omega arith) (omega arith) (omega arith))
+    rw (← e) (named_same limit d j a l (omega arith) (omega arith) (omega arith))
 
 module _ (m : Module) (h : Reached m) (k j : ℕ) (name : ℤ) where
-  is-call : (n : ℕ) → is_call k n (call_by k n name (pos 0) (pos 0) (pos 0)) ≡ true
-  is-call n = rw (eq-eqb k k refl, eq-eqb n n refl)
+  is_call_holds : (n : ℕ) → is_call k n (call_by k n name (pos 0) (pos 0) (pos 0)) ≡ true
+  is_call_holds n = rw (eq-eqb k k refl, eq-eqb n n refl)
 
   module _ (n : ℕ) (some : 1 ≤ n) (code : (step m (call_by k n name (pos 0) (pos 0) (pos 0))).answer.code ≡ 0) where
-    partition-in : Between 1 m.table.size k
-    partition-in = by-partition-of m h (call_by k n name (pos 0) (pos 0) (pos 0)) k n some (is-call n) code
+    partition_in : Between 1 m.table.size k
+    partition_in = by_partition_of m h (call_by k n name (pos 0) (pos 0) (pos 0)) k n some (is_call_holds n) code
 
     comes : Calling m k
-    comes = (accepted m h (call_by k n name (pos 0) (pos 0) (pos 0)) k n partition-in.0 (is-call n) code).calling
+    comes = (accepted m h (call_by k n name (pos 0) (pos 0) (pos 0)) k n partition_in.0 (is_call_holds n) code).calling
 
   abbrev p : Partition
   p = own m k
 
-  board-created : let e = call_by k 26 name (pos 0) (pos 0) (pos 0) in
+  board_created : let e = call_by k 26 name (pos 0) (pos 0) (pos 0) in
       (step m e).answer.code ≡ 0 → (step m e).answer.value ≡ j
       → Between 1 (own (next m e) k).blackboardCount j × ((blackboard j (own (next m e) k)).shown ≡ false) × ((blackboard j (own (next m e) k)).message ≡ 0)
   unfolding Passed
-  board-created code value =
+  board_created code value =
       let e = call_by k 26 name (pos 0) (pos 0) (pos 0) in
       let c = comes 26 (omega arith) code in
-      let s = calling-sound m k c in
-      let f = checks-passed m e _ refl ((each-call m k c).createBlackboard name) code in
-      let is : p.blackboardCount + 1 ≡ j = sym f.1.valueIs ∙ value in
-      let q = own-after m k s c _ f.1 in
+      let s = calling_sound m k c in
+      let f = checks_passed m e _ refl ((each_call m k c).create_blackboard name) code in
+      let is : p.blackboardCount + 1 ≡ j = sym f.1.value_is ∙ value in
+      let q = own_after m k s c _ f.1 in
       let room = leb-false 8 p.blackboardCount f.0.0 in
-      let at = next-named blackboardLimit noBlackboard (record { name = id_of name; shown = false; message = 0 }) p.blackboards p.blackboardCount j (calling-valid m k s c).objects.blackboards.numbered.size room is in
+      let at = next_named blackboard_limit no_blackboard (record { name = id_of name; shown = false; message = 0 }) p.blackboards p.blackboardCount j (calling_valid m k s c).objects.blackboards.numbered.size room is in
       (rw q (omega arith, omega arith), ap (λ (x : Partition). (blackboard j x).shown) q ∙ ap (λ (x : BlackboardT). x.shown) at, ap (λ (x : Partition). (blackboard j x).message) q ∙ ap (λ (x : BlackboardT). x.message) at)
 
-  event-created : let e = call_by k 17 name (pos 0) (pos 0) (pos 0) in
+  event_created : let e = call_by k 17 name (pos 0) (pos 0) (pos 0) in
       (step m e).answer.code ≡ 0 → (step m e).answer.value ≡ j → Between 1 (own (next m e) k).eventCount j × ((event j (own (next m e) k)).up ≡ false)
   unfolding Passed
-  event-created code value =
+  event_created code value =
       let e = call_by k 17 name (pos 0) (pos 0) (pos 0) in
       let c = comes 17 (omega arith) code in
-      let s = calling-sound m k c in
-      let f = checks-passed m e _ refl ((each-call m k c).createEvent name) code in
-      let is : p.eventCount + 1 ≡ j = sym f.1.valueIs ∙ value in
-      let q = own-after m k s c _ f.1 in
+      let s = calling_sound m k c in
+      let f = checks_passed m e _ refl ((each_call m k c).create_event name) code in
+      let is : p.eventCount + 1 ≡ j = sym f.1.value_is ∙ value in
+      let q = own_after m k s c _ f.1 in
       let room = leb-false 8 p.eventCount f.0.0 in
-      let at = next-named eventLimit noEvent (record { name = id_of name; up = false }) p.events p.eventCount j (calling-valid m k s c).objects.events.numbered.size room is in
+      let at = next_named event_limit no_event (record { name = id_of name; up = false }) p.events p.eventCount j (calling_valid m k s c).objects.events.numbered.size room is in
       (rw q (omega arith, omega arith), ap (λ (x : Partition). (event j x).up) q ∙ ap (λ (x : EventState). x.up) at)
 
 -- ---------------------------------------------------------------- a list of events
@@ -168,46 +168,46 @@ lasts_on : (count : Partition → ℕ) (k j : ℕ) (e : EventT) (es : List Event
 unfolding erased
 lasts_on count k j e es m h more = record {
   reached = Reached.stepped m e h.reached;
-  inside = rw (step-size m e) h.inside;
+  inside = rw (step_size m e) h.inside;
   known = let l = more (or_left (erases k m e) _ h.lasts) in (h.known.0, omega (arith, h.known.1));
   lasts = or_right (erases k m e) _ h.lasts;
 }
 
-first-lasts : (count : Partition → ℕ) (k j : ℕ) (e : EventT) (es : List EventT) (m : Module) → Lasts count k j (e ∷ es) m → erases k m e ≡ false
+first_lasts : (count : Partition → ℕ) (k j : ℕ) (e : EventT) (es : List EventT) (m : Module) → Lasts count k j (e ∷ es) m → erases k m e ≡ false
 unfolding erased
-first-lasts count k j e es m h = or_left (erases k m e) _ h.lasts
+first_lasts count k j e es m h = or_left (erases k m e) _ h.lasts
 
 -- a list from the creation on
 module _ (input : List ℕ) (before : List EventT) (k j : ℕ) (name : ℤ) (es : List EventT) where
   abbrev m : Module
-  m = after (readTable input).state before
+  m = after (read_table input).state before
 
   h : Reached m
-  h = reached-after (readTable input).state (Reached.read input) before
+  h = reached_after (read_table input).state (Reached.read input) before
 
   abbrev made : ℕ → Module
   made n = next m (call_by k n name (pos 0) (pos 0) (pos 0))
 
   begins : (n : ℕ) → 1 ≤ n → (count : Partition → ℕ) → Since m k n j name es → Between 1 (count (own (made n) k)) j → Lasts count k j es (made n)
-  begins n some count since known = record { reached = Reached.stepped m _ h; inside = rw (step-size m (call_by k n name (pos 0) (pos 0) (pos 0))) (partition-in m h k j name n some since.code); known = known; lasts = since.lasts }
+  begins n some count since known = record { reached = Reached.stepped m _ h; inside = rw (step_size m (call_by k n name (pos 0) (pos 0) (pos 0))) (partition_in m h k j name n some since.code); known = known; lasts = since.lasts }
 
-  board-run : Since m k 26 j name es → (boardAt k j (after (made 26) es) ≡ lastShown (made 26) k j es) × Lasts (λ (p : Partition). p.blackboardCount) k j [] (after (made 26) es)
-  board-run since =
-      let c = board-created m h k j name since.code since.value in
-      let g = along-list (shows k j) (boardAt k j) (Lasts (λ (p : Partition). p.blackboardCount) k j)
+  board_run : Since m k 26 j name es → (board_at k j (after (made 26) es) ≡ last_shown (made 26) k j es) × Lasts (λ (p : Partition). p.blackboardCount) k j [] (after (made 26) es)
+  board_run since =
+      let c = board_created m h k j name since.code since.value in
+      let g = along_list (shows k j) (board_at k j) (Lasts (λ (p : Partition). p.blackboardCount) k j)
       (λ e es q h.
-      let on = first-lasts _ k j e es q h in
-      (board-step q h.reached e k j h.inside on h.known, lasts_on _ k j e es q h (λ l. (left q h.reached e k j h.inside l).boardCount)))
+      let on = first_lasts _ k j e es q h in
+      (board_step q h.reached e k j h.inside on h.known, lasts_on _ k j e es q h (λ l. (left q h.reached e k j h.inside l).board_count)))
       es (made 26) (begins 26 (omega arith) _ since c.0) in
       (g.0 ∙ ap (λ x. along (shows k j) x (answers (made 26) es)) (λ i. (c.1 i, c.2 i)), g.1)
 
-  event-run : Since m k 17 j name es → ((event j (own (after (made 17) es) k)).up ≡ lastSet (made 17) k j es) × Lasts (λ (p : Partition). p.eventCount) k j [] (after (made 17) es)
-  event-run since =
-      let c = event-created m h k j name since.code since.value in
-      let g = along-list (sets k j) (λ q. (event j (own q k)).up) (Lasts (λ (p : Partition). p.eventCount) k j)
+  event_run : Since m k 17 j name es → ((event j (own (after (made 17) es) k)).up ≡ last_set (made 17) k j es) × Lasts (λ (p : Partition). p.eventCount) k j [] (after (made 17) es)
+  event_run since =
+      let c = event_created m h k j name since.code since.value in
+      let g = along_list (sets k j) (λ q. (event j (own q k)).up) (Lasts (λ (p : Partition). p.eventCount) k j)
       (λ e es q h.
-      let on = first-lasts _ k j e es q h in
-      (event-step q h.reached e k j h.inside on h.known, lasts_on _ k j e es q h (λ l. (left q h.reached e k j h.inside l).eventCount)))
+      let on = first_lasts _ k j e es q h in
+      (event_step q h.reached e k j h.inside on h.known, lasts_on _ k j e es q h (λ l. (left q h.reached e k j h.inside l).eventCount)))
       es (made 17) (begins 17 (omega arith) _ since c.0) in
       (g.0 ∙ ap (λ x. along (sets k j) x (answers (made 17) es)) c.1, g.1)
 
@@ -216,13 +216,13 @@ pub latest : Latest
 latest = record {
   sampling = sampling;
   read = λ input i k es l size to h.
-      let m = (readTable input).state in
+      let m = (read_table input).state in
       let T = after_table m es in
-      rw T at (read-message (after m es) k i (lastWritten m i es) (rw T l) (rw T size) (rw T to) h (sampling input i es l));
-  board = λ input before k j name es since. let g = (board-run input before k j name es since).0 in (ap (λ (x : Bool × ℕ). x.0) g, ap (λ (x : Bool × ℕ). x.1) g);
-  set = λ input before k j name es since. (event-run input before k j name es since).0;
-  readBoard = λ input before k j name a es since c.
-      let g = (board-run input before k j name es since).0 in
-      rw (ap (λ (y : Bool × ℕ). y.0) g, ap (λ (y : Bool × ℕ). y.1) g) at ((each-call _ k c).readBlackboard (pos j) a);
-  waitEvent = λ input before k j name a es since c. rw (event-run input before k j name es since).0 at ((each-call _ k c).waitEvent (pos j) a);
+      rw T at (read_message (after m es) k i (last_written m i es) (rw T l) (rw T size) (rw T to) h (sampling input i es l));
+  board = λ input before k j name es since. let g = (board_run input before k j name es since).0 in (ap (λ (x : Bool × ℕ). x.0) g, ap (λ (x : Bool × ℕ). x.1) g);
+  set = λ input before k j name es since. (event_run input before k j name es since).0;
+  read_board = λ input before k j name a es since c.
+      let g = (board_run input before k j name es since).0 in
+      rw (ap (λ (y : Bool × ℕ). y.0) g, ap (λ (y : Bool × ℕ). y.1) g) at ((each_call _ k c).read_blackboard (pos j) a);
+  wait_event = λ input before k j name a es since c. rw (event_run input before k j name es since).0 at ((each_call _ k c).wait_event (pos j) a);
 }

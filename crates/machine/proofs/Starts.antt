@@ -13,18 +13,18 @@ use Rattle.machine.specs.declared.Table.{Table}
 use Rattle.machine.specs.declared.Time.{Time}
 use Rattle.machine.specs.declared.Time.TheVariants.{Never, At}
 use Rattle.machine.specs.declared.Window.{Window}
-use Rattle.machine.specs.Limits.{timeLimit, greatestTime}
-use Rattle.machine.specs.Table.{hasFlagged}
+use Rattle.machine.specs.Limits.{time_limit, greatest_time}
+use Rattle.machine.specs.Table.{has_flagged}
 use Rattle.machine.specs.Theorems.Valid.{Between, AtMost, SoundWindow, SoundWindows, SoundTable}
-use Rattle.machine.specs.Windows.{noWindow, windows, owned_by, flaggedFor, startsFrom, firstStart, ahead_of, nextStart, releaseAfter, releasePoint}
+use Rattle.machine.specs.Windows.{no_window, windows, owned_by, flagged_for, starts_from, first_start, ahead_of, next_start, release_after, release_point}
 use Rattle.machine.specs.Theorems.Starts.{WindowAt, NextFlagged, Release}
 use Rattle.machine.proofs.Either.{either}
-use Rattle.machine.proofs.Tests.{by-test, and_left, and_right, not-both}
+use Rattle.machine.proofs.Tests.{by_test, and_left, and_right, not_both}
 
 -- ---------------------------------------------------------------- the search
 -- where no window passes, the first does not, and none of the others
-none_here : (f : Window → Bool) (w : Window) (ws : List Window) → firstStart f (w ∷ ws) ≡ Never → (f w ≡ false) × (firstStart f ws ≡ Never)
-unfolding firstStart
+none_here : (f : Window → Bool) (w : Window) (ws : List Window) → first_start f (w ∷ ws) ≡ Never → (f w ≡ false) × (first_start f ws ≡ Never)
+unfolding first_start
 none_here f w ws e = either (f w)
     (λ p. let n : At w.start ≡ Never = rw p at e in let z : ◌≡◌ {A = ℕ} 0 1 = cc in absurd (omega arith))
     (λ p. (p, rw p at e))
@@ -34,140 +34,140 @@ abbrev Found : (ℕ → Type 0) → Time → Type 0
 Found P Never = Unit {0}
 Found P (At s) = P s
 
-found-so : (P Q : ℕ → Type 0) → ((s : ℕ) → P s → Q s) → (r : Time) → Found P r → Found Q r
-found-so P Q f Never h = tt
-found-so P Q f (At s) h = f s h
+found_so : (P Q : ℕ → Type 0) → ((s : ℕ) → P s → Q s) → (r : Time) → Found P r → Found Q r
+found_so P Q f Never h = tt
+found_so P Q f (At s) h = f s h
 
 -- a window that passes a test starts at s
 pub record Passes (f : Window → Bool) (ws : List Window) (s : ℕ) : Type 0 where
   pub at : ℕ
   pub inside : at < length ws
-  pub passed : f (get_or ws at noWindow) ≡ true
-  pub starts : (get_or ws at noWindow).start ≡ s
+  pub passed : f (get_or ws at no_window) ≡ true
+  pub starts : (get_or ws at no_window).start ≡ s
 
 -- one does at what is found
-found-passes : (f : Window → Bool) (ws : List Window) → Found (Passes f ws) (firstStart f ws)
-unfolding firstStart
-found-passes f [] = tt
-found-passes f (w ∷ ws) = by-test (Found (Passes f (w ∷ ws))) (f w)
+found_passes : (f : Window → Bool) (ws : List Window) → Found (Passes f ws) (first_start f ws)
+unfolding first_start
+found_passes f [] = tt
+found_passes f (w ∷ ws) = by_test (Found (Passes f (w ∷ ws))) (f w)
     (λ p. record { at = 0; inside = omega arith; passed = p; starts = refl })
-    (λ p. found-so _ _ (λ s h. record { at = suc h.at; inside = omega (arith, h.inside); passed = h.passed; starts = h.starts }) (firstStart f ws) (found-passes f ws))
+    (λ p. found_so _ _ (λ s h. record { at = suc h.at; inside = omega (arith, h.inside); passed = h.passed; starts = h.starts }) (first_start f ws) (found_passes f ws))
 
 -- what a window says that passes
-module _ (f : Window → Bool) (from : ℕ) (w : Window) (e : startsFrom f from w ≡ true) where
-  pub passes-test : f w ≡ true
-  passes-test = and_left _ _ e
+module _ (f : Window → Bool) (from : ℕ) (w : Window) (e : starts_from f from w ≡ true) where
+  pub passes_test : f w ≡ true
+  passes_test = and_left _ _ e
 
-  passes-from : from ≤ w.start
-  passes-from = leb-true _ _ (and_right (f w) _ e)
+  passes_from : from ≤ w.start
+  passes_from = leb-true _ _ (and_right (f w) _ e)
 
   -- it passes from every place up to its start
-  passes-to : (to : ℕ) → to ≤ w.start → startsFrom f to w ≡ true
-  passes-to to h = rw (passes-test, le-leb to w.start h)
+  passes_to : (to : ℕ) → to ≤ w.start → starts_from f to w ≡ true
+  passes_to to h = rw (passes_test, le-leb to w.start h)
 
 module _ (f : Window → Bool) (from : ℕ) where
-  fails-before : (w : Window) → startsFrom f from w ≡ false → startsFrom f 0 w ≡ true → w.start < from
-  fails-before w q e = either (leb from w.start) (λ l. not-both _ (passes-to f 0 w e from (leb-true _ _ l)) q) (leb-false _ _)
+  fails_before : (w : Window) → starts_from f from w ≡ false → starts_from f 0 w ≡ true → w.start < from
+  fails_before w q e = either (leb from w.start) (λ l. not_both _ (passes_to f 0 w e from (leb-true _ _ l)) q) (leb-false _ _)
 
   -- what is found does not start before the place, and is a start of the frame
-  found_from : (ws : List Window) → Found (λ s. from ≤ s) (firstStart (startsFrom f from) ws)
-  found_from ws = found-so _ _ (λ s h. omega (arith, passes-from f from (get_or ws h.at noWindow) h.passed, h.starts)) (firstStart (startsFrom f from) ws) (found-passes (startsFrom f from) ws)
+  found_from : (ws : List Window) → Found (λ s. from ≤ s) (first_start (starts_from f from) ws)
+  found_from ws = found_so _ _ (λ s h. omega (arith, passes_from f from (get_or ws h.at no_window) h.passed, h.starts)) (first_start (starts_from f from) ws) (found_passes (starts_from f from) ws)
 
-  found-start : (ws : List Window) → Found (Passes (startsFrom f 0) ws) (firstStart (startsFrom f from) ws)
-  found-start ws = found-so _ _
-      (λ s h. record { at = h.at; inside = h.inside; passed = passes-to f from (get_or ws h.at noWindow) h.passed 0 (omega arith); starts = h.starts })
-      (firstStart (startsFrom f from) ws) (found-passes (startsFrom f from) ws)
+  found_start : (ws : List Window) → Found (Passes (starts_from f 0) ws) (first_start (starts_from f from) ws)
+  found_start ws = found_so _ _
+      (λ s h. record { at = h.at; inside = h.inside; passed = passes_to f from (get_or ws h.at no_window) h.passed 0 (omega arith); starts = h.starts })
+      (first_start (starts_from f from) ws) (found_passes (starts_from f from) ws)
 
   -- where nothing is found, the first start of the frame lies before the place
-  found_before : (ws : List Window) → firstStart (startsFrom f from) ws ≡ Never → Found (λ s. s < from) (firstStart (startsFrom f 0) ws)
-  unfolding firstStart
+  found_before : (ws : List Window) → first_start (starts_from f from) ws ≡ Never → Found (λ s. s < from) (first_start (starts_from f 0) ws)
+  unfolding first_start
   found_before [] e = tt
   found_before (w ∷ ws) e =
-      let none = none_here (startsFrom f from) w ws e in
-      by-test (Found (λ s. s < from)) (startsFrom f 0 w) (fails-before w none.0) (λ p. found_before ws none.1)
+      let none = none_here (starts_from f from) w ws e in
+      by_test (Found (λ s. s < from)) (starts_from f 0 w) (fails_before w none.0) (λ p. found_before ws none.1)
 
 -- windows with flag 1 of partition k pass the test
 abbrev pub PassedBy : ℕ → (Window → Bool) → Type 0
-PassedBy k f = (w : Window) → flaggedFor k w ≡ true → f w ≡ true
+PassedBy k f = (w : Window) → flagged_for k w ≡ true → f w ≡ true
 
-pub owned-passes : (k : ℕ) → PassedBy k (owned_by k)
-owned-passes k w e = and_right w.flag _ e
+pub owned_passes : (k : ℕ) → PassedBy k (owned_by k)
+owned_passes k w e = and_right w.flag _ e
 
 -- a partition that has one has a start
-flagged-found : (k : ℕ) (f : Window → Bool) → PassedBy k f → (ws : List Window) → hasFlagged k ws ≡ true → firstStart (startsFrom f 0) ws ≡ Never → ⊥
-unfolding hasFlagged
-flagged-found k f by [] h e = true≢false (sym h)
-flagged-found k f by (w ∷ ws) h e =
-    let none = none_here (startsFrom f 0) w ws e in
-    either (flaggedFor k w)
-    (λ q. not-both (startsFrom f 0 w) (rw (by w q) (le-leb 0 w.start (omega arith))) none.0)
-    (λ q. flagged-found k f by ws (rw q at h) none.1)
+flagged_found : (k : ℕ) (f : Window → Bool) → PassedBy k f → (ws : List Window) → has_flagged k ws ≡ true → first_start (starts_from f 0) ws ≡ Never → ⊥
+unfolding has_flagged
+flagged_found k f by [] h e = true≢false (sym h)
+flagged_found k f by (w ∷ ws) h e =
+    let none = none_here (starts_from f 0) w ws e in
+    either (flagged_for k w)
+    (λ q. not_both (starts_from f 0 w) (rw (by w q) (le-leb 0 w.start (omega arith))) none.0)
+    (λ q. flagged_found k f by ws (rw q at h) none.1)
 
 -- ---------------------------------------------------------------- windows in order
 -- each starts after the end of those before, and ends inside the frame
-pub each-window : (previous frame size : ℕ) (ws : List Window) → SoundWindows previous frame size ws → (i : ℕ) → i < length ws → SoundWindow previous frame size (get_or ws i noWindow)
+pub each_window_holds : (previous frame size : ℕ) (ws : List Window) → SoundWindows previous frame size ws → (i : ℕ) → i < length ws → SoundWindow previous frame size (get_or ws i no_window)
 unfolding SoundWindows
-each-window previous frame size [] h i lo = absurd (omega arith)
-each-window previous frame size (w ∷ ws) h zero lo = h.0
-each-window previous frame size (w ∷ ws) h (suc i) lo =
-    let r = each-window (w.start + w.duration) frame size ws h.1 i (omega arith) in
+each_window_holds previous frame size [] h i lo = absurd (omega arith)
+each_window_holds previous frame size (w ∷ ws) h zero lo = h.0
+each_window_holds previous frame size (w ∷ ws) h (suc i) lo =
+    let r = each_window_holds (w.start + w.duration) frame size ws h.1 i (omega arith) in
     record { order = omega (arith, h.0.order, r.order); long = r.long; inside = r.inside; owner = r.owner }
 
 -- what is found starts no later than any window that passes
 found_first : (f : Window → Bool) (from previous frame size : ℕ) (ws : List Window) → SoundWindows previous frame size ws → (i : ℕ) → i < length ws
-    → startsFrom f from (get_or ws i noWindow) ≡ true → AtMost (get_or ws i noWindow).start (firstStart (startsFrom f from) ws)
-unfolding firstStart SoundWindows
+    → starts_from f from (get_or ws i no_window) ≡ true → AtMost (get_or ws i no_window).start (first_start (starts_from f from) ws)
+unfolding first_start SoundWindows
 found_first f from previous frame size [] h i lo e = absurd (omega arith)
 found_first f from previous frame size (w ∷ ws) h zero lo e = rw e (omega arith)
 found_first f from previous frame size (w ∷ ws) h (suc i) lo e =
-    by-test (AtMost (get_or ws i noWindow).start) (startsFrom f from w)
-    (λ p. omega (arith, (each-window (w.start + w.duration) frame size ws h.1 i (omega arith)).order))
+    by_test (AtMost (get_or ws i no_window).start) (starts_from f from w)
+    (λ p. omega (arith, (each_window_holds (w.start + w.duration) frame size ws h.1 i (omega arith)).order))
     (λ p. found_first f from (w.start + w.duration) frame size ws h.1 i (omega arith) e)
 
 -- one that starts before another ends by then
-pub ends-before : (previous frame size : ℕ) (ws : List Window) → SoundWindows previous frame size ws → (i j : ℕ) → i < length ws → j < length ws
-    → (get_or ws i noWindow).start < (get_or ws j noWindow).start → (get_or ws i noWindow).start + (get_or ws i noWindow).duration ≤ (get_or ws j noWindow).start
+pub ends_before : (previous frame size : ℕ) (ws : List Window) → SoundWindows previous frame size ws → (i j : ℕ) → i < length ws → j < length ws
+    → (get_or ws i no_window).start < (get_or ws j no_window).start → (get_or ws i no_window).start + (get_or ws i no_window).duration ≤ (get_or ws j no_window).start
 unfolding SoundWindows
-ends-before previous frame size [] h i j lo ho e = absurd (omega arith)
-ends-before previous frame size (w ∷ ws) h zero zero lo ho e = absurd (omega arith)
-ends-before previous frame size (w ∷ ws) h zero (suc j) lo ho e = (each-window (w.start + w.duration) frame size ws h.1 j (omega arith)).order
-ends-before previous frame size (w ∷ ws) h (suc i) zero lo ho e = absurd (omega (arith, (each-window (w.start + w.duration) frame size ws h.1 i (omega arith)).order))
-ends-before previous frame size (w ∷ ws) h (suc i) (suc j) lo ho e = ends-before (w.start + w.duration) frame size ws h.1 i j (omega arith) (omega arith) e
+ends_before previous frame size [] h i j lo ho e = absurd (omega arith)
+ends_before previous frame size (w ∷ ws) h zero zero lo ho e = absurd (omega arith)
+ends_before previous frame size (w ∷ ws) h zero (suc j) lo ho e = (each_window_holds (w.start + w.duration) frame size ws h.1 j (omega arith)).order
+ends_before previous frame size (w ∷ ws) h (suc i) zero lo ho e = absurd (omega (arith, (each_window_holds (w.start + w.duration) frame size ws h.1 i (omega arith)).order))
+ends_before previous frame size (w ∷ ws) h (suc i) (suc j) lo ho e = ends_before (w.start + w.duration) frame size ws h.1 i j (omega arith) (omega arith) e
 
 -- no two start at one place
-pub one-start : (previous frame size : ℕ) (ws : List Window) → SoundWindows previous frame size ws → (i j : ℕ) → i < length ws → j < length ws
-    → (get_or ws i noWindow).start ≡ (get_or ws j noWindow).start → get_or ws i noWindow ≡ get_or ws j noWindow
+pub one_start : (previous frame size : ℕ) (ws : List Window) → SoundWindows previous frame size ws → (i j : ℕ) → i < length ws → j < length ws
+    → (get_or ws i no_window).start ≡ (get_or ws j no_window).start → get_or ws i no_window ≡ get_or ws j no_window
 unfolding SoundWindows
-one-start previous frame size [] h i j lo ho e = absurd (omega arith)
-one-start previous frame size (w ∷ ws) h zero zero lo ho e = refl
-one-start previous frame size (w ∷ ws) h zero (suc j) lo ho e = absurd (omega (arith, h.0.long, (each-window (w.start + w.duration) frame size ws h.1 j (omega arith)).order))
-one-start previous frame size (w ∷ ws) h (suc i) zero lo ho e = absurd (omega (arith, h.0.long, (each-window (w.start + w.duration) frame size ws h.1 i (omega arith)).order))
-one-start previous frame size (w ∷ ws) h (suc i) (suc j) lo ho e = one-start (w.start + w.duration) frame size ws h.1 i j (omega arith) (omega arith) e
+one_start previous frame size [] h i j lo ho e = absurd (omega arith)
+one_start previous frame size (w ∷ ws) h zero zero lo ho e = refl
+one_start previous frame size (w ∷ ws) h zero (suc j) lo ho e = absurd (omega (arith, h.0.long, (each_window_holds (w.start + w.duration) frame size ws h.1 j (omega arith)).order))
+one_start previous frame size (w ∷ ws) h (suc i) zero lo ho e = absurd (omega (arith, h.0.long, (each_window_holds (w.start + w.duration) frame size ws h.1 i (omega arith)).order))
+one_start previous frame size (w ∷ ws) h (suc i) (suc j) lo ho e = one_start (w.start + w.duration) frame size ws h.1 i j (omega arith) (omega arith) e
 
 -- ---------------------------------------------------------------- the next start
 -- M is not 0
-pub frame-some : (T : Table) → SoundTable T → eqb T.frame 0 ≡ false
-frame-some T s = ne_eqb T.frame 0 (λ z. omega (arith, s.frame.0))
+pub frame_some : (T : Table) → SoundTable T → eqb T.frame 0 ≡ false
+frame_some T s = ne_eqb T.frame 0 (λ z. omega (arith, s.frame.0))
 
 module _ (frame x : ℕ) (place : x < frame) where
-  ahead-bounds : (here next : Time) → Found (λ s. x + 1 ≤ s) here → Found (λ s. s < frame) here → (here ≡ Never → Found (λ s. s < x + 1) next) → Between 1 frame (ahead_of frame x here next)
-  ahead-bounds (At s) next after inside before = (omega arith, omega arith)
-  ahead-bounds Never (At s) after inside before = let early : s < x + 1 = before refl in (omega arith, omega arith)
-  ahead-bounds Never Never after inside before = (omega arith, omega arith)
+  ahead_bounds : (here next : Time) → Found (λ s. x + 1 ≤ s) here → Found (λ s. s < frame) here → (here ≡ Never → Found (λ s. s < x + 1) next) → Between 1 frame (ahead_of frame x here next)
+  ahead_bounds (At s) next after inside before = (omega arith, omega arith)
+  ahead_bounds Never (At s) after inside before = let early : s < x + 1 = before refl in (omega arith, omega arith)
+  ahead_bounds Never Never after inside before = (omega arith, omega arith)
 
-  ahead-starts : (P : ℕ → Type 0) → ((s : ℕ) → P s → s < frame) → (here next : Time)
+  ahead_starts : (P : ℕ → Type 0) → ((s : ℕ) → P s → s < frame) → (here next : Time)
       → Found (λ s. x + 1 ≤ s) here → Found P here → (here ≡ Never → Found (λ s. s < x + 1) next) → Found P next → (next ≡ Never → ⊥)
       → P ((x + ahead_of frame x here next) % frame)
-  ahead-starts P inside (At s) next after starts before again some =
+  ahead_starts P inside (At s) next after starts before again some =
       let last = inside s starts in
       let e : x + (s - x) ≡ s = omega arith in
       rw (e, mod-eq_of_lt last) starts
-  ahead-starts P inside Never (At s) after starts before again some =
+  ahead_starts P inside Never (At s) after starts before again some =
       let last = inside s again in
       let early : s < x + 1 = before refl in
       let e : x + (s + frame - x) ≡ s + frame = omega arith in
       rw (e, add-mod_right s frame, mod-eq_of_lt last) again
-  ahead-starts P inside Never Never after starts before again some = absurd (some refl)
+  ahead_starts P inside Never Never after starts before again some = absurd (some refl)
 
 module _ (frame x n y : ℕ) (place : x < frame) (lo : 1 ≤ n) (hi : n ≤ frame) (at : y ≡ (x + n) % frame) where
   -- y lies in this frame or in the next one
@@ -180,141 +180,141 @@ module _ (frame x n y : ℕ) (place : x < frame) (lo : 1 ≤ n) (hi : n ≤ fram
       let e : y ≡ x + n - frame = at ∙ ap (λ (j : ℕ). j % frame) r ∙ add-mod_right (x + n - frame) frame ∙ mod-eq_of_lt (omega arith) in
       inr (omega arith))
 
-  ahead-least : (here next : Time) → (x + 1 ≤ y → AtMost y here) → Found (λ s. s < frame) here → AtMost y next → ahead_of frame x here next ≤ n
-  ahead-least (At s) next first inside again = ⊎_elim (λ (e : y ≡ x + n). omega (arith, first (omega arith))) (λ (e : y + frame ≡ x + n). omega arith) at_place
-  ahead-least Never (At s) first inside again = ⊎_elim (λ (e : y ≡ x + n). absurd (first (omega arith))) (λ (e : y + frame ≡ x + n). omega arith) at_place
-  ahead-least Never Never first inside again = absurd again
+  ahead_least : (here next : Time) → (x + 1 ≤ y → AtMost y here) → Found (λ s. s < frame) here → AtMost y next → ahead_of frame x here next ≤ n
+  ahead_least (At s) next first inside again = ⊎_elim (λ (e : y ≡ x + n). omega (arith, first (omega arith))) (λ (e : y + frame ≡ x + n). omega arith) at_place
+  ahead_least Never (At s) first inside again = ⊎_elim (λ (e : y ≡ x + n). absurd (first (omega arith))) (λ (e : y + frame ≡ x + n). omega arith) at_place
+  ahead_least Never Never first inside again = absurd again
 
 module _ (T : Table) (s : SoundTable T) (t : ℕ) (f : Window → Bool) where
   place : t % T.frame < T.frame
   place = mod-lt t (omega (arith, s.frame.0))
 
-  inside-frame : (g : Window → Bool) (y : ℕ) → Passes g (windows T) y → y < T.frame
-  inside-frame g y h = let w = each-window 0 T.frame T.size (windows T) s.eachWindow h.at h.inside in omega (arith, w.long, w.inside, h.starts)
+  inside_frame_holds : (g : Window → Bool) (y : ℕ) → Passes g (windows T) y → y < T.frame
+  inside_frame_holds g y h = let w = each_window_holds 0 T.frame T.size (windows T) s.each_window h.at h.inside in omega (arith, w.long, w.inside, h.starts)
 
-  found_inside : (from : ℕ) → Found (λ y. y < T.frame) (firstStart (startsFrom f from) (windows T))
-  found_inside from = found-so _ _ (inside-frame (startsFrom f 0)) (firstStart (startsFrom f from) (windows T)) (found-start f from (windows T))
+  found_inside : (from : ℕ) → Found (λ y. y < T.frame) (first_start (starts_from f from) (windows T))
+  found_inside from = found_so _ _ (inside_frame_holds (starts_from f 0)) (first_start (starts_from f from) (windows T)) (found_start f from (windows T))
 
   -- it is a number of 1..M
-  pub next-bounds : Between 1 T.frame (nextStart T t f)
-  unfolding nextStart
-  next-bounds =
+  pub next_bounds : Between 1 T.frame (next_start T t f)
+  unfolding next_start
+  next_bounds =
       let x = t % T.frame in
-      rw (frame-some T s) (ahead-bounds T.frame x place _ _ (found_from f _ (windows T)) (found_inside _) (found_before f _ (windows T)))
+      rw (frame_some T s) (ahead_bounds T.frame x place _ _ (found_from f _ (windows T)) (found_inside _) (found_before f _ (windows T)))
 
   -- a window that passes starts then
-  pub next-starts : (k : ℕ) → Between 1 T.size k → PassedBy k f → Passes (startsFrom f 0) (windows T) ((t + nextStart T t f) % T.frame)
-  unfolding nextStart
-  next-starts k own by =
+  pub next_starts : (k : ℕ) → Between 1 T.size k → PassedBy k f → Passes (starts_from f 0) (windows T) ((t + next_start T t f) % T.frame)
+  unfolding next_start
+  next_starts k own by =
       let x = t % T.frame in
       let ws = windows T in
-      let ahead : Passes (startsFrom f 0) ws ((x + nextStart T t f) % T.frame) =
-      rw (frame-some T s) (ahead-starts T.frame x place (Passes (startsFrom f 0) ws) (inside-frame (startsFrom f 0)) _ _
-      (found_from f _ ws) (found-start f _ ws) (found_before f _ ws) (found-start f _ ws) (flagged-found k f by ws (s.flagged k own))) in
-      subst (Passes (startsFrom f 0) ws) (mod-add-mod t T.frame (nextStart T t f)) ahead
+      let ahead : Passes (starts_from f 0) ws ((x + next_start T t f) % T.frame) =
+      rw (frame_some T s) (ahead_starts T.frame x place (Passes (starts_from f 0) ws) (inside_frame_holds (starts_from f 0)) _ _
+      (found_from f _ ws) (found_start f _ ws) (found_before f _ ws) (found_start f _ ws) (flagged_found k f by ws (s.flagged k own))) in
+      subst (Passes (starts_from f 0) ws) (mod-add-mod t T.frame (next_start T t f)) ahead
 
   -- and none starts sooner
-  pub next-least : (n : ℕ) → Passes (startsFrom f 0) (windows T) ((t + n) % T.frame) → 1 ≤ n → n ≤ T.frame → nextStart T t f ≤ n
-  unfolding nextStart
-  next-least n p lo hi =
+  pub next_least : (n : ℕ) → Passes (starts_from f 0) (windows T) ((t + n) % T.frame) → 1 ≤ n → n ≤ T.frame → next_start T t f ≤ n
+  unfolding next_start
+  next_least n p lo hi =
       let x = t % T.frame in
-      let w = get_or (windows T) p.at noWindow in
-      let found : ℕ → Time = λ from. firstStart (startsFrom f from) (windows T) in
-      let first : (from : ℕ) → from ≤ w.start → AtMost w.start (found from) = λ from q. found_first f from 0 T.frame T.size (windows T) s.eachWindow p.at p.inside (passes-to f 0 w p.passed from q) in
-      rw (frame-some T s) (ahead-least T.frame x n w.start place lo hi (p.starts ∙ sym (mod-add-mod t T.frame n)) (found (x + 1)) (found 0) (first (x + 1)) (found_inside (x + 1)) (first 0 (omega arith)))
+      let w = get_or (windows T) p.at no_window in
+      let found : ℕ → Time = λ from. first_start (starts_from f from) (windows T) in
+      let first : (from : ℕ) → from ≤ w.start → AtMost w.start (found from) = λ from q. found_first f from 0 T.frame T.size (windows T) s.each_window p.at p.inside (passes_to f 0 w p.passed from q) in
+      rw (frame_some T s) (ahead_least T.frame x n w.start place lo hi (p.starts ∙ sym (mod-add-mod t T.frame n)) (found (x + 1)) (found 0) (first (x + 1)) (found_inside (x + 1)) (first 0 (omega arith)))
 
 -- j ticks later, before it, the next start is j ticks nearer
-pub next-nearer : (T : Table) (s : SoundTable T) (t : ℕ) (f : Window → Bool) (k : ℕ) → Between 1 T.size k → PassedBy k f → (j : ℕ) → j < nextStart T t f → nextStart T (t + j) f ≡ nextStart T t f - j
-next-nearer T s t f k own by j h =
-    let n = nextStart T t f in
-    let later = nextStart T (t + j) f in
-    let b = next-bounds T s t f in
-    let bl = next-bounds T s (t + j) f in
+pub next_nearer : (T : Table) (s : SoundTable T) (t : ℕ) (f : Window → Bool) (k : ℕ) → Between 1 T.size k → PassedBy k f → (j : ℕ) → j < next_start T t f → next_start T (t + j) f ≡ next_start T t f - j
+next_nearer T s t f k own by j h =
+    let n = next_start T t f in
+    let later = next_start T (t + j) f in
+    let b = next_bounds T s t f in
+    let bl = next_bounds T s (t + j) f in
     let same : t + j + (n - j) ≡ t + n = omega arith in
     let on : t + (j + later) ≡ t + j + later = omega arith in
-    let hi : later ≤ n - j = next-least T s (t + j) f (n - j) (rw same (next-starts T s t f k own by)) (omega arith) (omega (arith, b.1)) in
+    let hi : later ≤ n - j = next_least T s (t + j) f (n - j) (rw same (next_starts T s t f k own by)) (omega arith) (omega (arith, b.1)) in
     let lo : n ≤ j + later = either (leb (j + later) T.frame)
-    (λ q. next-least T s t f (j + later) (rw on (next-starts T s (t + j) f k own by)) (omega (arith, bl.0)) (leb-true _ _ q))
+    (λ q. next_least T s t f (j + later) (rw on (next_starts T s (t + j) f k own by)) (omega (arith, bl.0)) (leb-true _ _ q))
     (λ q. omega (arith, b.1, leb-false (j + later) T.frame q)) in
     omega arith
 
 -- ---------------------------------------------------------------- the release point
 module _ (T : Table) (s : SoundTable T) (t : ℕ) where
   -- it lies ahead, by a frame at most
-  release-ahead : (k : ℕ) → (t < releaseAfter T t k) × (releaseAfter T t k ≤ t + T.frame)
-  unfolding releaseAfter
-  release-ahead k = from-now _ (next-bounds T s t _)
+  release_ahead : (k : ℕ) → (t < release_after T t k) × (release_after T t k ≤ t + T.frame)
+  unfolding release_after
+  release_ahead k = from_now _ (next_bounds T s t _)
     where
-      from-now : (n : ℕ) → Between 1 T.frame n → (t < t + n) × (t + n ≤ t + T.frame)
-      from-now n b = (omega (arith, b.0), omega (arith, b.1))
+      from_now : (n : ℕ) → Between 1 T.frame n → (t < t + n) × (t + n ≤ t + T.frame)
+      from_now n b = (omega (arith, b.0), omega (arith, b.1))
 
-  pub release-plain : t ≤ timeLimit → (k : ℕ) → releasePoint T t k ≡ releaseAfter T t k
-  unfolding releasePoint
-  release-plain ends k = rw (le-leb (releaseAfter T t k) greatestTime (omega (arith, (release-ahead k).1, s.frame.1)))
+  pub release_plain : t ≤ time_limit → (k : ℕ) → release_point T t k ≡ release_after T t k
+  unfolding release_point
+  release_plain ends k = rw (le-leb (release_after T t k) greatest_time (omega (arith, (release_ahead k).1, s.frame.1)))
 
-  pub release-bounds : t ≤ timeLimit → (k : ℕ) → (t < releasePoint T t k) × (releasePoint T t k ≤ t + T.frame)
-  release-bounds ends k = rw (release-plain ends k) (release-ahead k)
+  pub release_bounds : t ≤ time_limit → (k : ℕ) → (t < release_point T t k) × (release_point T t k ≤ t + T.frame)
+  release_bounds ends k = rw (release_plain ends k) (release_ahead k)
 
 -- two words for a window with flag 1 of the partition
 module _ (T : Table) (k x : ℕ) where
-  start-at : Passes (startsFrom (flaggedFor k) 0) (windows T) x → WindowAt T k true x
-  start-at p =
-      let w = get_or (windows T) p.at noWindow in
-      let e = passes-test (flaggedFor k) 0 w p.passed in
-      record { at = p.at; inside = p.inside; owner = eqb-true w.partition k (and_right w.flag _ e); flagIs = and_left w.flag _ e; starts = p.starts }
+  start_at : Passes (starts_from (flagged_for k) 0) (windows T) x → WindowAt T k true x
+  start_at p =
+      let w = get_or (windows T) p.at no_window in
+      let e = passes_test (flagged_for k) 0 w p.passed in
+      record { at = p.at; inside = p.inside; owner = eqb-true w.partition k (and_right w.flag _ e); flag_is = and_left w.flag _ e; starts = p.starts }
 
-  start-passes : WindowAt T k true x → Passes (startsFrom (flaggedFor k) 0) (windows T) x
-  start-passes f =
-      let w = get_or (windows T) f.at noWindow in
-      record { at = f.at; inside = f.inside; passed = rw (f.flagIs, eq-eqb w.partition k f.owner) (le-leb 0 w.start (omega arith)); starts = f.starts }
+  start_passes : WindowAt T k true x → Passes (starts_from (flagged_for k) 0) (windows T) x
+  start_passes f =
+      let w = get_or (windows T) f.at no_window in
+      record { at = f.at; inside = f.inside; passed = rw (f.flag_is, eq-eqb w.partition k f.owner) (le-leb 0 w.start (omega arith)); starts = f.starts }
 
 module _ (T : Table) (s : SoundTable T) (t k : ℕ) where
   -- the machine's release point is the earliest start of a window with flag 1, of that partition, strictly after t
-  pub release-earliest : Between 1 T.size k → t ≤ timeLimit → Release T k t (releasePoint T t k)
-  unfolding releaseAfter
-  release-earliest own ends =
-      let ahead = release-ahead T s t k in
-      rw (release-plain T s t ends k) (record {
-        starts = start-at T k _ (next-starts T s t _ k own (λ w e. e));
+  pub release_earliest : Between 1 T.size k → t ≤ time_limit → Release T k t (release_point T t k)
+  unfolding release_after
+  release_earliest own ends =
+      let ahead = release_ahead T s t k in
+      rw (release_plain T s t ends k) (record {
+        starts = start_at T k _ (next_starts T s t _ k own (λ w e. e));
         after = ahead.0;
         earliest = λ y f late. either (leb (y - t) T.frame)
             (λ q.
             let e : t + (y - t) ≡ y = omega arith in
-            omega (arith, next-least T s t (flaggedFor k) (y - t) (rw e (start-passes T k (y % T.frame) f)) (omega arith) (leb-true _ _ q)))
+            omega (arith, next_least T s t (flagged_for k) (y - t) (rw e (start_passes T k (y % T.frame) f)) (omega arith) (leb-true _ _ q)))
             (λ q. omega (arith, ahead.1, leb-false (y - t) T.frame q));
       })
 
   -- there is one only
-  pub release-one : (r r' : ℕ) → Release T k t r → Release T k t r' → r ≡ r'
-  release-one r r' f g = omega (arith, f.earliest r' g.starts g.after, g.earliest r f.starts f.after)
+  pub release_one : (r r' : ℕ) → Release T k t r → Release T k t r' → r ≡ r'
+  release_one r r' f g = omega (arith, f.earliest r' g.starts g.after, g.earliest r f.starts f.after)
 
   -- and no other window starts then
-  pub release-window : (r : ℕ) → Release T k t r → (i : ℕ) → i < length (windows T) → (get_or (windows T) i noWindow).start ≡ r % T.frame → ((get_or (windows T) i noWindow).partition ≡ k) × ((get_or (windows T) i noWindow).flag ≡ true)
-  release-window r f i inside e =
+  pub release_window : (r : ℕ) → Release T k t r → (i : ℕ) → i < length (windows T) → (get_or (windows T) i no_window).start ≡ r % T.frame → ((get_or (windows T) i no_window).partition ≡ k) × ((get_or (windows T) i no_window).flag ≡ true)
+  release_window r f i inside e =
       let z = f.starts in
-      let w = one-start 0 T.frame T.size (windows T) s.eachWindow i z.at inside z.inside (e ∙ sym z.starts) in
-      (ap (λ (v : Window). v.partition) w ∙ z.owner, ap (λ (v : Window). v.flag) w ∙ z.flagIs)
+      let w = one_start 0 T.frame T.size (windows T) s.each_window i z.at inside z.inside (e ∙ sym z.starts) in
+      (ap (λ (v : Window). v.partition) w ∙ z.owner, ap (λ (v : Window). v.flag) w ∙ z.flag_is)
 
-  start-inside : (x : ℕ) → WindowAt T k true x → x < T.frame
-  start-inside x f = inside-frame T s t (flaggedFor k) (startsFrom (flaggedFor k) 0) x (start-passes T k x f)
+  start_inside : (x : ℕ) → WindowAt T k true x → x < T.frame
+  start_inside x f = inside_frame_holds T s t (flagged_for k) (starts_from (flagged_for k) 0) x (start_passes T k x f)
 
   -- a place of frame q
-  at-frame : (q y : ℕ) → y < T.frame → (q * T.frame + y) % T.frame ≡ y
-  at-frame q y h = mul-add-mod_self_right q T.frame y ∙ mod-eq_of_lt h
+  at_frame : (q y : ℕ) → y < T.frame → (q * T.frame + y) % T.frame ≡ y
+  at_frame q y h = mul-add-mod_self_right q T.frame y ∙ mod-eq_of_lt h
 
   in_frame : (q y : ℕ) → q * T.frame ≤ y → y < q * T.frame + T.frame → y % T.frame ≡ y - q * T.frame
-  in_frame q y lo hi = let e : q * T.frame + (y - q * T.frame) ≡ y = omega arith in ap (λ (j : ℕ). j % T.frame) (sym e) ∙ at-frame q (y - q * T.frame) (omega arith)
+  in_frame q y lo hi = let e : q * T.frame + (y - q * T.frame) ≡ y = omega arith in ap (λ (j : ℕ). j % T.frame) (sym e) ∙ at_frame q (y - q * T.frame) (omega arith)
 
   -- a start ahead in this frame: the nearest of them
-  pub release-here : (x : ℕ) → NextFlagged T k (t % T.frame) x → Release T k t (t / T.frame * T.frame + x)
-  release-here x h =
+  pub release_here : (x : ℕ) → NextFlagged T k (t % T.frame) x → Release T k t (t / T.frame * T.frame + x)
+  release_here x h =
       let f = h.0 in
       let late = h.1 in
       let q = t / T.frame in
       let split : q * T.frame + t % T.frame ≡ t = div-add-mod' t T.frame in
-      let last = start-inside x f in
+      let last = start_inside x f in
       record {
-        starts = rw (at-frame q x last) f;
+        starts = rw (at_frame q x last) f;
         after = omega arith;
         earliest = λ y g after. either (ltb y (q * T.frame + T.frame))
             (λ p. let e = in_frame q y (omega arith) (ltb-true _ _ p) in let o = h.2 (y - q * T.frame) (rw (← e) g) (omega arith) in omega arith)
@@ -322,14 +322,14 @@ module _ (T : Table) (s : SoundTable T) (t k : ℕ) where
       }
 
   -- none ahead in this frame: the first of the next one
-  pub release-next : (x : ℕ) → WindowAt T k true x → ((y : ℕ) → WindowAt T k true y → x ≤ y) → ((y : ℕ) → WindowAt T k true y → y ≤ t % T.frame) → Release T k t ((t / T.frame + 1) * T.frame + x)
-  release-next x f first past =
+  pub release_next : (x : ℕ) → WindowAt T k true x → ((y : ℕ) → WindowAt T k true y → x ≤ y) → ((y : ℕ) → WindowAt T k true y → y ≤ t % T.frame) → Release T k t ((t / T.frame + 1) * T.frame + x)
+  release_next x f first past =
       let q = t / T.frame in
       let split : q * T.frame + t % T.frame ≡ t = div-add-mod' t T.frame in
-      let here : t % T.frame < T.frame = place T s t (flaggedFor k) in
-      let last = start-inside x f in
+      let here : t % T.frame < T.frame = place T s t (flagged_for k) in
+      let last = start_inside x f in
       record {
-        starts = rw (at-frame (q + 1) x last) f;
+        starts = rw (at_frame (q + 1) x last) f;
         after = omega arith;
         earliest = λ y g after. either (ltb y (q * T.frame + T.frame))
             (λ p. let e = in_frame q y (omega arith) (ltb-true _ _ p) in let h = past (y - q * T.frame) (rw (← e) g) in absurd (omega arith))

@@ -20,34 +20,34 @@ use Rattle.machine.specs.declared.Change.{Change}
 use Rattle.machine.specs.declared.Change.TheVariants.{Nothing, Stored, Created, Last, StoredSemaphore, StoredEvent, CreatedBuffer, Moved, StoredBlackboard, Ended, Handed, LevelSet, Entered}
 use Rattle.machine.specs.declared.Decision.{Decision}
 use Rattle.machine.specs.declared.Decision.TheVariants.{Refused, Unchanged, Ticked, Blocked, Changed, Restarted, Written, Passed as PassedOn}
-use Rattle.machine.specs.Fields.{is_number, isName, between, number_of}
-use Rattle.machine.specs.Process.{waitsForNothing, waitsForNormal, periodic, startRule, entered, due, onlyMarked, woken, expired, ticked, resumed}
+use Rattle.machine.specs.Fields.{is_number, is_name, between, number_of}
+use Rattle.machine.specs.Process.{waits_for_nothing, waits_for_normal, periodic, start_rule, entered, due, only_marked, woken, expired, ticked, resumed}
 use Rattle.machine.specs.Partition.{by_id, process, semaphore, event, buffer, blackboard, applied}
-use Rattle.machine.specs.Decisions.{nameTaken}
+use Rattle.machine.specs.Decisions.{name_taken}
 use Rattle.machine.specs.Semaphores.{signalled}
 use Rattle.machine.specs.Theorems.Valid.{Between, Numbered}
-use Rattle.machine.proofs.Tests.{by-test, not-both, or_left, or_right}
+use Rattle.machine.proofs.Tests.{by_test, not_both, or_left, or_right}
 use Rattle.machine.proofs.Bounds.{within_in, named_in}
 
 -- ---------------------------------------------------------------- what a process was given
-pub start-given : (c : Context) (delay : ℕ) (x : Process) → (startRule c delay x).given ≡ x.given
-unfolding startRule
-start-given c delay x = by-test (λ (y : Process). y.given ≡ x.given) (periodic x) (λ _. refl) (λ _. by-test (λ (y : Process). y.given ≡ x.given) (eqb delay 0) (λ _. refl) (λ _. refl))
+pub start_given : (c : Context) (delay : ℕ) (x : Process) → (start_rule c delay x).given ≡ x.given
+unfolding start_rule
+start_given c delay x = by_test (λ (y : Process). y.given ≡ x.given) (periodic x) (λ _. refl) (λ _. by_test (λ (y : Process). y.given ≡ x.given) (eqb delay 0) (λ _. refl) (λ _. refl))
 
-pub entered-given : (c : Context) (x : Process) → (entered c x).given ≡ x.given
+pub entered_given : (c : Context) (x : Process) → (entered c x).given ≡ x.given
 unfolding entered
-entered-given c x = by-test (λ (y : Process). y.given ≡ x.given) (waitsForNormal x.wait) (λ _. start-given c x.times.delay x) (λ _. refl)
+entered_given c x = by_test (λ (y : Process). y.given ≡ x.given) (waits_for_normal x.wait) (λ _. start_given c x.times.delay x) (λ _. refl)
 
-pub resumed-given : (x : Process) → (resumed x).given ≡ x.given
-resumed-given x = by-test (λ (y : Process). y.given ≡ x.given) (waitsForNothing x.wait) (λ _. refl) (λ _. refl)
+pub resumed_given : (x : Process) → (resumed x).given ≡ x.given
+resumed_given x = by_test (λ (y : Process). y.given ≡ x.given) (waits_for_nothing x.wait) (λ _. refl) (λ _. refl)
 
-woken-given : (t : ℕ) (x : Process) → (woken t x).given ≡ x.given
+woken_given : (t : ℕ) (x : Process) → (woken t x).given ≡ x.given
 unfolding woken
-woken-given t x = by-test (λ (y : Process). y.given ≡ x.given) (due t x.times.wake) (λ _. by-test (λ (y : Process). y.given ≡ x.given) (onlyMarked x) (λ _. refl) (λ _. refl)) (λ _. refl)
+woken_given t x = by_test (λ (y : Process). y.given ≡ x.given) (due t x.times.wake) (λ _. by_test (λ (y : Process). y.given ≡ x.given) (only_marked x) (λ _. refl) (λ _. refl)) (λ _. refl)
 
-pub ticked-given : (t : ℕ) (x : Process) → (ticked t x).given ≡ x.given
+pub ticked_given : (t : ℕ) (x : Process) → (ticked t x).given ≡ x.given
 unfolding expired
-ticked-given t x = by-test (λ (y : Process). y.given ≡ x.given) (due t (woken t x).times.deadline) (λ _. woken-given t x) (λ _. woken-given t x)
+ticked_given t x = by_test (λ (y : Process). y.given ≡ x.given) (due t (woken t x).times.deadline) (λ _. woken_given t x) (λ _. woken_given t x)
 
 -- ---------------------------------------------------------------- names
 -- none of these has this name
@@ -59,22 +59,22 @@ abbrev pub TakesName : (ℕ → ℕ) → ℕ → ℕ → ℕ → Type 0
 TakesName name_of count k name = (Between 1 count k × (name ≡ name_of k)) ⊎ ((k ≡ count + 1) × Free name_of count name)
 
 module _ {A : Type 0} (name_of : A → ℕ) (d : A) (limit : ℕ) where
-  not_taken : (f : Field) (l : List A) → nameTaken name_of f l ≡ false → (i : ℕ) → i < length l → is_number (name_of (get_or l i d)) f ≡ false
-  unfolding nameTaken
+  not_taken : (f : Field) (l : List A) → name_taken name_of f l ≡ false → (i : ℕ) → i < length l → is_number (name_of (get_or l i d)) f ≡ false
+  unfolding name_taken
   not_taken f [] h i b = absurd (omega arith)
   not_taken f (x ∷ l) h zero b = or_left (is_number (name_of x) f) _ h
   not_taken f (x ∷ l) h (suc i) b = not_taken f l (or_right (is_number (name_of x) f) _ h) i (omega arith)
 
-  is-named : (f : Field) → isName f ≡ true → (n : ℕ) → n ≡ number_of f → is_number n f ≡ true
-  is-named (Number i) h n e = eq-eqb i n (sym e)
-  is-named MinusOne h n e = not-both _ h refl
-  is-named Other h n e = not-both _ h refl
+  is_named : (f : Field) → is_name f ≡ true → (n : ℕ) → n ≡ number_of f → is_number n f ≡ true
+  is_named (Number i) h n e = eq-eqb i n (sym e)
+  is_named MinusOne h n e = not_both _ h refl
+  is_named Other h n e = not_both _ h refl
 
-  pub free-name : (n : ℕ) (l : List A) → Numbered limit d l n → (f : Field) → nameTaken name_of f (take n l) ≡ false → isName f ≡ true → Free (λ y. name_of (by_id limit d y l)) n (number_of f)
-  free-name n l s f none ok y b e =
+  pub free_name : (n : ℕ) (l : List A) → Numbered limit d l n → (f : Field) → name_taken name_of f (take n l) ≡ false → is_name f ≡ true → Free (λ y. name_of (by_id limit d y l)) n (number_of f)
+  free_name n l s f none ok y b e =
       let lt : y - 1 < length (take n l) = omega (arith, length-take n l, s.size, s.few, b.0, b.1) in
       let is : by_id limit d y l ≡ get_or (take n l) (y - 1) d = named_in limit y d l (within_in limit y b.0 (omega (arith, b.1, s.few))) ∙ sym (get_or-take n l (y - 1) d (omega (arith, b.0, b.1))) in
-      not-both _ (is-named f ok (name_of (get_or (take n l) (y - 1) d)) (ap name_of (sym is) ∙ e)) (not_taken f (take n l) none (y - 1) lt)
+      not_both _ (is_named f ok (name_of (get_or (take n l) (y - 1) d)) (ap name_of (sym is) ∙ e)) (not_taken f (take n l) none (y - 1) lt)
 
 -- ---------------------------------------------------------------- changes
 module _ (n : ℕ) (r : Request) where
@@ -110,7 +110,7 @@ module _ (n : ℕ) (r : Request) where
   pub record Stores (p : Partition) (d : Decision) : Type 0 where
     pub is : Marks p d
 
-  pub signalled-marks : (p : Partition) (l : List ℕ) (k : ℕ) → Between 1 p.semaphoreCount k → Marked p (signalled l k p)
+  pub signalled_marks : (p : Partition) (l : List ℕ) (k : ℕ) → Between 1 p.semaphoreCount k → Marked p (signalled l k p)
   unfolding signalled
-  signalled-marks p [] k b = inl (b, refl)
-  signalled-marks p (id ∷ l) k b = refl
+  signalled_marks p [] k b = inl (b, refl)
+  signalled_marks p (id ∷ l) k b = refl

@@ -5,19 +5,19 @@ use mathlib.Core.List.{List, [], ◌∷◌, ◌++◌, map}
 use mathlib.Core.Option.{none, some}
 use lib.ListN.{length, replicate}
 use lib.IntN.{pos, negsuc}
-use Rattle.machine.specs.Line.{lineFeed, space, minus, fieldWidth, in_range, column, markAfter, columns, numberText, fieldText, sameBytes, spelled, candidate, readField, lines}
+use Rattle.machine.specs.Line.{line_feed, space, minus, field_width, in_range, column, mark_after, columns, number_text, field_text, same_bytes, spelled, candidate, read_field, lines}
 
 -- these bytes at the right of a field
 abbrev right : List ℕ → List ℕ
-right bs = replicate (fieldWidth - length bs) space ++ bs
+right bs = replicate (field_width - length bs) space ++ bs
 
 -- 8, 0, -1, 999999999
 pub fields : List (List ℕ)
 fields = right (56 ∷ []) ∷ right (48 ∷ []) ∷ right (minus ∷ 49 ∷ []) ∷ right (replicate 9 57) ∷ []
 
-pub good-fields : map readField fields ≡ some (pos 8) ∷ some (pos 0) ∷ some (negsuc 0) ∷ some (pos 999999999) ∷ []
-unfolding fields readField candidate in_range sameBytes spelled fieldText numberText columns column markAfter
-good-fields = refl
+pub good_fields : map read_field fields ≡ some (pos 8) ∷ some (pos 0) ∷ some (negsuc 0) ∷ some (pos 999999999) ∷ []
+unfolding fields read_field candidate in_range same_bytes spelled field_text number_text columns column mark_after
+good_fields = refl
 
 -- ten spaces, "-", "- 1", "-01", "00", "+1", "-0", "-2", "1 ", ten digits, a tab, CR, NUL, a byte that is no ASCII
 pub refused : List (List ℕ)
@@ -38,15 +38,15 @@ refused =
     ∷ right (200 ∷ [])
     ∷ []
 
-pub refused-fields : map readField refused ≡ replicate (length refused) none
-unfolding refused readField candidate in_range sameBytes spelled fieldText numberText columns column markAfter
-refused-fields = refl
+pub refused_fields : map read_field refused ≡ replicate (length refused) none
+unfolding refused read_field candidate in_range same_bytes spelled field_text number_text columns column mark_after
+refused_fields = refl
 
 -- an LF alone is a line, and so are bytes after the last LF; nothing after it is none
-pub cut-lines : lines (49 ∷ lineFeed ∷ lineFeed ∷ 50 ∷ []) ≡ (49 ∷ lineFeed ∷ []) ∷ (lineFeed ∷ []) ∷ (50 ∷ []) ∷ []
+pub cut_lines : lines (49 ∷ line_feed ∷ line_feed ∷ 50 ∷ []) ≡ (49 ∷ line_feed ∷ []) ∷ (line_feed ∷ []) ∷ (50 ∷ []) ∷ []
 unfolding lines
-cut-lines = refl
+cut_lines = refl
 
-pub last-feed : lines (49 ∷ lineFeed ∷ []) ≡ (49 ∷ lineFeed ∷ []) ∷ []
+pub last_feed : lines (49 ∷ line_feed ∷ []) ≡ (49 ∷ line_feed ∷ []) ∷ []
 unfolding lines
-last-feed = refl
+last_feed = refl

@@ -13,201 +13,201 @@ use borrow.Author.Tests.{not-true, ne_eqb, le-leb}
 use Rattle.machine.specs.declared.Numbers.{Numbers}
 use Rattle.machine.specs.declared.Line.{Line}
 use Rattle.machine.specs.declared.Line.TheVariants.{Six, Bad}
-use Rattle.machine.specs.Limits.{lineLength}
-use Rattle.machine.specs.Line.{lineFeed, space, minus, base, fieldWidth, column, markAfter, columns, lastDigit, numberText, fieldText, lineText, numberList, readLine, inFirst, lines, firstLength, lineEnd, readAt}
-use Rattle.machine.proofs.TextLine.{line-length, six-length, read-six, read-other}
+use Rattle.machine.specs.Limits.{line_length}
+use Rattle.machine.specs.Line.{line_feed, space, minus, base, field_width, column, mark_after, columns, last_digit, number_text, field_text, line_text, number_list, read_line, in_first, lines, first_length, line_end, read_at}
+use Rattle.machine.proofs.TextLine.{line_length_holds, six_length, read_six, read_other}
 use Rattle.machine.proofs.Either.{either}
 
 -- ---------------------------------------------------------------- what a line is
 -- no LF among these bytes
-unfoldable pub noFeed : List ℕ → Bool
-noFeed [] = true
-noFeed (b ∷ bs) = not (eqb b lineFeed) && noFeed bs
+unfoldable pub no_feed : List ℕ → Bool
+no_feed [] = true
+no_feed (b ∷ bs) = not (eqb b line_feed) && no_feed bs
 
 -- one LF, the last byte
 unfoldable pub ended : List ℕ → Bool
 ended [] = false
-ended (b ∷ []) = eqb b lineFeed
-ended (b ∷ c ∷ bs) = not (eqb b lineFeed) && ended (c ∷ bs)
+ended (b ∷ []) = eqb b line_feed
+ended (b ∷ c ∷ bs) = not (eqb b line_feed) && ended (c ∷ bs)
 
 -- at least one byte, and no LF
 abbrev pub unended : List ℕ → Bool
 unended [] = false
-unended (b ∷ bs) = noFeed (b ∷ bs)
+unended (b ∷ bs) = no_feed (b ∷ bs)
 
 -- each line ends in its only LF; the last one may have none
-unfoldable pub areLines : List (List ℕ) → Bool
-areLines [] = true
-areLines (l ∷ []) = ended l || unended l
-areLines (l ∷ m ∷ ls) = ended l && areLines (m ∷ ls)
+unfoldable pub are_lines : List (List ℕ) → Bool
+are_lines [] = true
+are_lines (l ∷ []) = ended l || unended l
+are_lines (l ∷ m ∷ ls) = ended l && are_lines (m ∷ ls)
 
 -- ---------------------------------------------------------------- the lines are the input
-pub lines-input : (bs : List ℕ) → flatten (lines bs) ≡ bs
+pub lines_input : (bs : List ℕ) → flatten (lines bs) ≡ bs
 unfolding lines flatten
-lines-input [] = refl
-lines-input (b ∷ bs) =
-    either (eqb b lineFeed)
-    (λ e. rw e (ap (◌∷◌ b) (lines-input bs)))
-    (λ e. rw e (first (lines bs) ∙ ap (◌∷◌ b) (lines-input bs)))
+lines_input [] = refl
+lines_input (b ∷ bs) =
+    either (eqb b line_feed)
+    (λ e. rw e (ap (◌∷◌ b) (lines_input bs)))
+    (λ e. rw e (first (lines bs) ∙ ap (◌∷◌ b) (lines_input bs)))
   where
-    first : (ls : List (List ℕ)) → flatten (inFirst b ls) ≡ b ∷ flatten ls
+    first : (ls : List (List ℕ)) → flatten (in_first b ls) ≡ b ∷ flatten ls
     first [] = refl
     first (l ∷ ls) = refl
 
 module _ (b : ℕ) where
-  ended-more : (l : List ℕ) → eqb b lineFeed ≡ false → ended (b ∷ l) ≡ ended l
+  ended_more : (l : List ℕ) → eqb b line_feed ≡ false → ended (b ∷ l) ≡ ended l
   unfolding ended
-  ended-more [] e = e
-  ended-more (c ∷ l) e = rw e
+  ended_more [] e = e
+  ended_more (c ∷ l) e = rw e
 
-  unended-more : (l : List ℕ) → eqb b lineFeed ≡ false → unended l ≡ true → unended (b ∷ l) ≡ true
-  unfolding noFeed
-  unended-more [] e h = cc
-  unended-more (c ∷ l) e h = rw e h
+  unended_more : (l : List ℕ) → eqb b line_feed ≡ false → unended l ≡ true → unended (b ∷ l) ≡ true
+  unfolding no_feed
+  unended_more [] e h = cc
+  unended_more (c ∷ l) e h = rw e h
 
-  first-lines : (ls : List (List ℕ)) → eqb b lineFeed ≡ false → areLines ls ≡ true → areLines (inFirst b ls) ≡ true
-  unfolding areLines noFeed ended
-  first-lines [] e h = rw e
-  first-lines (l ∷ []) e h =
+  first_lines : (ls : List (List ℕ)) → eqb b line_feed ≡ false → are_lines ls ≡ true → are_lines (in_first b ls) ≡ true
+  unfolding are_lines no_feed ended
+  first_lines [] e h = rw e
+  first_lines (l ∷ []) e h =
       either (ended l)
-      (λ t. rw (ended-more l e, t))
-      (λ t. let u : unended l ≡ true = rw t at h in rw (unended-more l e u, or-true))
-  first-lines (l ∷ m ∷ ls) e h = rw (ended-more l e) h
+      (λ t. rw (ended_more l e, t))
+      (λ t. let u : unended l ≡ true = rw t at h in rw (unended_more l e u, or-true))
+  first_lines (l ∷ m ∷ ls) e h = rw (ended_more l e) h
 
-  fed-lines : (ls : List (List ℕ)) → eqb b lineFeed ≡ true → areLines ls ≡ true → areLines ((b ∷ []) ∷ ls) ≡ true
-  unfolding areLines ended
-  fed-lines [] e h = rw e
-  fed-lines (l ∷ ls) e h = rw e h
+  fed_lines : (ls : List (List ℕ)) → eqb b line_feed ≡ true → are_lines ls ≡ true → are_lines ((b ∷ []) ∷ ls) ≡ true
+  unfolding are_lines ended
+  fed_lines [] e h = rw e
+  fed_lines (l ∷ ls) e h = rw e h
 
-pub lines_are : (bs : List ℕ) → areLines (lines bs) ≡ true
-unfolding lines areLines
+pub lines_are : (bs : List ℕ) → are_lines (lines bs) ≡ true
+unfolding lines are_lines
 lines_are [] = refl
 lines_are (b ∷ bs) =
-    either (eqb b lineFeed)
-    (λ e. rw e (fed-lines b (lines bs) e (lines_are bs)))
-    (λ e. rw e (first-lines b (lines bs) e (lines_are bs)))
+    either (eqb b line_feed)
+    (λ e. rw e (fed_lines b (lines bs) e (lines_are bs)))
+    (λ e. rw e (first_lines b (lines bs) e (lines_are bs)))
 
 -- ---------------------------------------------------------------- the first line
-lines-first : (bs : List ℕ) → 0 < length bs → lines bs ≡ take (firstLength bs) bs ∷ lines (drop (firstLength bs) bs)
-unfolding lines firstLength
-lines-first [] h = absurd (omega arith)
-lines-first (b ∷ bs) h = either (eqb b lineFeed) (λ e. rw e) (λ e. rw e (rest bs (lines-first bs)))
+lines_first : (bs : List ℕ) → 0 < length bs → lines bs ≡ take (first_length bs) bs ∷ lines (drop (first_length bs) bs)
+unfolding lines first_length
+lines_first [] h = absurd (omega arith)
+lines_first (b ∷ bs) h = either (eqb b line_feed) (λ e. rw e) (λ e. rw e (rest bs (lines_first bs)))
   where
-    rest : (bs : List ℕ) → (0 < length bs → lines bs ≡ take (firstLength bs) bs ∷ lines (drop (firstLength bs) bs))
-        → inFirst b (lines bs) ≡ (b ∷ take (firstLength bs) bs) ∷ lines (drop (firstLength bs) bs)
+    rest : (bs : List ℕ) → (0 < length bs → lines bs ≡ take (first_length bs) bs ∷ lines (drop (first_length bs) bs))
+        → in_first b (lines bs) ≡ (b ∷ take (first_length bs) bs) ∷ lines (drop (first_length bs) bs)
     rest [] f = refl
-    rest (c ∷ bs) f = ap (inFirst b) (f (omega arith))
+    rest (c ∷ bs) f = ap (in_first b) (f (omega arith))
 
-first-within : (bs : List ℕ) → firstLength bs ≤ length bs
-unfolding firstLength
-first-within [] = omega arith
-first-within (b ∷ bs) = either (eqb b lineFeed) (λ e. rw e (omega arith)) (λ e. rw e (omega (arith, first-within bs)))
+first_within : (bs : List ℕ) → first_length bs ≤ length bs
+unfolding first_length
+first_within [] = omega arith
+first_within (b ∷ bs) = either (eqb b line_feed) (λ e. rw e (omega arith)) (λ e. rw e (omega (arith, first_within bs)))
 
-first_some : (bs : List ℕ) → 0 < length bs → 0 < firstLength bs
-unfolding firstLength
+first_some : (bs : List ℕ) → 0 < length bs → 0 < first_length bs
+unfolding first_length
 first_some [] h = absurd (omega arith)
-first_some (b ∷ bs) h = either (eqb b lineFeed) (λ e. rw e (omega arith)) (λ e. rw e (omega arith))
+first_some (b ∷ bs) h = either (eqb b line_feed) (λ e. rw e (omega arith)) (λ e. rw e (omega arith))
 
 -- ---------------------------------------------------------------- a line of numbers is the first line
-pub unfed-append : (p q : List ℕ) → noFeed p ≡ true → noFeed q ≡ true → noFeed (p ++ q) ≡ true
-unfolding noFeed
-unfed-append [] q h k = k
-unfed-append (b ∷ p) q h k =
-    let t = (and-eq-true_iff (not (eqb b lineFeed)) (noFeed p)).0 h in
-    rw t.0 (unfed-append p q t.1 k)
+pub unfed_append : (p q : List ℕ) → no_feed p ≡ true → no_feed q ≡ true → no_feed (p ++ q) ≡ true
+unfolding no_feed
+unfed_append [] q h k = k
+unfed_append (b ∷ p) q h k =
+    let t = (and-eq-true_iff (not (eqb b line_feed)) (no_feed p)).0 h in
+    rw t.0 (unfed_append p q t.1 k)
 
-unfed-right : (p q : List ℕ) → noFeed (p ++ q) ≡ true → noFeed q ≡ true
-unfolding noFeed
-unfed-right [] q h = h
-unfed-right (b ∷ p) q h = unfed-right p q ((and-eq-true_iff (not (eqb b lineFeed)) (noFeed (p ++ q))).0 h).1
+unfed_right : (p q : List ℕ) → no_feed (p ++ q) ≡ true → no_feed q ≡ true
+unfolding no_feed
+unfed_right [] q h = h
+unfed_right (b ∷ p) q h = unfed_right p q ((and-eq-true_iff (not (eqb b line_feed)) (no_feed (p ++ q))).0 h).1
 
-columns-unfed : (n rest mark : ℕ) → eqb mark lineFeed ≡ false → noFeed (columns n rest mark) ≡ true
-unfolding columns column markAfter noFeed
-columns-unfed zero rest mark h = refl
-columns-unfed (suc n) rest mark h =
+columns_unfed : (n rest mark : ℕ) → eqb mark line_feed ≡ false → no_feed (columns n rest mark) ≡ true
+unfolding columns column mark_after no_feed
+columns_unfed zero rest mark h = refl
+columns_unfed (suc n) rest mark h =
     either (eqb rest 0)
-    (λ e. rw e (unfed-append (columns n (rest / base) space) (mark ∷ []) (columns-unfed n (rest / base) space refl) (rw h)))
-    (λ e. rw e (unfed-append (columns n (rest / base) mark) (lastDigit rest ∷ []) (columns-unfed n (rest / base) mark h) (rw (ne_eqb (lastDigit rest) lineFeed (λ q. omega arith)))))
+    (λ e. rw e (unfed_append (columns n (rest / base) space) (mark ∷ []) (columns_unfed n (rest / base) space refl) (rw h)))
+    (λ e. rw e (unfed_append (columns n (rest / base) mark) (last_digit rest ∷ []) (columns_unfed n (rest / base) mark h) (rw (ne_eqb (last_digit rest) line_feed (λ q. omega arith)))))
 
-number-unfed : (magnitude mark : ℕ) → eqb mark lineFeed ≡ false → noFeed (numberText magnitude mark) ≡ true
-unfolding numberText noFeed
-number-unfed magnitude mark h =
-    unfed-append (columns (fieldWidth - 1) (magnitude / base) mark) (lastDigit magnitude ∷ [])
-    (columns-unfed (fieldWidth - 1) (magnitude / base) mark h)
-    (rw (ne_eqb (lastDigit magnitude) lineFeed (λ q. omega arith)))
+number_unfed : (magnitude mark : ℕ) → eqb mark line_feed ≡ false → no_feed (number_text magnitude mark) ≡ true
+unfolding number_text no_feed
+number_unfed magnitude mark h =
+    unfed_append (columns (field_width - 1) (magnitude / base) mark) (last_digit magnitude ∷ [])
+    (columns_unfed (field_width - 1) (magnitude / base) mark h)
+    (rw (ne_eqb (last_digit magnitude) line_feed (λ q. omega arith)))
 
-field-unfed : (z : ℤ) → noFeed (fieldText z) ≡ true
-unfolding fieldText
-field-unfed (pos n) = number-unfed n space refl
-field-unfed (negsuc n) = number-unfed (suc n) minus refl
+field_unfed : (z : ℤ) → no_feed (field_text z) ≡ true
+unfolding field_text
+field_unfed (pos n) = number_unfed n space refl
+field_unfed (negsuc n) = number_unfed (suc n) minus refl
 
-first-append : (p q : List ℕ) → noFeed p ≡ true → firstLength (p ++ q) ≡ length p + firstLength q
-unfolding noFeed firstLength
-first-append [] q h = omega arith
-first-append (b ∷ p) q h =
-    let t = (and-eq-true_iff (not (eqb b lineFeed)) (noFeed p)).0 h in
-    rw (not-true (eqb b lineFeed) t.0) (omega (arith, first-append p q t.1))
+first_append : (p q : List ℕ) → no_feed p ≡ true → first_length (p ++ q) ≡ length p + first_length q
+unfolding no_feed first_length
+first_append [] q h = omega arith
+first_append (b ∷ p) q h =
+    let t = (and-eq-true_iff (not (eqb b line_feed)) (no_feed p)).0 h in
+    rw (not-true (eqb b line_feed) t.0) (omega (arith, first_append p q t.1))
 
-pub text-first : (ns : List ℤ) (rest : List ℕ) → firstLength (lineText ns ++ rest) ≡ length (lineText ns)
-unfolding lineText firstLength
-text-first [] rest = refl
-text-first (z ∷ ns) rest =
-    rw (append_assoc, first-append (fieldText z) (lineText ns ++ rest) (field-unfed z), text-first ns rest, length-append)
+pub text_first : (ns : List ℤ) (rest : List ℕ) → first_length (line_text ns ++ rest) ≡ length (line_text ns)
+unfolding line_text first_length
+text_first [] rest = refl
+text_first (z ∷ ns) rest =
+    rw (append_assoc, first_append (field_text z) (line_text ns ++ rest) (field_unfed z), text_first ns rest, length-append)
 
-text-fed : (ns : List ℤ) → noFeed (lineText ns) ≡ true → ⊥
-unfolding lineText noFeed
-text-fed [] h = true≢false (sym h)
-text-fed (z ∷ ns) h = text-fed ns (unfed-right (fieldText z) (lineText ns) h)
+text_fed : (ns : List ℤ) → no_feed (line_text ns) ≡ true → ⊥
+unfolding line_text no_feed
+text_fed [] h = true≢false (sym h)
+text_fed (z ∷ ns) h = text_fed ns (unfed_right (field_text z) (line_text ns) h)
 
 -- bytes without an LF are no line of numbers
-pub unfed-bad : (bs : List ℕ) → noFeed bs ≡ true → readLine bs ≡ Bad
-unfed-bad bs h = go (readLine bs) refl
+pub unfed_bad : (bs : List ℕ) → no_feed bs ≡ true → read_line bs ≡ Bad
+unfed_bad bs h = go (read_line bs) refl
   where
-    go : (l : Line) → readLine bs ≡ l → readLine bs ≡ Bad
+    go : (l : Line) → read_line bs ≡ l → read_line bs ≡ Bad
     go Bad e = e
-    go (Six n) e = absurd (text-fed (numberList n) (rw (read-six bs n e).0 at h))
+    go (Six n) e = absurd (text_fed (number_list n) (rw (read_six bs n e).0 at h))
 
 -- a line of numbers in front of an input is its first line
-pub lines-text : (ns : List ℤ) (rest : List ℕ) → lines (lineText ns ++ rest) ≡ lineText ns ∷ lines rest
-lines-text ns rest =
-    lines-first (lineText ns ++ rest) (omega (arith, length-append (lineText ns) rest, line-length ns))
-    ∙ rw (text-first, take-append_seam, drop-append_seam)
+pub lines_text : (ns : List ℤ) (rest : List ℕ) → lines (line_text ns ++ rest) ≡ line_text ns ∷ lines rest
+lines_text ns rest =
+    lines_first (line_text ns ++ rest) (omega (arith, length-append (line_text ns) rest, line_length_holds ns))
+    ∙ rw (text_first, take-append_seam, drop-append_seam)
 
-six-first : (k : ℕ) (bs : List ℕ) (n : Numbers) → readLine (take k bs) ≡ Six n → firstLength bs ≡ lineLength
-six-first k bs n h =
-    ap firstLength (sym (take-append-drop k bs) ∙ ap (λ (l : List ℕ). l ++ drop k bs) (read-six (take k bs) n h).0)
-    ∙ text-first (numberList n) (drop k bs)
-    ∙ six-length n
+six_first : (k : ℕ) (bs : List ℕ) (n : Numbers) → read_line (take k bs) ≡ Six n → first_length bs ≡ line_length
+six_first k bs n h =
+    ap first_length (sym (take-append-drop k bs) ∙ ap (λ (l : List ℕ). l ++ drop k bs) (read_six (take k bs) n h).0)
+    ∙ text_first (number_list n) (drop k bs)
+    ∙ six_length n
 
 -- the first line and the first 61 bytes read alike
-pub read_first : (bs : List ℕ) → readLine (take (firstLength bs) bs) ≡ readLine (take lineLength bs)
-read_first bs = go (readLine (take (firstLength bs) bs)) (readLine (take lineLength bs)) refl refl
+pub read_first : (bs : List ℕ) → read_line (take (first_length bs) bs) ≡ read_line (take line_length bs)
+read_first bs = go (read_line (take (first_length bs) bs)) (read_line (take line_length bs)) refl refl
   where
-    go : (a b : Line) → readLine (take (firstLength bs) bs) ≡ a → readLine (take lineLength bs) ≡ b
-        → readLine (take (firstLength bs) bs) ≡ readLine (take lineLength bs)
+    go : (a b : Line) → read_line (take (first_length bs) bs) ≡ a → read_line (take line_length bs) ≡ b
+        → read_line (take (first_length bs) bs) ≡ read_line (take line_length bs)
     go Bad Bad p q = p ∙ sym q
-    go (Six n) b p q = rw (six-first (firstLength bs) bs n p)
-    go Bad (Six n) p q = rw (six-first lineLength bs n q)
+    go (Six n) b p q = rw (six_first (first_length bs) bs n p)
+    go Bad (Six n) p q = rw (six_first line_length bs n q)
 
 -- ---------------------------------------------------------------- the line at a position
 -- the lines from a position on, of which the first reads as the 61 bytes there do
 pub record LineAt (input : List ℕ) (at : ℕ) : Type 0 where
   pub line : List ℕ
-  pub first : lines (drop at input) ≡ line ∷ lines (drop (lineEnd input at) input)
-  pub reads : readLine line ≡ readAt input at
-  pub after : at < lineEnd input at
-  pub within : lineEnd input at ≤ length input
+  pub first : lines (drop at input) ≡ line ∷ lines (drop (line_end input at) input)
+  pub reads : read_line line ≡ read_at input at
+  pub after : at < line_end input at
+  pub within : line_end input at ≤ length input
 
 pub line_at : (input : List ℕ) (at : ℕ) → at < length input → LineAt input at
 line_at input at h =
     let l : length (drop at input) ≡ length input - at = length-drop at input in
     let e : leb at (length input) ≡ true = le-leb at (length input) (omega arith) in
     record {
-      line = take (firstLength (drop at input)) (drop at input);
-      first = rw e (lines-first (drop at input) (omega arith) ∙ rw drop-drop);
+      line = take (first_length (drop at input)) (drop at input);
+      first = rw e (lines_first (drop at input) (omega arith) ∙ rw drop-drop);
       reads = read_first (drop at input);
       after = rw e (omega (arith, first_some (drop at input) (omega arith)));
-      within = rw e (omega (arith, first-within (drop at input)));
+      within = rw e (omega (arith, first_within (drop at input)));
     }
 
 -- no line from the input's end on
@@ -216,16 +216,16 @@ unfolding lines
 lines_end input at h = rw (drop_of_length-le input {i = at} h)
 
 -- where fewer than 61 bytes are left, no six numbers are
-pub few-left : (input : List ℕ) (at : ℕ) → length input < at + lineLength → Bad ≡ readAt input at
-few-left input at h =
-    read-other (take lineLength (drop at input))
-    (λ e. omega (arith, length-take lineLength (drop at input), length-drop at input))
+pub few_left : (input : List ℕ) (at : ℕ) → length input < at + line_length → Bad ≡ read_at input at
+few_left input at h =
+    read_other (take line_length (drop at input))
+    (λ e. omega (arith, length-take line_length (drop at input), length-drop at input))
 
 -- the line of six numbers at a position is 61 bytes long
-pub six-end : (input : List ℕ) (at : ℕ) (n : Numbers) → readAt input at ≡ Six n → lineEnd input at ≡ at + lineLength
-six-end input at n h =
-    let f : firstLength (drop at input) ≡ lineLength = six-first lineLength (drop at input) n h in
+pub six_end : (input : List ℕ) (at : ℕ) (n : Numbers) → read_at input at ≡ Six n → line_end input at ≡ at + line_length
+six_end input at n h =
+    let f : first_length (drop at input) ≡ line_length = six_first line_length (drop at input) n h in
     let e : leb at (length input) ≡ true =
-    le-leb at (length input) (omega (arith, first-within (drop at input), length-drop at input))
+    le-leb at (length input) (omega (arith, first_within (drop at input), length-drop at input))
     in
     rw (e, f)

@@ -21,21 +21,21 @@ module _ {M E R : Type 0} (next : M → E → M) (reply : M → E → R) (common
   abbrev Purged : List E → M → M → Type 0
   Purged es m n = Related (final next reply m es) (final next reply n (keep common es)) × (seen m es ≡ map shown (replies next reply n (keep common es)))
 
-  purged-event : (m n : M) (e : E) (es : List E) → ((m n : M) → Related m n → Purged es m n) → Related m n → (b : Bool) → common e ≡ b
+  purged_event : (m n : M) (e : E) (es : List E) → ((m n : M) → Related m n → Purged es m n) → Related m n → (b : Bool) → common e ≡ b
       → Related (final next reply (next m e) es) (final next reply n (cond b (e ∷ keep common es) (keep common es)))
       × (map shown (cond b (reply m e ∷ keep commonReply (replies next reply (next m e) es)) (keep commonReply (replies next reply (next m e) es)))
       ≡ map shown (replies next reply n (cond b (e ∷ keep common es) (keep common es))))
-  purged-event m n e es ih a true q =
+  purged_event m n e es ih a true q =
       let k = u.both m n e a q in
       let h = ih (next m e) (next n e) k.0 in
       (h.0, λ i. k.1 i ∷ h.1 i)
-  purged-event m n e es ih a false q =
+  purged_event m n e es ih a false q =
       ih (next m e) n (u.along (next m e) m n (u.free m e (u.along m n m a (u.back m n a)) q) a)
 
   -- a run and the run without its free events
   purged : (es : List E) (m n : M) → Related m n → Purged es m n
   purged [] m n a = (a, refl)
-  purged (e ∷ es) m n a = rw (u.tagged m e) (purged-event m n e es (purged es) a (common e) refl)
+  purged (e ∷ es) m n a = rw (u.tagged m e) (purged_event m n e es (purged es) a (common e) refl)
 
   -- two lists that are equal without their free events
   pub two_runs : (m : M) → Related m m → (left right : List E) → keep common left ≡ keep common right

@@ -25,5 +25,5 @@ use Rattle.machine.specs.Replay as R
 
 -- every definition that the examples compute with
 pub worked : Worked
-unfolding E.bytes E.text E.table E.events E.printed E.toFour E.tickLine E.printedAfter E.twoWindows E.startedInFirst E.releasedInSecond E.oneWindow E.lockedUpdate E.lockedAnswers E.adjacentWindows E.askedLeft E.leftAnswers E.twoQueues E.restartedReader E.letInByNumber E.noEvent E.noEventAnswers R.replayed R.replayedRecord X.in_range X.column X.markAfter X.columns X.numberText X.fieldText X.lineText X.sameBytes X.spelled X.candidate X.readField X.readNumbers X.readLine X.lines T.hasFlagged T.flaggedFrom T.tableFrom T.table_of M.emptyTable M.emptyModule M.freshModule Wi.covering Wi.lookup Wi.firstStart Wi.nextStart Wi.releaseAfter Wi.releasePoint Ti.tickAt Ti.tickTo Ch.channelChecks Ch.write Ch.read Qu.send Qu.receive Ch.kept_to Qu.refilledTo Pl.strayField St.step St.decision D.awaiting D.checked D.blocked C.setMode D.nameTaken C.createProcess C.start C.stop C.stopSelf C.suspend C.suspendSelf C.timedWait C.periodicWait C.resume C.setPriority C.getStatus C.lockPreemption C.unlockPreemption C.getTicksLeft Ob.createSemaphore Ob.createEvent P.created P.storedSemaphore P.storedEvent P.storedBuffer P.storedBlackboard Mg.put Mg.taken Mg.sent Mg.received Bu.createBuffer Bu.sendBuffer Bu.receiveBuffer Bb.createBlackboard Bb.show Bb.readBlackboard Bb.clear D.queued Ob.waitSemaphore Ob.waitEvent Ob.signalled Ob.signal Ob.setEvent Ob.resetEvent Sv.services Sv.callDecision P.by_id P.replaced P.stored P.arrivedLast P.chosen P.running P.waiters P.changedAll P.eachFrom P.tickPartition P.enteredNormal P.freshPartition P.emptyPartition Q.woken Q.expired Q.startRule Q.entered I.kept I.appended I.removed R.texts
-worked = record { example = refl; continued = refl; four = refl; five = refl; released = refl; locked = refl; left = refl; letIn = refl; unread = refl }
+unfolding E.bytes E.text E.table E.events E.printed E.to_four E.tick_line E.printed_after E.two_windows E.started_in_first E.released_in_second E.one_window E.locked_update E.locked_answers E.adjacent_windows E.asked_left E.left_answers E.two_queues E.restarted_reader E.let_in_by_number E.no_event E.no_event_answers R.replayed R.replayed_record X.in_range X.column X.mark_after X.columns X.number_text X.field_text X.line_text X.same_bytes X.spelled X.candidate X.read_field X.read_numbers X.read_line X.lines T.has_flagged T.flagged_from T.table_from T.table_of M.empty_table M.empty_module M.fresh_module Wi.covering Wi.lookup Wi.first_start Wi.next_start Wi.release_after Wi.release_point Ti.tick_at Ti.tick_to Ch.channel_checks Ch.write Ch.read Qu.send Qu.receive Ch.kept_to Qu.refilled_to Pl.stray_field St.step St.decision D.awaiting D.checked D.blocked C.set_mode D.name_taken C.create_process C.start C.stop C.stop_self C.suspend C.suspend_self C.timed_wait C.periodic_wait C.resume C.set_priority C.get_status C.lock_preemption C.unlock_preemption C.get_ticks_left Ob.create_semaphore Ob.create_event P.created P.stored_semaphore P.stored_event P.stored_buffer P.stored_blackboard Mg.put Mg.taken Mg.sent Mg.received Bu.create_buffer Bu.send_buffer Bu.receive_buffer Bb.create_blackboard Bb.show Bb.read_blackboard Bb.clear D.queued Ob.wait_semaphore Ob.wait_event Ob.signalled Ob.signal Ob.set_event Ob.reset_event Sv.services Sv.call_decision P.by_id P.replaced P.stored P.arrived_last P.chosen P.running P.waiters P.changed_all P.each_from P.tick_partition P.entered_normal P.fresh_partition P.empty_partition Q.woken Q.expired Q.start_rule Q.entered I.kept I.appended I.removed R.texts
+worked = record { example = refl; continued = refl; four = refl; five = refl; released = refl; locked = refl; left = refl; let_in = refl; unread = refl }

@@ -10,28 +10,28 @@ use Rattle.machine.specs.declared.Decision.TheVariants.{Refused, Unchanged, Chan
 use Rattle.machine.specs.declared.Wait.TheVariants.{Blackboard}
 use Rattle.machine.specs.declared.Time.TheVariants.{At}
 use Rattle.machine.specs.declared.Field.{Field}
-use Rattle.machine.specs.Limits.{blackboardLimit}
-use Rattle.machine.specs.Fields.{isName, isMessage, number_of}
+use Rattle.machine.specs.Limits.{blackboard_limit}
+use Rattle.machine.specs.Fields.{is_name, is_message, number_of}
 use Rattle.machine.specs.Process.{object}
-use Rattle.machine.specs.Partition.{normalMode, emptyBlackboard, blackboard}
-use Rattle.machine.specs.Decisions.{checked, changed, unknown, nameTaken, creationChecks, awaiting}
+use Rattle.machine.specs.Partition.{normal_mode, empty_blackboard, blackboard}
+use Rattle.machine.specs.Decisions.{checked, changed, unknown, name_taken, creation_checks, awaiting}
 
-abbrev pub blackboardNamed : Field → List BlackboardT → Bool
-blackboardNamed name l = nameTaken (λ (x : BlackboardT). x.name) name l
+abbrev pub blackboard_named : Field → List BlackboardT → Bool
+blackboard_named name l = name_taken (λ (x : BlackboardT). x.name) name l
 
 -- 26 CREATE_BLACKBOARD name: creation checks as for semaphores; it shows nothing. Value: id.
-unfoldable pub createBlackboard : Field → Partition → Decision
-createBlackboard name p =
+unfoldable pub create_blackboard : Field → Partition → Decision
+create_blackboard name p =
     checked Refused
-    (creationChecks (leb blackboardLimit p.blackboardCount) (blackboardNamed name (take p.blackboardCount p.blackboards)) (isName name) (normalMode p))
-    (Changed (StoredBlackboard (p.blackboardCount + 1) (emptyBlackboard (number_of name))) Nothing (p.blackboardCount + 1))
+    (creation_checks (leb blackboard_limit p.blackboardCount) (blackboard_named name (take p.blackboardCount p.blackboards)) (is_name name) (normal_mode p))
+    (Changed (StoredBlackboard (p.blackboardCount + 1) (empty_blackboard (number_of name))) Nothing (p.blackboardCount + 1))
 
 -- blackboard k shows this message, or none
 abbrev pub showing : ℕ → ℕ → Partition → Change
 showing k m p = StoredBlackboard k (record { name = (blackboard k p).name; shown = true; message = m })
 
 abbrev pub cleared : ℕ → Partition → Change
-cleared k p = StoredBlackboard k (emptyBlackboard (blackboard k p).name)
+cleared k p = StoredBlackboard k (empty_blackboard (blackboard k p).name)
 
 -- 27 SHOW id, message. It shows the message until cleared; showing one ends all its waits in queue order, the message kept in each waiter's
 -- record.
@@ -39,13 +39,13 @@ unfoldable pub show : ℕ → Field → Partition → Decision
 show k m p =
     checked Refused
     ((unknown k p.blackboardCount, 3)
-    ∷ (not (isMessage m), 3)
+    ∷ (not (is_message m), 3)
     ∷ [])
     (Changed (showing k (number_of m) p) (Handed (object (Blackboard k)) (number_of m)) 0)
 
 -- 28 READ_BLACKBOARD id, time-out. Readers of an empty blackboard wait. A message read is the value.
-unfoldable pub readBlackboard : Context → ℕ → Field → Partition → Decision
-readBlackboard c k a p =
+unfoldable pub read_blackboard : Context → ℕ → Field → Partition → Decision
+read_blackboard c k a p =
     awaiting c ((unknown k p.blackboardCount, 3) ∷ []) true [] a
     (blackboard k p).shown (Unchanged (blackboard k p).message (At 0)) (Blackboard k) p
 

@@ -17,67 +17,67 @@ use Rattle.machine.specs.declared.Time.{Time}
 use Rattle.machine.specs.declared.Time.TheVariants.{At}
 use Rattle.machine.specs.declared.Wait.TheVariants.{Source, Destination}
 use Rattle.machine.specs.declared.Field.{Field}
-use Rattle.machine.specs.Limits.{partitionLimit}
-use Rattle.machine.specs.Fields.{between, isDuration, number_of}
+use Rattle.machine.specs.Limits.{partition_limit}
+use Rattle.machine.specs.Fields.{between, is_duration, number_of}
 use Rattle.machine.specs.Messages.{first}
 use Rattle.machine.specs.Process.{object, carried}
-use Rattle.machine.specs.Partition.{within, process, firstWaiter}
-use Rattle.machine.specs.Decisions.{checked, noMessage}
-use Rattle.machine.specs.Module.{channel, part, message, queue, withMessages}
+use Rattle.machine.specs.Partition.{within, process, first_waiter}
+use Rattle.machine.specs.Decisions.{checked, no_message}
+use Rattle.machine.specs.Module.{channel, part, message, queue, with_messages}
 
 -- ---------------------------------------------------------------- what a call sees of a channel
 -- A channel's kind: queuing, with 1..8 messages, or sampling. Bound: the ends of a queuing one are partitions that the record has places for.
 abbrev pub queuing : Channel → Bool
-queuing c = ltb 0 c.size && (within partitionLimit c.source && within partitionLimit c.destination)
+queuing c = ltb 0 c.size && (within partition_limit c.source && within partition_limit c.destination)
 
 -- there is a channel number i + 1, and it is queuing
-abbrev pub queuingAt : Table → ℕ → Bool
-queuingAt T i = ltb i T.channelCount && queuing (channel T i)
+abbrev pub queuing_at : Table → ℕ → Bool
+queuing_at T i = ltb i T.channelCount && queuing (channel T i)
 
 -- what is seen at partition k of a channel that holds x: the message at the destination alone
 abbrev pub seen_at : ℕ → Channel → Message → Message
-seen_at k c x = cond (eqb c.destination k) x noMessage
+seen_at k c x = cond (eqb c.destination k) x no_message
 
 -- at neither end
 abbrev pub apart : ℕ → Channel → Bool
 apart k x = not (eqb x.source k) && not (eqb x.destination k)
 
 -- the other end, and the queue of those who wait there: receivers at the destination, senders at the source
-abbrev pub otherEnd : ℕ → Channel → ℕ
-otherEnd k c = cond (eqb c.source k) c.destination c.source
+abbrev pub other_end : ℕ → Channel → ℕ
+other_end k c = cond (eqb c.source k) c.destination c.source
 
-abbrev pub otherQueue : ℕ → ℕ → Channel → ℕ
-otherQueue k i c = cond (eqb c.source k) (object (Destination (i + 1))) (object (Source (i + 1) 0))
+abbrev pub other_queue : ℕ → ℕ → Channel → ℕ
+other_queue k i c = cond (eqb c.source k) (object (Destination (i + 1))) (object (Source (i + 1) 0))
 
-abbrev pub noTraffic : Traffic
-noTraffic = record { len = 0; first = 0; waiter = 0; carried = 0 }
+abbrev pub no_traffic : Traffic
+no_traffic = record { len = 0; first = 0; waiter = 0; carried = 0 }
 
 -- what is seen of a queue of messages and of those who wait on o in the partition at the other end
-abbrev pub trafficOf : Queue → ℕ → Partition → Traffic
-trafficOf q o p = let id = firstWaiter o p in record { len = q.len; first = first q; waiter = id; carried = carried (process id p) }
+abbrev pub traffic_of : Queue → ℕ → Partition → Traffic
+traffic_of q o p = let id = first_waiter o p in record { len = q.len; first = first q; waiter = id; carried = carried (process id p) }
 
 -- the traffic of a queuing channel is seen at both its ends
-abbrev pub seesTraffic : Table → ℕ → ℕ → Bool
-seesTraffic T k i = queuingAt T i && not (apart k (channel T i))
+abbrev pub sees_traffic : Table → ℕ → ℕ → Bool
+sees_traffic T k i = queuing_at T i && not (apart k (channel T i))
 
-abbrev pub trafficAt : Module → ℕ → ℕ → Traffic
-trafficAt m k i =
+abbrev pub traffic_at : Module → ℕ → ℕ → Traffic
+traffic_at m k i =
     let c = channel m.table i in
-    cond (seesTraffic m.table k i) (trafficOf (queue m i) (otherQueue k i c) (part m (otherEnd k c - 1))) noTraffic
+    cond (sees_traffic m.table k i) (traffic_of (queue m i) (other_queue k i c) (part m (other_end k c - 1))) no_traffic
 
 -- what partition k sees of the channel that a names, on which x lies, with this traffic
-abbrev pub portAt : Table → ℕ → Field → Message → Traffic → Port
-portAt T k a x y =
+abbrev pub port_at : Table → ℕ → Field → Message → Traffic → Port
+port_at T k a x y =
     let i = number_of a - 1 in
     record { own = k; place = i; exists = between 1 T.channelCount a; channel = channel T i; message = seen_at k (channel T i) x; traffic = y }
 
-abbrev pub portOf : Module → ℕ → Request → Port
-portOf m k r = let i = number_of r.a - 1 in portAt m.table k r.a (message m i) (trafficAt m k i)
+abbrev pub port_of : Module → ℕ → Request → Port
+port_of m k r = let i = number_of r.a - 1 in port_at m.table k r.a (message m i) (traffic_at m k i)
 
 -- ---------------------------------------------------------------- sampling
 -- 21, 22, 30, 31. 3: no such channel, one of the other kind, or the caller's partition at neither end. 5: that partition isn't the end wanted.
-unfoldable pub channelChecks : Port → Bool → ℕ → List (Bool × ℕ)
-channelChecks x otherKind wanted =
+unfoldable pub channel_checks : Port → Bool → ℕ → List (Bool × ℕ)
+channel_checks x otherKind wanted =
     (not x.exists, 3)
     ∷ (otherKind, 3)
     ∷ (apart x.own x.channel, 3)
@@ -87,8 +87,8 @@ channelChecks x otherKind wanted =
 -- 21 WRITE channel, a. 5: that partition isn't its source. 3: a not in D. Stores a and t.
 unfoldable pub write : Context → Port → Field → Decision
 write c x a =
-    checked Refused (channelChecks x (queuing x.channel) x.channel.source)
-    (checked Refused ((not (isDuration a), 3) ∷ [])
+    checked Refused (channel_checks x (queuing x.channel) x.channel.source)
+    (checked Refused ((not (is_duration a), 3) ∷ [])
     (Written x.place (record { present = true; value = number_of a; written = c.time })))
 
 -- extra 1 if t − written ≤ refresh, else 0
@@ -98,18 +98,18 @@ freshness t x c = At (cond (leb (t - x.written) c.refresh) 1 0)
 -- 22 READ channel. Same 3; 5: not its destination. 1: no message. Value a, extra 1 if t − written ≤ refresh, else 0.
 unfoldable pub read : Context → Port → Decision
 read c x =
-    checked Refused (channelChecks x (queuing x.channel) x.channel.destination)
+    checked Refused (channel_checks x (queuing x.channel) x.channel.destination)
     (checked Refused ((not x.message.present, 1) ∷ [])
     (Unchanged x.message.value (freshness c.time x.message x.channel)))
 
 -- ---------------------------------------------------------------- restarts
-abbrev pub leadsInto : ℕ → Channel → Bool
-leadsInto k c = eqb c.destination k
+abbrev pub leads_into : ℕ → Channel → Bool
+leads_into k c = eqb c.destination k
 
 -- the messages without those on the first n channels into partition k
 unfoldable pub kept_to : Table → ℕ → ℕ → List Message → List Message
 kept_to T k zero l = l
-kept_to T k (suc n) l = cond (leadsInto k (channel T n)) (set (kept_to T k n l) n noMessage) (kept_to T k n l)
+kept_to T k (suc n) l = cond (leads_into k (channel T n)) (set (kept_to T k n l) n no_message) (kept_to T k n l)
 
-abbrev pub erasedTo : ℕ → ℕ → Module → Module
-erasedTo k n m = withMessages (kept_to m.table k n m.messages) m
+abbrev pub erased_to : ℕ → ℕ → Module → Module
+erased_to k n m = with_messages (kept_to m.table k n m.messages) m

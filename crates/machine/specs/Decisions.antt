@@ -13,9 +13,9 @@ use Rattle.machine.specs.declared.Wait.{Wait}
 use Rattle.machine.specs.declared.Time.{Time}
 use Rattle.machine.specs.declared.Time.TheVariants.{At}
 use Rattle.machine.specs.declared.Field.{Field}
-use Rattle.machine.specs.Fields.{is_number, isTimeout, timeOf}
-use Rattle.machine.specs.Process.{later, waitingFor}
-use Rattle.machine.specs.Partition.{idleMode, normalMode, locked, process}
+use Rattle.machine.specs.Fields.{is_number, is_timeout, time_of}
+use Rattle.machine.specs.Process.{later, waiting_for}
+use Rattle.machine.specs.Partition.{idle_mode, normal_mode, locked, process}
 
 -- Code, value and extra are 0 unless named.
 abbrev pub coded : ℕ → Reply
@@ -34,19 +34,19 @@ abbrev pub code_of : List (Bool × ℕ) → ℕ
 code_of l = checked (λ n. n) l 0
 
 -- ---------------------------------------------------------------- decisions
-abbrev pub noMessage : Message
-noMessage = record { present = false; value = 0; written = 0 }
+abbrev pub no_message : Message
+no_message = record { present = false; value = 0; written = 0 }
 
 -- the numbers of each decision
-abbrev pub replyOf : Decision → Reply
-replyOf (Refused code) = coded code
-replyOf (Unchanged value extra) = valued value extra
-replyOf Ticked = coded 0
-replyOf (Blocked id x) = coded 7
-replyOf (Changed a b value) = valued value (At 0)
-replyOf (Restarted mode) = coded 0
-replyOf (Written i x) = coded 0
-replyOf (Passed i a value) = valued value (At 0)
+abbrev pub reply_of : Decision → Reply
+reply_of (Refused code) = coded code
+reply_of (Unchanged value extra) = valued value extra
+reply_of Ticked = coded 0
+reply_of (Blocked id x) = coded 7
+reply_of (Changed a b value) = valued value (At 0)
+reply_of (Restarted mode) = coded 0
+reply_of (Written i x) = coded 0
+reply_of (Passed i a value) = valued value (At 0)
 
 -- code 0 and one change
 abbrev pub changed : Change → Decision
@@ -66,38 +66,38 @@ abbrev pub unknown : ℕ → ℕ → Bool
 unknown id count = eqb id 0 || ltb count id
 
 -- start modes; IDLE gets 9 before
-abbrev pub startMode : Partition → Bool
-startMode p = not (normalMode p)
+abbrev pub start_mode : Partition → Bool
+start_mode p = not (normal_mode p)
 
 abbrev pub dormant : Process → Bool
 dormant x = not x.started
 
 -- name exists: the name is that of one of these
-unfoldable pub nameTaken : {A : Type 0} → (A → ℕ) → Field → List A → Bool
-nameTaken name_of name [] = false
-nameTaken name_of name (x ∷ l) = is_number (name_of x) name || nameTaken name_of name l
+unfoldable pub name_taken : {A : Type 0} → (A → ℕ) → Field → List A → Bool
+name_taken name_of name [] = false
+name_taken name_of name (x ∷ l) = is_number (name_of x) name || name_taken name_of name l
 
 -- 9: IDLE, or NORMAL and nothing runs; the caller is the running process
-abbrev pub noCallerAs : ℕ → Partition → Bool
-noCallerAs caller p = idleMode p || (normalMode p && eqb caller 0)
+abbrev pub no_caller_as : ℕ → Partition → Bool
+no_caller_as caller p = idle_mode p || (normal_mode p && eqb caller 0)
 
 -- creating: 4: all of them exist. 1: name exists among its kind. 3: not admitted. 5: NORMAL.
-abbrev pub creationChecks : Bool → Bool → Bool → Bool → List (Bool × ℕ)
-creationChecks full taken admitted normal = (full, 4) ∷ (taken, 1) ∷ (not admitted, 3) ∷ (normal, 5) ∷ []
+abbrev pub creation_checks : Bool → Bool → Bool → Bool → List (Bool × ℕ)
+creation_checks full taken admitted normal = (full, 4) ∷ (taken, 1) ∷ (not admitted, 3) ∷ (normal, 5) ∷ []
 
 -- waiting: checks of its own (id unknown 3). 5: start mode. 3: not admitted (the time-out, and what stands beside it). Checks of its own.
-abbrev pub waitChecks : List (Bool × ℕ) → Bool → Bool → List (Bool × ℕ) → List (Bool × ℕ)
-waitChecks before start admitted after = before ++ ((start, 5) ∷ (not admitted, 3) ∷ after)
+abbrev pub wait_checks : List (Bool × ℕ) → Bool → Bool → List (Bool × ℕ) → List (Bool × ℕ)
+wait_checks before start admitted after = before ++ ((start, 5) ∷ (not admitted, 3) ∷ after)
 
 -- 2: a = 0. Else queued last at the object that the wait names, w = t + a or −1, code 7, or 5 while preemption is locked
 unfoldable pub queued : Context → Field → Wait → Partition → Decision
 queued c a w p =
     checked Refused
     ((is_number 0 a, 2) ∷ [])
-    (blocked p.level c.caller (waitingFor w (later (At c.time) (timeOf a)) (process c.caller p)))
+    (blocked p.level c.caller (waiting_for w (later (At c.time) (time_of a)) (process c.caller p)))
 
 -- a call that waits for the object that w names, with time-out a: its checks; where it need not wait, success; else it is queued
 unfoldable pub awaiting : Context → List (Bool × ℕ) → Bool → List (Bool × ℕ) → Field → Bool → Decision → Wait → Partition → Decision
 awaiting c before beside after a at_once success w p =
-    checked Refused (waitChecks before (startMode p) (beside && isTimeout a) after)
+    checked Refused (wait_checks before (start_mode p) (beside && is_timeout a) after)
     (cond at_once success (queued c a w p))

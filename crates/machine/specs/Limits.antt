@@ -2,93 +2,93 @@
 use Rattle.std.specs.Prelude.{ℕ}
 
 -- Module::PROCESSES
-abbrev pub processLimit : ℕ
-processLimit = 16
+abbrev pub process_limit : ℕ
+process_limit = 16
 
 -- Module::SEMAPHORES
-abbrev pub semaphoreLimit : ℕ
-semaphoreLimit = 8
+abbrev pub semaphore_limit : ℕ
+semaphore_limit = 8
 
 -- Module::EVENTS
-abbrev pub eventLimit : ℕ
-eventLimit = 8
+abbrev pub event_limit : ℕ
+event_limit = 8
 
 -- Module::BUFFERS
-abbrev pub bufferLimit : ℕ
-bufferLimit = 8
+abbrev pub buffer_limit : ℕ
+buffer_limit = 8
 
 -- Module::MESSAGES
-abbrev pub messageLimit : ℕ
-messageLimit = 16
+abbrev pub message_limit : ℕ
+message_limit = 16
 
 -- Module::BLACKBOARDS
-abbrev pub blackboardLimit : ℕ
-blackboardLimit = 8
+abbrev pub blackboard_limit : ℕ
+blackboard_limit = 8
 
 -- Module::NAME
-abbrev pub nameLimit : ℕ
-nameLimit = 255
+abbrev pub name_limit : ℕ
+name_limit = 255
 
 -- Module::PRIORITY
-abbrev pub priorityLimit : ℕ
-priorityLimit = 239
+abbrev pub priority_limit : ℕ
+priority_limit = 239
 
 -- Module::VALUE
-abbrev pub valueLimit : ℕ
-valueLimit = 32767
+abbrev pub value_limit : ℕ
+value_limit = 32767
 
 -- Module::MODE
-abbrev pub modeLimit : ℕ
-modeLimit = 3
+abbrev pub mode_limit : ℕ
+mode_limit = 3
 
 -- Module::CALL
-abbrev pub callLimit : ℕ
-callLimit = 34
+abbrev pub call_limit : ℕ
+call_limit = 34
 
 -- Module::LEVEL
-abbrev pub levelLimit : ℕ
-levelLimit = 16
+abbrev pub level_limit : ℕ
+level_limit = 16
 
 -- Module::DURATION
-abbrev pub durationLimit : ℕ
-durationLimit = 9999999
+abbrev pub duration_limit : ℕ
+duration_limit = 9999999
 
 -- Module::END
-abbrev pub timeLimit : ℕ
-timeLimit = 99999999
+abbrev pub time_limit : ℕ
+time_limit = 99999999
 
 -- Module::FRAME
-abbrev pub frameLimit : ℕ
-frameLimit = 10000
+abbrev pub frame_limit : ℕ
+frame_limit = 10000
 
 -- Module::PARTITIONS
-abbrev pub partitionLimit : ℕ
-partitionLimit = 8
+abbrev pub partition_limit : ℕ
+partition_limit = 8
 
 -- Module::WINDOWS
-abbrev pub windowLimit : ℕ
-windowLimit = 32
+abbrev pub window_limit : ℕ
+window_limit = 32
 
 -- Module::CHANNELS
-abbrev pub channelLimit : ℕ
-channelLimit = 16
+abbrev pub channel_limit : ℕ
+channel_limit = 16
 
 -- Module::SIZE
-abbrev pub sizeLimit : ℕ
-sizeLimit = 8
+abbrev pub size_limit : ℕ
+size_limit = 8
 
 -- Module::NUMBER
-abbrev pub numberLimit : ℕ
-numberLimit = 999999999
+abbrev pub number_limit : ℕ
+number_limit = 999999999
 
 -- Module::LINE
-abbrev pub lineLength : ℕ
-lineLength = 61
+abbrev pub line_length : ℕ
+line_length = 61
 
 -- no limit of document 01: the greatest time that the record can hold, where sums of times stop
-abbrev pub greatestTime : ℕ
-greatestTime = 4294967295
+abbrev pub greatest_time : ℕ
+greatest_time = 4294967295
 
 -- no limit of document 01: the greatest semaphore value that the record can hold
-abbrev pub greatestValue : ℕ
-greatestValue = 65535
+abbrev pub greatest_value : ℕ
+greatest_value = 65535

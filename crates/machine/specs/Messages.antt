@@ -3,26 +3,26 @@ use Rattle.std.specs.Prelude.{ℕ, ◌+◌, ◌-◌, Bool, true, false, cond, Li
 use Rattle.machine.specs.declared.Queue.{Queue}
 use Rattle.machine.specs.declared.Transfer.{Transfer}
 use Rattle.machine.specs.declared.Transfer.TheVariants.{Put, HandedTo, Taken, LetIn}
-use Rattle.machine.specs.Limits.{messageLimit}
+use Rattle.machine.specs.Limits.{message_limit}
 
 -- the messages, the first to leave first
 abbrev pub held : Queue → List ℕ
 held q = take q.len q.items
 
 -- the queue that holds these; what lies past them is 0
-abbrev pub queueOf : List ℕ → Queue
-queueOf l = record { items = l ++ replicate (messageLimit - length l) 0; len = length l }
+abbrev pub queue_of : List ℕ → Queue
+queue_of l = record { items = l ++ replicate (message_limit - length l) 0; len = length l }
 
-abbrev pub noQueue : Queue
-noQueue = queueOf []
+abbrev pub no_queue : Queue
+no_queue = queue_of []
 
 -- one joins last. Bound: a full array stays as it is
 unfoldable pub put : ℕ → Queue → Queue
-put m q = cond (ltb q.len messageLimit) (record { items = set q.items q.len m; len = q.len + 1 }) q
+put m q = cond (ltb q.len message_limit) (record { items = set q.items q.len m; len = q.len + 1 }) q
 
 -- the first leaves
 unfoldable pub taken : Queue → Queue
-taken q = queueOf (drop 1 (held q))
+taken q = queue_of (drop 1 (held q))
 
 -- the first; 0 where there is none
 abbrev pub first : Queue → ℕ
@@ -45,8 +45,8 @@ moved Taken q = taken q
 moved (LetIn id m) q = put m (taken q)
 
 -- it ends a wait
-abbrev pub endsWait : Transfer → Bool
-endsWait (Put m) = false
-endsWait (HandedTo id m) = true
-endsWait Taken = false
-endsWait (LetIn id m) = true
+abbrev pub ends_wait : Transfer → Bool
+ends_wait (Put m) = false
+ends_wait (HandedTo id m) = true
+ends_wait Taken = false
+ends_wait (LetIn id m) = true

@@ -1,24 +1,24 @@
 -- The module: records with nothing in them, reading the record, and the only four ways to change it.
 use Rattle.std.specs.Prelude.{ℕ, ◌-◌, cond, List, [], get_or, set, replicate, eqb}
 use Rattle.machine.specs.declared.Partition.{Partition}
-use Rattle.machine.specs.Limits.{partitionLimit, windowLimit, channelLimit}
-use Rattle.machine.specs.Partition.{running, freshPartition, emptyPartition}
+use Rattle.machine.specs.Limits.{partition_limit, window_limit, channel_limit}
+use Rattle.machine.specs.Partition.{running, fresh_partition, empty_partition}
 use Rattle.machine.specs.declared.Channel.{Channel}
 use Rattle.machine.specs.declared.Table.{Table}
 use Rattle.machine.specs.declared.Message.{Message}
 use Rattle.machine.specs.declared.Queue.{Queue}
 use Rattle.machine.specs.declared.Module.{Module}
-use Rattle.machine.specs.Messages.{noQueue}
-use Rattle.machine.specs.Decisions.{noMessage}
+use Rattle.machine.specs.Messages.{no_queue}
+use Rattle.machine.specs.Decisions.{no_message}
 use Rattle.machine.specs.declared.Lookup.{Lookup}
-use Rattle.machine.specs.Windows.{noWindow, lookup}
+use Rattle.machine.specs.Windows.{no_window, lookup}
 
-abbrev pub noChannel : Channel
-noChannel = record { source = 0; destination = 0; refresh = 0; size = 0 }
+abbrev pub no_channel : Channel
+no_channel = record { source = 0; destination = 0; refresh = 0; size = 0 }
 
 -- what stands past the end of a list of partitions
-abbrev pub noPartition : Partition
-noPartition = record {
+abbrev pub no_partition : Partition
+no_partition = record {
   mode = 0;
   level = 0;
   holder = 0;
@@ -36,37 +36,37 @@ noPartition = record {
   waiting = record { items = []; len = 0 };
 }
 
-unfoldable pub emptyTable : Table
-emptyTable = record {
+unfoldable pub empty_table : Table
+empty_table = record {
   frame = 0;
   size = 0;
-  windows = replicate windowLimit noWindow;
+  windows = replicate window_limit no_window;
   windowCount = 0;
-  channels = replicate channelLimit noChannel;
+  channels = replicate channel_limit no_channel;
   channelCount = 0;
 }
 
 -- no module: an empty record, M, P and all else 0
-unfoldable pub emptyModule : Module
-emptyModule = record { table = emptyTable; t = 0; messages = replicate channelLimit noMessage; queues = replicate channelLimit noQueue; partitions = replicate partitionLimit emptyPartition }
+unfoldable pub empty_module : Module
+empty_module = record { table = empty_table; t = 0; messages = replicate channel_limit no_message; queues = replicate channel_limit no_queue; partitions = replicate partition_limit empty_partition }
 
 -- the record that reading the table gives: t 0, every partition in mode 1 with nothing created, no message
-unfoldable pub freshModule : Table → Module
-freshModule T = record { table = T; t = 0; messages = replicate channelLimit noMessage; queues = replicate channelLimit noQueue; partitions = replicate partitionLimit freshPartition }
+unfoldable pub fresh_module : Table → Module
+fresh_module T = record { table = T; t = 0; messages = replicate channel_limit no_message; queues = replicate channel_limit no_queue; partitions = replicate partition_limit fresh_partition }
 
 -- channel number i + 1
 abbrev pub channel : Table → ℕ → Channel
-channel T i = get_or T.channels i noChannel
+channel T i = get_or T.channels i no_channel
 
 -- partition number i + 1, and the message and the queue of messages on channel number i + 1
 abbrev pub part : Module → ℕ → Partition
-part m i = get_or m.partitions i noPartition
+part m i = get_or m.partitions i no_partition
 
 abbrev pub message : Module → ℕ → Message
-message m i = get_or m.messages i noMessage
+message m i = get_or m.messages i no_message
 
 abbrev pub queue : Module → ℕ → Queue
-queue m i = get_or m.queues i noQueue
+queue m i = get_or m.queues i no_queue
 
 -- the window lookup at t: the current partition, and the ticks left
 abbrev pub window : Module → Lookup
@@ -75,23 +75,23 @@ window m = lookup m.table m.t
 abbrev pub current : Module → ℕ
 current m = (window m).partition
 
-abbrev pub ticksLeft : Module → ℕ
-ticksLeft m = (window m).left
+abbrev pub ticks_left : Module → ℕ
+ticks_left m = (window m).left
 
-abbrev pub runningIn : ℕ → Module → ℕ
-runningIn k m = cond (eqb k 0) 0 (running (part m (k - 1)))
+abbrev pub running_in : ℕ → Module → ℕ
+running_in k m = cond (eqb k 0) 0 (running (part m (k - 1)))
 
-abbrev pub withPart : ℕ → Partition → Module → Module
-withPart i p m = record { table = m.table; t = m.t; messages = m.messages; queues = m.queues; partitions = set m.partitions i p }
+abbrev pub with_part : ℕ → Partition → Module → Module
+with_part i p m = record { table = m.table; t = m.t; messages = m.messages; queues = m.queues; partitions = set m.partitions i p }
 
-abbrev pub withMessages : List Message → Module → Module
-withMessages l m = record { table = m.table; t = m.t; messages = l; queues = m.queues; partitions = m.partitions }
+abbrev pub with_messages : List Message → Module → Module
+with_messages l m = record { table = m.table; t = m.t; messages = l; queues = m.queues; partitions = m.partitions }
 
-abbrev pub withMessage : ℕ → Message → Module → Module
-withMessage i x m = withMessages (set m.messages i x) m
+abbrev pub with_message : ℕ → Message → Module → Module
+with_message i x m = with_messages (set m.messages i x) m
 
-abbrev pub withQueue : ℕ → Queue → Module → Module
-withQueue i q m = record { table = m.table; t = m.t; messages = m.messages; queues = set m.queues i q; partitions = m.partitions }
+abbrev pub with_queue : ℕ → Queue → Module → Module
+with_queue i q m = record { table = m.table; t = m.t; messages = m.messages; queues = set m.queues i q; partitions = m.partitions }
 
-abbrev pub withTime : ℕ → Module → Module
-withTime t m = record { table = m.table; t = t; messages = m.messages; queues = m.queues; partitions = m.partitions }
+abbrev pub with_time : ℕ → Module → Module
+with_time t m = record { table = m.table; t = t; messages = m.messages; queues = m.queues; partitions = m.partitions }

@@ -15,56 +15,56 @@ use Rattle.machine.specs.declared.Change.{Change}
 use Rattle.machine.specs.declared.Change.TheVariants.{Nothing, Stored, Created, Last, StoredSemaphore, StoredEvent, CreatedBuffer, Moved, StoredBlackboard, Ended, Handed, LevelSet, Entered}
 use Rattle.machine.specs.declared.Decision.{Decision}
 use Rattle.machine.specs.declared.Decision.TheVariants.{Refused, Unchanged, Ticked, Blocked, Changed, Restarted, Written, Passed}
-use Rattle.machine.specs.Limits.{processLimit, semaphoreLimit, eventLimit, bufferLimit, blackboardLimit}
+use Rattle.machine.specs.Limits.{process_limit, semaphore_limit, event_limit, buffer_limit, blackboard_limit}
 use Rattle.machine.specs.Ids.{members, ids_of, kept, appended, removed, follow}
-use Rattle.machine.specs.Messages.{noQueue, moved}
-use Rattle.machine.specs.Process.{blankProcess, ready, object, onObject, ticked, served, handed, entered}
+use Rattle.machine.specs.Messages.{no_queue, moved}
+use Rattle.machine.specs.Process.{blank_process, ready, object, on_object, ticked, served, handed, entered}
 
 -- IDLE 0, COLD_START 1, WARM_START 2, NORMAL 3
-abbrev pub idleMode : Partition → Bool
-idleMode p = eqb p.mode 0
+abbrev pub idle_mode : Partition → Bool
+idle_mode p = eqb p.mode 0
 
-abbrev pub normalMode : Partition → Bool
-normalMode p = eqb p.mode 3
+abbrev pub normal_mode : Partition → Bool
+normal_mode p = eqb p.mode 3
 
 -- the preemption lock is held: its level is above 0
 abbrev pub locked : ℕ → Bool
 locked level = ltb 0 level
 
-abbrev pub noSemaphore : SemaphoreT
-noSemaphore = record { name = 0; value = 0; max = 0 }
+abbrev pub no_semaphore : SemaphoreT
+no_semaphore = record { name = 0; value = 0; max = 0 }
 
-abbrev pub noEvent : EventState
-noEvent = record { name = 0; up = false }
+abbrev pub no_event : EventState
+no_event = record { name = 0; up = false }
 
 -- a buffer with nothing in it, a blackboard that shows nothing
-abbrev pub emptyBuffer : ℕ → ℕ → Buffer
-emptyBuffer name limit = record { name = name; limit = limit; queue = noQueue }
+abbrev pub empty_buffer : ℕ → ℕ → Buffer
+empty_buffer name limit = record { name = name; limit = limit; queue = no_queue }
 
-abbrev pub emptyBlackboard : ℕ → BlackboardT
-emptyBlackboard name = record { name = name; shown = false; message = 0 }
+abbrev pub empty_blackboard : ℕ → BlackboardT
+empty_blackboard name = record { name = name; shown = false; message = 0 }
 
-abbrev pub noBuffer : Buffer
-noBuffer = emptyBuffer 0 0
+abbrev pub no_buffer : Buffer
+no_buffer = empty_buffer 0 0
 
-abbrev pub noBlackboard : BlackboardT
-noBlackboard = emptyBlackboard 0
+abbrev pub no_blackboard : BlackboardT
+no_blackboard = empty_blackboard 0
 
 -- a partition in this mode with nothing created, and nothing locked
-abbrev pub nothingCreated : ℕ → Partition
-nothingCreated mode = record {
+abbrev pub nothing_created : ℕ → Partition
+nothing_created mode = record {
   mode = mode;
   level = 0;
   holder = 0;
-  processes = replicate processLimit blankProcess;
+  processes = replicate process_limit blank_process;
   processCount = 0;
-  semaphores = replicate semaphoreLimit noSemaphore;
+  semaphores = replicate semaphore_limit no_semaphore;
   semaphoreCount = 0;
-  events = replicate eventLimit noEvent;
+  events = replicate event_limit no_event;
   eventCount = 0;
-  buffers = replicate bufferLimit noBuffer;
+  buffers = replicate buffer_limit no_buffer;
   bufferCount = 0;
-  blackboards = replicate blackboardLimit noBlackboard;
+  blackboards = replicate blackboard_limit no_blackboard;
   blackboardCount = 0;
   arrival = ids_of [];
   waiting = ids_of [];
@@ -82,23 +82,23 @@ unfoldable pub replaced : {A : Type 0} → ℕ → ℕ → A → List A → List
 replaced limit id a l = cond (within limit id) (set l (id - 1) a) l
 
 abbrev pub process : ℕ → Partition → Process
-process id p = by_id processLimit blankProcess id p.processes
+process id p = by_id process_limit blank_process id p.processes
 
 abbrev pub semaphore : ℕ → Partition → SemaphoreT
-semaphore k p = by_id semaphoreLimit noSemaphore k p.semaphores
+semaphore k p = by_id semaphore_limit no_semaphore k p.semaphores
 
 abbrev pub event : ℕ → Partition → EventState
-event k p = by_id eventLimit noEvent k p.events
+event k p = by_id event_limit no_event k p.events
 
 abbrev pub buffer : ℕ → Partition → Buffer
-buffer k p = by_id bufferLimit noBuffer k p.buffers
+buffer k p = by_id buffer_limit no_buffer k p.buffers
 
 abbrev pub blackboard : ℕ → Partition → BlackboardT
-blackboard k p = by_id blackboardLimit noBlackboard k p.blackboards
+blackboard k p = by_id blackboard_limit no_blackboard k p.blackboards
 
 -- this mode, and the preemption lock with this level and this holder
-abbrev pub withModeAndLock : ℕ → ℕ → ℕ → Partition → Partition
-withModeAndLock mode level holder p = record {
+abbrev pub with_mode_and_lock : ℕ → ℕ → ℕ → Partition → Partition
+with_mode_and_lock mode level holder p = record {
   mode = mode;
   level = level;
   holder = holder;
@@ -117,14 +117,14 @@ withModeAndLock mode level holder p = record {
 }
 
 -- mode set; a mode change brings the level to 0
-abbrev pub withMode : ℕ → Partition → Partition
-withMode mode p = withModeAndLock mode 0 0 p
+abbrev pub with_mode : ℕ → Partition → Partition
+with_mode mode p = with_mode_and_lock mode 0 0 p
 
-abbrev pub withLock : ℕ → ℕ → Partition → Partition
-withLock level holder p = withModeAndLock p.mode level holder p
+abbrev pub with_lock : ℕ → ℕ → Partition → Partition
+with_lock level holder p = with_mode_and_lock p.mode level holder p
 
-abbrev pub withProcesses : List Process → ℕ → Ids → Ids → Partition → Partition
-withProcesses l n a w p = record {
+abbrev pub with_processes : List Process → ℕ → Ids → Ids → Partition → Partition
+with_processes l n a w p = record {
   mode = p.mode;
   level = p.level;
   holder = p.holder;
@@ -142,8 +142,8 @@ withProcesses l n a w p = record {
   waiting = w;
 }
 
-abbrev pub withSemaphores : List SemaphoreT → ℕ → Partition → Partition
-withSemaphores l n p = record {
+abbrev pub with_semaphores : List SemaphoreT → ℕ → Partition → Partition
+with_semaphores l n p = record {
   mode = p.mode;
   level = p.level;
   holder = p.holder;
@@ -161,8 +161,8 @@ withSemaphores l n p = record {
   waiting = p.waiting;
 }
 
-abbrev pub withEvents : List EventState → ℕ → Partition → Partition
-withEvents l n p = record {
+abbrev pub with_events : List EventState → ℕ → Partition → Partition
+with_events l n p = record {
   mode = p.mode;
   level = p.level;
   holder = p.holder;
@@ -180,8 +180,8 @@ withEvents l n p = record {
   waiting = p.waiting;
 }
 
-abbrev pub withBuffers : List Buffer → ℕ → Partition → Partition
-withBuffers l n p = record {
+abbrev pub with_buffers : List Buffer → ℕ → Partition → Partition
+with_buffers l n p = record {
   mode = p.mode;
   level = p.level;
   holder = p.holder;
@@ -199,8 +199,8 @@ withBuffers l n p = record {
   waiting = p.waiting;
 }
 
-abbrev pub withBlackboards : List BlackboardT → ℕ → Partition → Partition
-withBlackboards l n p = record {
+abbrev pub with_blackboards : List BlackboardT → ℕ → Partition → Partition
+with_blackboards l n p = record {
   mode = p.mode;
   level = p.level;
   holder = p.holder;
@@ -224,45 +224,45 @@ withBlackboards l n p = record {
 unfoldable pub stored : ℕ → Process → Partition → Partition
 stored id x p =
     let old = process id p in
-    cond (within processLimit id)
-    (withProcesses (replaced processLimit id x p.processes) p.processCount
+    cond (within process_limit id)
+    (with_processes (replaced process_limit id x p.processes) p.processCount
     (follow (ready old) (ready x) id p.arrival)
-    (follow (onObject old) (onObject x) id p.waiting) p)
+    (follow (on_object old) (on_object x) id p.waiting) p)
     p
 
 -- semaphore k has this record from now on; the next one is created by it. Bound: no such id changes nothing.
-unfoldable pub storedSemaphore : ℕ → SemaphoreT → Partition → Partition
-storedSemaphore k s p = cond (within semaphoreLimit k) (withSemaphores (replaced semaphoreLimit k s p.semaphores) (max p.semaphoreCount k) p) p
+unfoldable pub stored_semaphore : ℕ → SemaphoreT → Partition → Partition
+stored_semaphore k s p = cond (within semaphore_limit k) (with_semaphores (replaced semaphore_limit k s p.semaphores) (max p.semaphoreCount k) p) p
 
 -- event k, the same way
-unfoldable pub storedEvent : ℕ → EventState → Partition → Partition
-storedEvent k e p = cond (within eventLimit k) (withEvents (replaced eventLimit k e p.events) (max p.eventCount k) p) p
+unfoldable pub stored_event : ℕ → EventState → Partition → Partition
+stored_event k e p = cond (within event_limit k) (with_events (replaced event_limit k e p.events) (max p.eventCount k) p) p
 
 -- buffer k, blackboard k
-unfoldable pub storedBuffer : ℕ → Buffer → Partition → Partition
-storedBuffer k b p = cond (within bufferLimit k) (withBuffers (replaced bufferLimit k b p.buffers) (max p.bufferCount k) p) p
+unfoldable pub stored_buffer : ℕ → Buffer → Partition → Partition
+stored_buffer k b p = cond (within buffer_limit k) (with_buffers (replaced buffer_limit k b p.buffers) (max p.bufferCount k) p) p
 
-unfoldable pub storedBlackboard : ℕ → BlackboardT → Partition → Partition
-storedBlackboard k b p = cond (within blackboardLimit k) (withBlackboards (replaced blackboardLimit k b p.blackboards) (max p.blackboardCount k) p) p
+unfoldable pub stored_blackboard : ℕ → BlackboardT → Partition → Partition
+stored_blackboard k b p = cond (within blackboard_limit k) (with_blackboards (replaced blackboard_limit k b p.blackboards) (max p.blackboardCount k) p) p
 
 -- a buffer whose messages moved
-abbrev pub movedIn : Transfer → Buffer → Buffer
-movedIn a b = record { name = b.name; limit = b.limit; queue = moved a b.queue }
+abbrev pub moved_in : Transfer → Buffer → Buffer
+moved_in a b = record { name = b.name; limit = b.limit; queue = moved a b.queue }
 
 -- what a transfer makes of those who wait: the receiver's wait ends and it has the message, the sender's wait ends
-abbrev pub endedBy : Transfer → Partition → Partition
-endedBy (Put m) p = p
-endedBy (HandedTo id m) p = stored id (handed m (process id p)) p
-endedBy Taken p = p
-endedBy (LetIn id m) p = stored id (served (process id p)) p
+abbrev pub ended_by : Transfer → Partition → Partition
+ended_by (Put m) p = p
+ended_by (HandedTo id m) p = stored id (handed m (process id p)) p
+ended_by Taken p = p
+ended_by (LetIn id m) p = stored id (served (process id p)) p
 
 -- process id is created with this record, which neither is READY nor waits
 unfoldable pub created : ℕ → Process → Partition → Partition
-created id x p = cond (within processLimit id) (withProcesses (replaced processLimit id x p.processes) (max p.processCount id) p.arrival p.waiting p) p
+created id x p = cond (within process_limit id) (with_processes (replaced process_limit id x p.processes) (max p.processCount id) p.arrival p.waiting p) p
 
 -- process id goes to the end of the arrival list
-unfoldable pub arrivedLast : ℕ → Partition → Partition
-arrivedLast id p = withProcesses p.processes p.processCount (appended id (removed id p.arrival)) p.waiting p
+unfoldable pub arrived_last : ℕ → Partition → Partition
+arrived_last id p = with_processes p.processes p.processCount (appended id (removed id p.arrival)) p.waiting p
 
 -- the process chosen so far, or a later one of greater priority; id 0 is none
 abbrev pub preferred : Choice → ℕ → ℕ → Choice
@@ -276,71 +276,71 @@ chosen p c (id ∷ l) = chosen p (preferred c id (process id p).current) l
 -- equals; otherwise 0. The process that raised the level of the preemption lock from 0 runs while the level is above 0.
 unfoldable pub running : Partition → ℕ
 running p =
-    cond (normalMode p)
+    cond (normal_mode p)
     (cond (locked p.level) p.holder (chosen p (record { id = 0; priority = 0 }) (members p.arrival)).id)
     0
 
 -- the queue of an object: the waiting processes whose wait names it, in the order in which they began to wait
-abbrev pub waitsOn : ℕ → Partition → ℕ → Bool
-waitsOn o p id = eqb (object (process id p).wait) o
+abbrev pub waits_on : ℕ → Partition → ℕ → Bool
+waits_on o p id = eqb (object (process id p).wait) o
 
 unfoldable pub waiters : ℕ → Partition → List ℕ
-waiters o p = kept (waitsOn o p) (members p.waiting)
+waiters o p = kept (waits_on o p) (members p.waiting)
 
 -- the first of them; 0 for none
-abbrev pub firstWaiter : ℕ → Partition → ℕ
-firstWaiter o p = get_or (waiters o p) 0 0
+abbrev pub first_waiter : ℕ → Partition → ℕ
+first_waiter o p = get_or (waiters o p) 0 0
 
 -- a change of these processes, one after the other
-unfoldable pub changedAll : (Process → Process) → List ℕ → Partition → Partition
-changedAll f [] p = p
-changedAll f (id ∷ l) p = changedAll f l (stored id (f (process id p)) p)
+unfoldable pub changed_all : (Process → Process) → List ℕ → Partition → Partition
+changed_all f [] p = p
+changed_all f (id ∷ l) p = changed_all f l (stored id (f (process id p)) p)
 
 -- a change of every process by ascending id: n of them from id on
-unfoldable pub eachFrom : (Process → Process) → ℕ → ℕ → Partition → Partition
-eachFrom f zero id p = p
-eachFrom f (suc n) id p = eachFrom f n (id + 1) (stored id (f (process id p)) p)
+unfoldable pub each_from : (Process → Process) → ℕ → ℕ → Partition → Partition
+each_from f zero id p = p
+each_from f (suc n) id p = each_from f n (id + 1) (stored id (f (process id p)) p)
 
 abbrev pub each : (Process → Process) → Partition → Partition
-each f p = eachFrom f p.processCount 1 p
+each f p = each_from f p.processCount 1 p
 
 -- In each NORMAL partition, processes by ascending id
-unfoldable pub tickPartition : ℕ → Partition → Partition
-tickPartition t p = cond (normalMode p) (each (ticked t) p) p
+unfoldable pub tick_partition : ℕ → Partition → Partition
+tick_partition t p = cond (normal_mode p) (each (ticked t) p) p
 
 -- Mode 3: mode set; every process waiting for NORMAL, by id, takes the start rule with its delay
-unfoldable pub enteredNormal : Context → Partition → Partition
-enteredNormal c p = each (entered c) (withMode 3 p)
+unfoldable pub entered_normal : Context → Partition → Partition
+entered_normal c p = each (entered c) (with_mode 3 p)
 
 -- what each change does
 abbrev pub applied : Change → Partition → Partition
 applied Nothing p = p
 applied (Stored id x) p = stored id x p
 applied (Created id x) p = created id x p
-applied (Last id) p = arrivedLast id p
-applied (StoredSemaphore k s) p = storedSemaphore k s p
-applied (StoredEvent k e) p = storedEvent k e p
-applied (CreatedBuffer k name limit) p = storedBuffer k (emptyBuffer name limit) p
-applied (Moved k a) p = endedBy a (storedBuffer k (movedIn a (buffer k p)) p)
-applied (StoredBlackboard k b) p = storedBlackboard k b p
-applied (Ended o) p = changedAll served (waiters o p) p
-applied (Handed o m) p = changedAll (handed m) (waiters o p) p
-applied (LevelSet level holder) p = withLock level holder p
-applied (Entered c) p = enteredNormal c p
+applied (Last id) p = arrived_last id p
+applied (StoredSemaphore k s) p = stored_semaphore k s p
+applied (StoredEvent k e) p = stored_event k e p
+applied (CreatedBuffer k name limit) p = stored_buffer k (empty_buffer name limit) p
+applied (Moved k a) p = ended_by a (stored_buffer k (moved_in a (buffer k p)) p)
+applied (StoredBlackboard k b) p = stored_blackboard k b p
+applied (Ended o) p = changed_all served (waiters o p) p
+applied (Handed o m) p = changed_all (handed m) (waiters o p) p
+applied (LevelSet level holder) p = with_lock level holder p
+applied (Entered c) p = entered_normal c p
 
 -- what a decision leaves of the partition; a refused call leaves the record as it is
-abbrev pub partitionAfter : Decision → Partition → Partition
-partitionAfter (Refused code) p = p
-partitionAfter (Unchanged value extra) p = p
-partitionAfter Ticked p = p
-partitionAfter (Blocked id x) p = stored id x p
-partitionAfter (Changed a b value) p = applied b (applied a p)
-partitionAfter (Restarted mode) p = nothingCreated mode
-partitionAfter (Written i x) p = p
-partitionAfter (Passed i a value) p = p
+abbrev pub partition_after : Decision → Partition → Partition
+partition_after (Refused code) p = p
+partition_after (Unchanged value extra) p = p
+partition_after Ticked p = p
+partition_after (Blocked id x) p = stored id x p
+partition_after (Changed a b value) p = applied b (applied a p)
+partition_after (Restarted mode) p = nothing_created mode
+partition_after (Written i x) p = p
+partition_after (Passed i a value) p = p
 
-unfoldable pub freshPartition : Partition
-freshPartition = nothingCreated 1
+unfoldable pub fresh_partition : Partition
+fresh_partition = nothing_created 1
 
-unfoldable pub emptyPartition : Partition
-emptyPartition = nothingCreated 0
+unfoldable pub empty_partition : Partition
+empty_partition = nothing_created 0

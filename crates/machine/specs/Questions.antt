@@ -7,8 +7,8 @@ use Rattle.machine.specs.declared.Transfer.{Transfer}
 use Rattle.machine.specs.declared.Transfer.TheVariants.{Taken}
 use Rattle.machine.specs.declared.Decision.{Decision}
 use Rattle.machine.specs.declared.Decision.TheVariants.{Refused, Unchanged, Ticked, Blocked, Changed, Restarted, Written, Passed}
-use Rattle.machine.specs.Limits.{channelLimit}
-use Rattle.machine.specs.Decisions.{noMessage}
+use Rattle.machine.specs.Limits.{channel_limit}
+use Rattle.machine.specs.Decisions.{no_message}
 
 -- it changes the caller's partition
 abbrev pub changes : Decision → Bool
@@ -44,25 +44,25 @@ mode_of (Written i x) = 0
 mode_of (Passed i a value) = 0
 
 -- the two changes that it makes otherwise, in order
-abbrev pub firstChange : Decision → Change
-firstChange (Refused code) = Nothing
-firstChange (Unchanged value extra) = Nothing
-firstChange Ticked = Nothing
-firstChange (Blocked id x) = Stored id x
-firstChange (Changed a b value) = a
-firstChange (Restarted mode) = Nothing
-firstChange (Written i x) = Nothing
-firstChange (Passed i a value) = Nothing
+abbrev pub first_change : Decision → Change
+first_change (Refused code) = Nothing
+first_change (Unchanged value extra) = Nothing
+first_change Ticked = Nothing
+first_change (Blocked id x) = Stored id x
+first_change (Changed a b value) = a
+first_change (Restarted mode) = Nothing
+first_change (Written i x) = Nothing
+first_change (Passed i a value) = Nothing
 
-abbrev pub secondChange : Decision → Change
-secondChange (Refused code) = Nothing
-secondChange (Unchanged value extra) = Nothing
-secondChange Ticked = Nothing
-secondChange (Blocked id x) = Nothing
-secondChange (Changed a b value) = b
-secondChange (Restarted mode) = Nothing
-secondChange (Written i x) = Nothing
-secondChange (Passed i a value) = Nothing
+abbrev pub second_change : Decision → Change
+second_change (Refused code) = Nothing
+second_change (Unchanged value extra) = Nothing
+second_change Ticked = Nothing
+second_change (Blocked id x) = Nothing
+second_change (Changed a b value) = b
+second_change (Restarted mode) = Nothing
+second_change (Written i x) = Nothing
+second_change (Passed i a value) = Nothing
 
 -- a change that changes nothing
 abbrev pub nothing : Change → Bool
@@ -81,49 +81,49 @@ nothing (LevelSet n h) = false
 nothing (Entered c) = false
 
 -- how many changes are to be made: one where the partition's tick is due, else the decision's own
-abbrev pub turnsOf : Decision → Bool → ℕ
-turnsOf d due = cond due 1 (cond (changes d) (cond (nothing (secondChange d)) 1 2) 0)
+abbrev pub turns_of : Decision → Bool → ℕ
+turns_of d due = cond due 1 (cond (changes d) (cond (nothing (second_change d)) 1 2) 0)
 
 -- the place of the channel on which it leaves a message; past the last for none
-abbrev pub messageAt : Decision → ℕ
-messageAt (Refused code) = channelLimit
-messageAt (Unchanged value extra) = channelLimit
-messageAt Ticked = channelLimit
-messageAt (Blocked id x) = channelLimit
-messageAt (Changed a b value) = channelLimit
-messageAt (Restarted mode) = channelLimit
-messageAt (Written i x) = i
-messageAt (Passed i a value) = channelLimit
+abbrev pub message_at : Decision → ℕ
+message_at (Refused code) = channel_limit
+message_at (Unchanged value extra) = channel_limit
+message_at Ticked = channel_limit
+message_at (Blocked id x) = channel_limit
+message_at (Changed a b value) = channel_limit
+message_at (Restarted mode) = channel_limit
+message_at (Written i x) = i
+message_at (Passed i a value) = channel_limit
 
 -- the message that it leaves there
-abbrev pub messageOf : Decision → Message
-messageOf (Refused code) = noMessage
-messageOf (Unchanged value extra) = noMessage
-messageOf Ticked = noMessage
-messageOf (Blocked id x) = noMessage
-messageOf (Changed a b value) = noMessage
-messageOf (Restarted mode) = noMessage
-messageOf (Written i x) = x
-messageOf (Passed i a value) = noMessage
+abbrev pub message_of : Decision → Message
+message_of (Refused code) = no_message
+message_of (Unchanged value extra) = no_message
+message_of Ticked = no_message
+message_of (Blocked id x) = no_message
+message_of (Changed a b value) = no_message
+message_of (Restarted mode) = no_message
+message_of (Written i x) = x
+message_of (Passed i a value) = no_message
 
 -- the place of the channel on which it makes a transfer; past the last for none
-abbrev pub transferAt : Decision → ℕ
-transferAt (Refused code) = channelLimit
-transferAt (Unchanged value extra) = channelLimit
-transferAt Ticked = channelLimit
-transferAt (Blocked id x) = channelLimit
-transferAt (Changed a b value) = channelLimit
-transferAt (Restarted mode) = channelLimit
-transferAt (Written i x) = channelLimit
-transferAt (Passed i a value) = i
+abbrev pub transfer_at : Decision → ℕ
+transfer_at (Refused code) = channel_limit
+transfer_at (Unchanged value extra) = channel_limit
+transfer_at Ticked = channel_limit
+transfer_at (Blocked id x) = channel_limit
+transfer_at (Changed a b value) = channel_limit
+transfer_at (Restarted mode) = channel_limit
+transfer_at (Written i x) = channel_limit
+transfer_at (Passed i a value) = i
 
 -- the transfer that it makes there
-abbrev pub transferOf : Decision → Transfer
-transferOf (Refused code) = Taken
-transferOf (Unchanged value extra) = Taken
-transferOf Ticked = Taken
-transferOf (Blocked id x) = Taken
-transferOf (Changed a b value) = Taken
-transferOf (Restarted mode) = Taken
-transferOf (Written i x) = Taken
-transferOf (Passed i a value) = a
+abbrev pub transfer_of : Decision → Transfer
+transfer_of (Refused code) = Taken
+transfer_of (Unchanged value extra) = Taken
+transfer_of Ticked = Taken
+transfer_of (Blocked id x) = Taken
+transfer_of (Changed a b value) = Taken
+transfer_of (Restarted mode) = Taken
+transfer_of (Written i x) = Taken
+transfer_of (Passed i a value) = a

@@ -25,12 +25,12 @@ module _ {M E R : Type 0} (next : M → E → M) (reply : M → E → R) where
 abbrev pub next : Module → Event → Module
 next m e = (step m e).state
 
-abbrev pub answeredEvent : Module → Event → EventRecord
-answeredEvent m e = record { event = e; answer = (step m e).answer }
+abbrev pub answered_event : Module → Event → EventRecord
+answered_event m e = record { event = e; answer = (step m e).answer }
 
 -- the record after a list of events; the events with their answers
 abbrev pub after : Module → List Event → Module
-after = final next answeredEvent
+after = final next answered_event
 
 abbrev pub answers : Module → List Event → List EventRecord
-answers = replies next answeredEvent
+answers = replies next answered_event

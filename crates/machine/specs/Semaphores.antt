@@ -12,60 +12,60 @@ use Rattle.machine.specs.declared.Semaphore.{Semaphore as SemaphoreT}
 use Rattle.machine.specs.declared.EventState.{EventState}
 use Rattle.machine.specs.declared.Wait.TheVariants.{Semaphore, Event}
 use Rattle.machine.specs.declared.Field.{Field}
-use Rattle.machine.specs.Limits.{semaphoreLimit, eventLimit, valueLimit, greatestValue}
-use Rattle.machine.specs.Fields.{between, isName, number_of}
+use Rattle.machine.specs.Limits.{semaphore_limit, event_limit, value_limit, greatest_value}
+use Rattle.machine.specs.Fields.{between, is_name, number_of}
 use Rattle.machine.specs.Process.{object, served}
-use Rattle.machine.specs.Partition.{normalMode, process, semaphore, event, waiters}
-use Rattle.machine.specs.Decisions.{checked, changed, unchanged, unknown, nameTaken, creationChecks, awaiting}
+use Rattle.machine.specs.Partition.{normal_mode, process, semaphore, event, waiters}
+use Rattle.machine.specs.Decisions.{checked, changed, unchanged, unknown, name_taken, creation_checks, awaiting}
 
-abbrev pub semaphoreNamed : Field → List SemaphoreT → Bool
-semaphoreNamed name l = nameTaken (λ (x : SemaphoreT). x.name) name l
+abbrev pub semaphore_named : Field → List SemaphoreT → Bool
+semaphore_named name l = name_taken (λ (x : SemaphoreT). x.name) name l
 
-abbrev pub eventNamed : Field → List EventState → Bool
-eventNamed name l = nameTaken (λ (x : EventState). x.name) name l
+abbrev pub event_named : Field → List EventState → Bool
+event_named name l = name_taken (λ (x : EventState). x.name) name l
 
 -- 14 CREATE_SEMAPHORE name, start, max. 4: 8 exist. 1: name exists among its kind. 3: name not 1..255, max not 1..32,767, start not
 -- 0..max. 5: NORMAL. Value: id.
-unfoldable pub createSemaphore : Request → Partition → Decision
-createSemaphore r p =
+unfoldable pub create_semaphore : Request → Partition → Decision
+create_semaphore r p =
     checked Refused
-    (creationChecks (leb semaphoreLimit p.semaphoreCount) (semaphoreNamed r.a (take p.semaphoreCount p.semaphores))
-    (isName r.a && (between 1 valueLimit r.c && between 0 (number_of r.c) r.b)) (normalMode p))
+    (creation_checks (leb semaphore_limit p.semaphoreCount) (semaphore_named r.a (take p.semaphoreCount p.semaphores))
+    (is_name r.a && (between 1 value_limit r.c && between 0 (number_of r.c) r.b)) (normal_mode p))
     (Changed (StoredSemaphore (p.semaphoreCount + 1) (record { name = number_of r.a; value = number_of r.b; max = number_of r.c })) Nothing (p.semaphoreCount + 1))
 
 -- 17 CREATE_EVENT name (DOWN): as 14.
-unfoldable pub createEvent : Field → Partition → Decision
-createEvent name p =
+unfoldable pub create_event : Field → Partition → Decision
+create_event name p =
     checked Refused
-    (creationChecks (leb eventLimit p.eventCount) (eventNamed name (take p.eventCount p.events)) (isName name) (normalMode p))
+    (creation_checks (leb event_limit p.eventCount) (event_named name (take p.eventCount p.events)) (is_name name) (normal_mode p))
     (Changed (StoredEvent (p.eventCount + 1) (record { name = number_of name; up = false })) Nothing (p.eventCount + 1))
 
 -- semaphore k with this value, event k UP or DOWN
-abbrev pub withValue : ℕ → ℕ → Partition → Change
-withValue k n p = StoredSemaphore k (record { name = (semaphore k p).name; value = n; max = (semaphore k p).max })
+abbrev pub with_value : ℕ → ℕ → Partition → Change
+with_value k n p = StoredSemaphore k (record { name = (semaphore k p).name; value = n; max = (semaphore k p).max })
 
-abbrev pub withUp : ℕ → Bool → Partition → Change
-withUp k up p = StoredEvent k (record { name = (event k p).name; up = up })
+abbrev pub with_up : ℕ → Bool → Partition → Change
+with_up k up p = StoredEvent k (record { name = (event k p).name; up = up })
 
 -- 15 WAIT_SEMAPHORE id, a. 5: start mode. 3: a not in T. Value > 0: one less, code 0.
-unfoldable pub waitSemaphore : Context → ℕ → Field → Partition → Decision
-waitSemaphore c k a p =
+unfoldable pub wait_semaphore : Context → ℕ → Field → Partition → Decision
+wait_semaphore c k a p =
     awaiting c ((unknown k p.semaphoreCount, 3) ∷ []) true [] a
-    (ltb 0 (semaphore k p).value) (changed (withValue k ((semaphore k p).value - 1) p)) (Semaphore k) p
+    (ltb 0 (semaphore k p).value) (changed (with_value k ((semaphore k p).value - 1) p)) (Semaphore k) p
 
 -- 20 WAIT_EVENT id, a: as 15; event UP: code 0.
-unfoldable pub waitEvent : Context → ℕ → Field → Partition → Decision
-waitEvent c k a p =
+unfoldable pub wait_event : Context → ℕ → Field → Partition → Decision
+wait_event c k a p =
     awaiting c ((unknown k p.eventCount, 3) ∷ []) true [] a
     (event k p).up unchanged (Event k) p
 
 -- bound: a value past the greatest one is the greatest
-abbrev pub oneMore : ℕ → ℕ
-oneMore n = cond (ltb n greatestValue) (n + 1) n
+abbrev pub one_more : ℕ → ℕ
+one_more n = cond (ltb n greatest_value) (n + 1) n
 
 -- First waiter's wait ends (w −1, wake code 0); none: value + 1.
 unfoldable pub signalled : List ℕ → ℕ → Partition → Change
-signalled [] k p = withValue k (oneMore (semaphore k p).value) p
+signalled [] k p = with_value k (one_more (semaphore k p).value) p
 signalled (id ∷ l) k p = Stored id (served (process id p))
 
 -- 16 SIGNAL id. 1: value = max.
@@ -78,15 +78,15 @@ signal k p =
     (changed (signalled (waiters (object (Semaphore k)) p) k p))
 
 -- 18 SET_EVENT id: UP, all waiters' waits end in queue order the same way.
-unfoldable pub setEvent : ℕ → Partition → Decision
-setEvent k p =
+unfoldable pub set_event : ℕ → Partition → Decision
+set_event k p =
     checked Refused
     ((unknown k p.eventCount, 3) ∷ [])
-    (Changed (withUp k true p) (Ended (object (Event k))) 0)
+    (Changed (with_up k true p) (Ended (object (Event k))) 0)
 
 -- 19 RESET_EVENT id: DOWN.
-unfoldable pub resetEvent : ℕ → Partition → Decision
-resetEvent k p =
+unfoldable pub reset_event : ℕ → Partition → Decision
+reset_event k p =
     checked Refused
     ((unknown k p.eventCount, 3) ∷ [])
-    (changed (withUp k false p))
+    (changed (with_up k false p))

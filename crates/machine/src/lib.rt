@@ -1,9 +1,9 @@
 // The record of the executive, by value, and every limit, named once with the module.
 ghost use Rattle.std.specs.Prelude.{◌≡◌};
-ghost use Rattle.machine.specs.Messages.{noQueue};
-ghost use Rattle.machine.specs.Process.{blankProcess};
-ghost use Rattle.machine.specs.Partition.{noBuffer, freshPartition, emptyPartition};
-ghost use Rattle.machine.specs.Module.{emptyTable, freshModule, emptyModule};
+ghost use Rattle.machine.specs.Messages.{no_queue};
+ghost use Rattle.machine.specs.Process.{blank_process};
+ghost use Rattle.machine.specs.Partition.{no_buffer, fresh_partition, empty_partition};
+ghost use Rattle.machine.specs.Module.{empty_table, fresh_module, empty_module};
 
 // A time in ticks; −1 of document 01 is Never.
 #[derive(Drop)]
@@ -424,7 +424,7 @@ impl Module {
     pub const GREATEST: u16 = 65535;
     // The record that reading an accepted table gives.
     pub fn fresh(table: Table) -> Module
-        ensures { result ≡ freshModule table }
+        ensures { result ≡ fresh_module table }
     {
         let p = Partition::fresh();
         let q = Queue::empty();
@@ -443,7 +443,7 @@ impl Module {
 
     // The record that a refused table leaves: M, P and all else 0.
     pub fn empty() -> Module
-        ensures { result ≡ emptyModule }
+        ensures { result ≡ empty_module }
     {
         let t = Table::empty();
         let p = Partition::empty();
@@ -464,7 +464,7 @@ impl Module {
 
 impl Table {
     pub fn empty() -> Table
-        ensures { result ≡ emptyTable }
+        ensures { result ≡ empty_table }
     {
         Table {
             frame: 0,
@@ -489,7 +489,7 @@ impl Table {
 
 impl Process {
     pub fn blank() -> Process
-        ensures { result ≡ blankProcess }
+        ensures { result ≡ blank_process }
     {
         Process {
             given: Given {
@@ -517,7 +517,7 @@ impl Process {
 
 impl Queue {
     pub fn empty() -> Queue
-        ensures { result ≡ noQueue }
+        ensures { result ≡ no_queue }
     {
         Queue {
             items: [0; Module::MESSAGES],
@@ -528,7 +528,7 @@ impl Queue {
 
 impl Buffer {
     pub fn blank() -> Buffer
-        ensures { result ≡ noBuffer }
+        ensures { result ≡ no_buffer }
     {
         let queue = Queue::empty();
         Buffer {
@@ -541,7 +541,7 @@ impl Buffer {
 
 impl Partition {
     pub fn empty() -> Partition
-        ensures { result ≡ emptyPartition }
+        ensures { result ≡ empty_partition }
     {
         let x = Process::blank();
         let b = Buffer::blank();
@@ -580,7 +580,7 @@ impl Partition {
 
     // A partition in COLD_START in which nothing has been created.
     pub fn fresh() -> Partition
-        ensures { result ≡ freshPartition }
+        ensures { result ≡ fresh_partition }
     {
         let p = Partition::empty();
         Partition { mode: 1, ..p }

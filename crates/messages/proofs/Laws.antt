@@ -7,30 +7,30 @@ use native.Mathlib.Numerals.{add-one}
 use lib.ListN.{length, get_or, take, drop, length-take, length-drop}
 use lib.Seq.{take_all, take-suc, get_or-take}
 use Rattle.machine.specs.declared.Queue.{Queue}
-use Rattle.machine.specs.Limits.{messageLimit}
-use Rattle.machine.specs.Messages.{held, queueOf, put, taken}
-use Rattle.machine.proofs.Lists.{put-queueOf}
+use Rattle.machine.specs.Limits.{message_limit}
+use Rattle.machine.specs.Messages.{held, queue_of, put, taken}
+use Rattle.machine.proofs.Lists.{put_queue_of}
 
-rest-snoc : (l : List ℕ) (x : ℕ) → 1 ≤ length l → drop 1 (l ++ (x ∷ [])) ≡ drop 1 l ++ (x ∷ [])
-rest-snoc [] x h = absurd (omega arith)
-rest-snoc (y ∷ l) x h = refl
+rest_snoc : (l : List ℕ) (x : ℕ) → 1 ≤ length l → drop 1 (l ++ (x ∷ [])) ≡ drop 1 l ++ (x ∷ [])
+rest_snoc [] x h = absurd (omega arith)
+rest_snoc (y ∷ l) x h = refl
 
 -- the messages before place i but the first: none, one more, all
-pub rest-none : (l : List ℕ) → drop 1 (take 1 l) ≡ []
-rest-none [] = refl
-rest-none (x ∷ l) = refl
+pub rest_none : (l : List ℕ) → drop 1 (take 1 l) ≡ []
+rest_none [] = refl
+rest_none (x ∷ l) = refl
 
 module _ (q : Queue) (i : ℕ) where
-  pub rest_more : 1 ≤ i → i < length (held q) → i < messageLimit → put (get_or q.items i 0) (queueOf (drop 1 (take i (held q)))) ≡ queueOf (drop 1 (take (i + 1) (held q)))
+  pub rest_more : 1 ≤ i → i < length (held q) → i < message_limit → put (get_or q.items i 0) (queue_of (drop 1 (take i (held q)))) ≡ queue_of (drop 1 (take (i + 1) (held q)))
   rest_more some more low =
       let x = get_or q.items i 0 in
       let l = take i (held q) in
       let inside : i < q.len = omega (arith, length-take q.len q.items) in
       let size : length l ≡ i = length-take i (held q) ∙ omega arith in
-      let short : length (drop 1 l) < messageLimit = omega (arith, length-drop 1 l) in
+      let short : length (drop 1 l) < message_limit = omega (arith, length-drop 1 l) in
       let next : take (i + 1) (held q) ≡ l ++ (x ∷ []) = rw (add-one, take-suc (held q) i 0, get_or-take q.len q.items i 0 inside) in
-      put-queueOf (drop 1 l) x short ∙ rw next (ap queueOf (sym (rest-snoc l x (omega arith))))
+      put_queue_of (drop 1 l) x short ∙ rw next (ap queue_of (sym (rest_snoc l x (omega arith))))
 
-  pub rest-done : length (held q) ≤ i → queueOf (drop 1 (take i (held q))) ≡ taken q
+  pub rest_done : length (held q) ≤ i → queue_of (drop 1 (take i (held q))) ≡ taken q
   unfolding taken
-  rest-done h = rw (take_all i (held q) h)
+  rest_done h = rw (take_all i (held q) h)

@@ -1,13 +1,13 @@
 // Messages, first in first out.
 ghost use Rattle.std.specs.Prelude.{◌≡◌, ◌≤◌, length};
-ghost use Rattle.machine.specs.Limits.{messageLimit};
-ghost use Rattle.machine.specs.Messages.{held, put, taken, first, sent, received, moved, endsWait};
+ghost use Rattle.machine.specs.Limits.{message_limit};
+ghost use Rattle.machine.specs.Messages.{held, put, taken, first, sent, received, moved, ends_wait};
 
 use machine::{Module, Queue, Transfer};
 
 // How many messages a queue holds, the array's length at most.
 fn count(q: Queue) -> usize
-    ensures { (result ≡ length (held q)) × (result ≤ messageLimit) }
+    ensures { (result ≡ length (held q)) × (result ≤ message_limit) }
 {
     let n = q.len as usize;
     if n < Module::MESSAGES {
@@ -87,7 +87,7 @@ pub fn change(q: Queue, a: Transfer) -> Queue
 
 // Whether a transfer ends a wait.
 pub fn ends_wait(a: Transfer) -> bool
-    ensures { result ≡ endsWait a }
+    ensures { result ≡ ends_wait a }
 {
     match a {
         Transfer::Put(_) => false,

@@ -20,58 +20,58 @@ use Rattle.machine.specs.declared.Transfer.{Transfer}
 use Rattle.machine.specs.declared.Transfer.TheVariants.{Put, HandedTo, Taken, LetIn}
 use Rattle.machine.specs.declared.Partition.{Partition}
 use Rattle.machine.specs.declared.Change.{Change}
-use Rattle.machine.specs.Limits.{messageLimit, processLimit, semaphoreLimit, eventLimit, bufferLimit, blackboardLimit}
+use Rattle.machine.specs.Limits.{message_limit, process_limit, semaphore_limit, event_limit, buffer_limit, blackboard_limit}
 use Rattle.machine.specs.Ids.{members, ids_of, kept, appended, follow}
-use Rattle.machine.specs.Messages.{queueOf, put}
-use Rattle.machine.specs.Process.{blankProcess, due, ticked, ready, onObject}
-use Rattle.machine.specs.Partition.{within, by_id, process, buffer, noBuffer, movedIn, withProcesses, withSemaphores, withEvents, withBuffers, withBlackboards, stored, created, storedSemaphore, storedEvent, storedBuffer, storedBlackboard, endedBy, applied, eachFrom, tickPartition}
-use Rattle.machine.proofs.Bounds.{inside, outside-zero, outside_high, named_in, named-out, stored-in, created-in, semaphore-in, event-in, buffer-in, blackboard-in, stored-out}
+use Rattle.machine.specs.Messages.{queue_of, put}
+use Rattle.machine.specs.Process.{blank_process, due, ticked, ready, on_object}
+use Rattle.machine.specs.Partition.{within, by_id, process, buffer, no_buffer, moved_in, with_processes, with_semaphores, with_events, with_buffers, with_blackboards, stored, created, stored_semaphore, stored_event, stored_buffer, stored_blackboard, ended_by, applied, each_from, tick_partition}
+use Rattle.machine.proofs.Bounds.{inside, outside_zero, outside_high, named_in, named_out, stored_in, created_in, semaphore_in, event_in, buffer_in, blackboard_in, stored_out}
 use Rattle.machine.proofs.Either.{either}
-use Rattle.machine.proofs.Lists.{scan-next, next-member, no_member, members-of, put-queueOf}
-use Rattle.machine.proofs.Quiet.{stored_same, ticked-same}
+use Rattle.machine.proofs.Lists.{scan_next, next_member, no_member, members_of, put_queue_of}
+use Rattle.machine.proofs.Quiet.{stored_same, ticked_same}
 use Rattle.machine.proofs.Tests.{or_left, or_right}
-use Rattle.partition.specs.Places.{slot_of, inByte}
-use Rattle.partition.specs.Waits.{endedId, ended_as}
+use Rattle.partition.specs.Places.{slot_of, in_byte}
+use Rattle.partition.specs.Waits.{ended_id, ended_as}
 
 -- a loop over the processes begins with all of them
-pub each_start : (f : Process → Process) (n id : ℕ) (p : Partition) → id ≡ 0 → eachFrom f (n - id) (id + 1) p ≡ eachFrom f n 1 p
+pub each_start : (f : Process → Process) (n id : ℕ) (p : Partition) → id ≡ 0 → each_from f (n - id) (id + 1) p ≡ each_from f n 1 p
 each_start f n id p z =
     let a : n - id ≡ n = omega arith in
     let b : id + 1 ≡ 1 = omega arith in
-    ap₂ (λ (x y : ℕ). eachFrom f x y p) a b
+    ap₂ (λ (x y : ℕ). each_from f x y p) a b
 
 -- ---------------------------------------------------------------- a list filled in place
 -- the ids before place i of which f says true were found; what the code makes of them where it says so of the next, and where not
-module _ (f : ℕ → Bool) (items : List ℕ) (i : ℕ) (found : Ids) (h : i < length items) (s : i < processLimit) (e : found ≡ ids_of (kept f (take i items))) where
-  pub kept_in : f (get_or items i 0) ≡ true → found.len < processLimit → record { items = set found.items found.len (get_or items i 0); len = found.len + 1 } ≡ ids_of (kept f (take (i + 1) items))
+module _ (f : ℕ → Bool) (items : List ℕ) (i : ℕ) (found : Ids) (h : i < length items) (s : i < process_limit) (e : found ≡ ids_of (kept f (take i items))) where
+  pub kept_in : f (get_or items i 0) ≡ true → found.len < process_limit → record { items = set found.items found.len (get_or items i 0); len = found.len + 1 } ≡ ids_of (kept f (take (i + 1) items))
   unfolding appended
   kept_in t room =
-      let a : appended (get_or items i 0) found ≡ ids_of (kept f (take (i + 1) items)) = ap (appended (get_or items i 0)) e ∙ scan-next f items i h s true (sym t) in
-      rw (lt-ltb found.len processLimit room) at a
+      let a : appended (get_or items i 0) found ≡ ids_of (kept f (take (i + 1) items)) = ap (appended (get_or items i 0)) e ∙ scan_next f items i h s true (sym t) in
+      rw (lt-ltb found.len process_limit room) at a
 
-  pub kept_full : f (get_or items i 0) ≡ true → processLimit ≤ found.len → found ≡ ids_of (kept f (take (i + 1) items))
+  pub kept_full : f (get_or items i 0) ≡ true → process_limit ≤ found.len → found ≡ ids_of (kept f (take (i + 1) items))
   unfolding appended
   kept_full t full =
-      let a : appended (get_or items i 0) found ≡ ids_of (kept f (take (i + 1) items)) = ap (appended (get_or items i 0)) e ∙ scan-next f items i h s true (sym t) in
-      rw (le-ltb found.len processLimit full) at a
+      let a : appended (get_or items i 0) found ≡ ids_of (kept f (take (i + 1) items)) = ap (appended (get_or items i 0)) e ∙ scan_next f items i h s true (sym t) in
+      rw (le-ltb found.len process_limit full) at a
 
   pub kept_out : f (get_or items i 0) ≡ false → found ≡ ids_of (kept f (take (i + 1) items))
-  kept_out t = e ∙ scan-next f items i h s false (sym t)
+  kept_out t = e ∙ scan_next f items i h s false (sym t)
 
 -- ---------------------------------------------------------------- the first who wait
 -- the first id from place i on of which f says true
 module _ (f : ℕ → Bool) (q : Ids) (i : ℕ) where
-  pub first-here : i < length (members q) → f (get_or q.items i 0) ≡ true → get_or (kept f (drop i (members q))) 0 0 ≡ get_or q.items i 0
+  pub first_here : i < length (members q) → f (get_or q.items i 0) ≡ true → get_or (kept f (drop i (members q))) 0 0 ≡ get_or q.items i 0
   unfolding kept
-  first-here h e = rw (next-member q i h, e)
+  first_here h e = rw (next_member q i h, e)
 
-  pub first-later : i < length (members q) → f (get_or q.items i 0) ≡ false → get_or (kept f (drop i (members q))) 0 0 ≡ get_or (kept f (drop (i + 1) (members q))) 0 0
+  pub first_later : i < length (members q) → f (get_or q.items i 0) ≡ false → get_or (kept f (drop i (members q))) 0 0 ≡ get_or (kept f (drop (i + 1) (members q))) 0 0
   unfolding kept
-  first-later h e = rw (next-member q i h, e)
+  first_later h e = rw (next_member q i h, e)
 
-  pub first-none : length (members q) ≤ i → get_or (kept f (drop i (members q))) 0 0 ≡ 0
+  pub first_none : length (members q) ≤ i → get_or (kept f (drop i (members q))) 0 0 ≡ 0
   unfolding kept
-  first-none h = rw (no_member q i h)
+  first_none h = rw (no_member q i h)
 
 -- the first n of a list that was made of ids
 module _ (q : Ids) (l : List ℕ) (n : ℕ) (e : q ≡ ids_of l) where
@@ -81,35 +81,35 @@ module _ (q : Ids) (l : List ℕ) (n : ℕ) (e : q ≡ ids_of l) where
   pub fewer : n < q.len → take n q.items ≡ take n l
   fewer h = ap (λ (r : Ids). take n r.items) e ∙ take-append-le n l _ (omega (arith, size))
 
-  pub not-fewer : q.len ≤ n → members q ≡ take n l
-  not-fewer h = members-of q l e ∙ sym (take_all n l (omega (arith, size)))
+  pub not_fewer : q.len ≤ n → members q ≡ take n l
+  not_fewer h = members_of q l e ∙ sym (take_all n l (omega (arith, size)))
 
 -- the messages of the ids before place i, as a loop puts them into a queue
 module _ (f : ℕ → ℕ) (q : Ids) (i : ℕ) where
-  pub gathered-more : i < length (members q) → i < messageLimit → put (f (get_or q.items i 0)) (queueOf (map f (take i (members q)))) ≡ queueOf (map f (take (i + 1) (members q)))
-  gathered-more more low =
+  pub gathered_more : i < length (members q) → i < message_limit → put (f (get_or q.items i 0)) (queue_of (map f (take i (members q)))) ≡ queue_of (map f (take (i + 1) (members q)))
+  gathered_more more low =
       let x = get_or q.items i 0 in
       let l = take i (members q) in
       let inside : i < q.len = omega (arith, length-take q.len q.items) in
-      let short : length (map f l) < messageLimit = omega (arith, length-map l f, length-take i (members q)) in
+      let short : length (map f l) < message_limit = omega (arith, length-map l f, length-take i (members q)) in
       let next : take (i + 1) (members q) ≡ l ++ (x ∷ []) = rw (add-one, take-suc (members q) i 0, get_or-take q.len q.items i 0 inside) in
-      put-queueOf (map f l) (f x) short ∙ rw next (ap queueOf (sym (map-append f l (x ∷ []))))
+      put_queue_of (map f l) (f x) short ∙ rw next (ap queue_of (sym (map-append f l (x ∷ []))))
 
-  pub gathered-all : length (members q) ≤ i → queueOf (map f (take i (members q))) ≡ queueOf (map f (members q))
-  gathered-all h = rw (take_all i (members q) h)
+  pub gathered_all : length (members q) ≤ i → queue_of (map f (take i (members q))) ≡ queue_of (map f (members q))
+  gathered_all h = rw (take_all i (members q) h)
 
 -- ---------------------------------------------------------------- the place of an id
 -- inside a list the default does not matter
-pub any-default : {A : Type 0} (l : List A) (k : ℕ) (d e : A) → k < length l → get_or l k d ≡ get_or l k e
-any-default [] k d e h = absurd (omega arith)
-any-default (x ∷ l) zero d e h = refl
-any-default (x ∷ l) (suc k) d e h = any-default l k d e (omega arith)
+pub any_default : {A : Type 0} (l : List A) (k : ℕ) (d e : A) → k < length l → get_or l k d ≡ get_or l k e
+any_default [] k d e h = absurd (omega arith)
+any_default (x ∷ l) zero d e h = refl
+any_default (x ∷ l) (suc k) d e h = any_default l k d e (omega arith)
 
 -- nothing is stored past its end
-pub set-default : {A : Type 0} (f : A → A) (l : List A) (k : ℕ) (d e : A) → set l k (f (get_or l k d)) ≡ set l k (f (get_or l k e))
-set-default f [] k d e = refl
-set-default f (x ∷ l) zero d e = refl
-set-default f (x ∷ l) (suc k) d e = ap (λ (r : List _). x ∷ r) (set-default f l k d e)
+pub set_default : {A : Type 0} (f : A → A) (l : List A) (k : ℕ) (d e : A) → set l k (f (get_or l k d)) ≡ set l k (f (get_or l k e))
+set_default f [] k d e = refl
+set_default f (x ∷ l) zero d e = refl
+set_default f (x ∷ l) (suc k) d e = ap (λ (r : List _). x ∷ r) (set_default f l k d e)
 
 module _ (limit id k : ℕ) (e : k ≡ slot_of limit id) where
   known : k < limit → id ≡ 0 → ⊥
@@ -118,95 +118,95 @@ module _ (limit id k : ℕ) (e : k ≡ slot_of limit id) where
   below : (id ≡ 0 → ⊥) → k ≡ id - 1
   below some = rw (ne_eqb id 0 some) at e
 
-  pub slot-in : k < limit → within limit id ≡ true
-  slot-in h = let b : k ≡ id - 1 = below (known h) in inside limit id (known h) (omega arith)
+  pub slot_in : k < limit → within limit id ≡ true
+  slot_in h = let b : k ≡ id - 1 = below (known h) in inside limit id (known h) (omega arith)
 
-  slot-place : k < limit → id - 1 ≡ k
-  slot-place h = sym (below (known h))
+  slot_place : k < limit → id - 1 ≡ k
+  slot_place h = sym (below (known h))
 
   -- a byte holds it
-  slot-byte : limit ≤ 255 → k < limit → inByte id ≡ id
-  slot-byte low h = let b : k ≡ id - 1 = below (known h) in let n = known h in omega arith
+  slot_byte : limit ≤ 255 → k < limit → in_byte id ≡ id
+  slot_byte low h = let b : k ≡ id - 1 = below (known h) in let n = known h in omega arith
 
-  pub slot-out : limit ≤ k → within limit id ≡ false
-  slot-out h = either (eqb id 0)
-      (λ t. outside-zero limit id (eqb-true id 0 t))
+  pub slot_out : limit ≤ k → within limit id ≡ false
+  slot_out h = either (eqb id 0)
+      (λ t. outside_zero limit id (eqb-true id 0 t))
       (λ t. let b : k ≡ id - 1 = below (eqb-false id 0 t) in outside_high limit id (eqb-false id 0 t) (omega arith))
 
   -- what is read there is what the id names
   module _ {A : Type 0} (d : A) (l : List A) where
-    pub named-at : k < limit → get_or l k d ≡ by_id limit d id l
-    named-at h = sym (named_in limit id d l (slot-in h) ∙ ap (λ (j : ℕ). get_or l j d) (slot-place h))
+    pub named_at : k < limit → get_or l k d ≡ by_id limit d id l
+    named_at h = sym (named_in limit id d l (slot_in h) ∙ ap (λ (j : ℕ). get_or l j d) (slot_place h))
 
     -- from an array of that length with whatever default
-    pub named-long : (o : A) → length l ≡ limit → k < limit → get_or l k o ≡ by_id limit d id l
-    named-long o long h = any-default l k o d (omega arith) ∙ named-at h
+    pub named_long : (o : A) → length l ≡ limit → k < limit → get_or l k o ≡ by_id limit d id l
+    named_long o long h = any_default l k o d (omega arith) ∙ named_at h
 
     pub named_past : limit ≤ k → d ≡ by_id limit d id l
-    named_past h = sym (named-out limit id d l (slot-out h))
+    named_past h = sym (named_out limit id d l (slot_out h))
 
 -- a process's record that is read, or stored, at its place
-module _ (id k : ℕ) (p : Partition) (x : Process) (e : k ≡ slot_of processLimit id) where
-  pub read-in : k < processLimit → x ≡ get_or p.processes k blankProcess → x ≡ process id p
-  read-in h r = r ∙ named-at processLimit id k e blankProcess p.processes h
+module _ (id k : ℕ) (p : Partition) (x : Process) (e : k ≡ slot_of process_limit id) where
+  pub read_in : k < process_limit → x ≡ get_or p.processes k blank_process → x ≡ process id p
+  read_in h r = r ∙ named_at process_limit id k e blank_process p.processes h
 
-  pub read_out : processLimit ≤ k → x ≡ blankProcess → x ≡ process id p
-  read_out h r = r ∙ named_past processLimit id k e blankProcess p.processes h
+  pub read_out : process_limit ≤ k → x ≡ blank_process → x ≡ process id p
+  read_out h r = r ∙ named_past process_limit id k e blank_process p.processes h
 
-  pub stored_at : (a w : Ids) → k < processLimit
-      → a ≡ follow (ready (get_or p.processes k blankProcess)) (ready x) (inByte id) p.arrival
-      → w ≡ follow (onObject (get_or p.processes k blankProcess)) (onObject x) (inByte id) p.waiting
-      → withProcesses (set p.processes k x) p.processCount a w p ≡ stored id x p
+  pub stored_at : (a w : Ids) → k < process_limit
+      → a ≡ follow (ready (get_or p.processes k blank_process)) (ready x) (in_byte id) p.arrival
+      → w ≡ follow (on_object (get_or p.processes k blank_process)) (on_object x) (in_byte id) p.waiting
+      → with_processes (set p.processes k x) p.processCount a w p ≡ stored id x p
   stored_at a w h ea ew =
       rw (ea, ew)
-      (sym (stored-in id x p (slot-in processLimit id k e h)
-      ∙ ap₂ (λ (j n : ℕ). let old = get_or p.processes j blankProcess in withProcesses (set p.processes j x) p.processCount (follow (ready old) (ready x) n p.arrival) (follow (onObject old) (onObject x) n p.waiting) p)
-      (slot-place processLimit id k e h) (sym (slot-byte processLimit id k e (omega arith) h))))
+      (sym (stored_in id x p (slot_in process_limit id k e h)
+      ∙ ap₂ (λ (j n : ℕ). let old = get_or p.processes j blank_process in with_processes (set p.processes j x) p.processCount (follow (ready old) (ready x) n p.arrival) (follow (on_object old) (on_object x) n p.waiting) p)
+      (slot_place process_limit id k e h) (sym (slot_byte process_limit id k e (omega arith) h))))
 
 -- one of a kind stored at its place, with how many there are
-kind_at : {A : Type 0} (limit id k : ℕ) (low : limit ≤ 255) (e : k ≡ slot_of limit id) (h : k < limit) (l : List A) (a : A) (count n : ℕ) → n ≡ max count (inByte id) → (f : List A → ℕ → Partition) → f (set l k a) n ≡ f (set l (id - 1) a) (max count id)
-kind_at limit id k low e h l a count n en f = rw en (sym (ap₂ (λ (j m : ℕ). f (set l j a) (max count m)) (slot-place limit id k e h) (sym (slot-byte limit id k e low h))))
+kind_at : {A : Type 0} (limit id k : ℕ) (low : limit ≤ 255) (e : k ≡ slot_of limit id) (h : k < limit) (l : List A) (a : A) (count n : ℕ) → n ≡ max count (in_byte id) → (f : List A → ℕ → Partition) → f (set l k a) n ≡ f (set l (id - 1) a) (max count id)
+kind_at limit id k low e h l a count n en f = rw en (sym (ap₂ (λ (j m : ℕ). f (set l j a) (max count m)) (slot_place limit id k e h) (sym (slot_byte limit id k e low h))))
 
 module _ (id k : ℕ) (p : Partition) where
-  pub created-at : (x : Process) (n : ℕ) → k ≡ slot_of processLimit id → k < processLimit → n ≡ max p.processCount (inByte id) → withProcesses (set p.processes k x) n p.arrival p.waiting p ≡ created id x p
-  created-at x n e h en = kind_at processLimit id k (omega arith) e h p.processes x p.processCount n en (λ l m. withProcesses l m p.arrival p.waiting p) ∙ sym (created-in id x p (slot-in processLimit id k e h))
+  pub created_at : (x : Process) (n : ℕ) → k ≡ slot_of process_limit id → k < process_limit → n ≡ max p.processCount (in_byte id) → with_processes (set p.processes k x) n p.arrival p.waiting p ≡ created id x p
+  created_at x n e h en = kind_at process_limit id k (omega arith) e h p.processes x p.processCount n en (λ l m. with_processes l m p.arrival p.waiting p) ∙ sym (created_in id x p (slot_in process_limit id k e h))
 
-  pub semaphore-at : (s : Semaphore) (n : ℕ) → k ≡ slot_of semaphoreLimit id → k < semaphoreLimit → n ≡ max p.semaphoreCount (inByte id) → withSemaphores (set p.semaphores k s) n p ≡ storedSemaphore id s p
-  semaphore-at s n e h en = kind_at semaphoreLimit id k (omega arith) e h p.semaphores s p.semaphoreCount n en (λ l m. withSemaphores l m p) ∙ sym (semaphore-in id s p (slot-in semaphoreLimit id k e h))
+  pub semaphore_at : (s : Semaphore) (n : ℕ) → k ≡ slot_of semaphore_limit id → k < semaphore_limit → n ≡ max p.semaphoreCount (in_byte id) → with_semaphores (set p.semaphores k s) n p ≡ stored_semaphore id s p
+  semaphore_at s n e h en = kind_at semaphore_limit id k (omega arith) e h p.semaphores s p.semaphoreCount n en (λ l m. with_semaphores l m p) ∙ sym (semaphore_in id s p (slot_in semaphore_limit id k e h))
 
-  pub event-at : (x : EventState) (n : ℕ) → k ≡ slot_of eventLimit id → k < eventLimit → n ≡ max p.eventCount (inByte id) → withEvents (set p.events k x) n p ≡ storedEvent id x p
-  event-at x n e h en = kind_at eventLimit id k (omega arith) e h p.events x p.eventCount n en (λ l m. withEvents l m p) ∙ sym (event-in id x p (slot-in eventLimit id k e h))
+  pub event_at_holds : (x : EventState) (n : ℕ) → k ≡ slot_of event_limit id → k < event_limit → n ≡ max p.eventCount (in_byte id) → with_events (set p.events k x) n p ≡ stored_event id x p
+  event_at_holds x n e h en = kind_at event_limit id k (omega arith) e h p.events x p.eventCount n en (λ l m. with_events l m p) ∙ sym (event_in id x p (slot_in event_limit id k e h))
 
-  pub buffer-at : (b : Buffer) (n : ℕ) → k ≡ slot_of bufferLimit id → k < bufferLimit → n ≡ max p.bufferCount (inByte id) → withBuffers (set p.buffers k b) n p ≡ storedBuffer id b p
-  buffer-at b n e h en = kind_at bufferLimit id k (omega arith) e h p.buffers b p.bufferCount n en (λ l m. withBuffers l m p) ∙ sym (buffer-in id b p (slot-in bufferLimit id k e h))
+  pub buffer_at : (b : Buffer) (n : ℕ) → k ≡ slot_of buffer_limit id → k < buffer_limit → n ≡ max p.bufferCount (in_byte id) → with_buffers (set p.buffers k b) n p ≡ stored_buffer id b p
+  buffer_at b n e h en = kind_at buffer_limit id k (omega arith) e h p.buffers b p.bufferCount n en (λ l m. with_buffers l m p) ∙ sym (buffer_in id b p (slot_in buffer_limit id k e h))
 
-  pub blackboard-at : (b : Blackboard) (n : ℕ) → k ≡ slot_of blackboardLimit id → k < blackboardLimit → n ≡ max p.blackboardCount (inByte id) → withBlackboards (set p.blackboards k b) n p ≡ storedBlackboard id b p
-  blackboard-at b n e h en = kind_at blackboardLimit id k (omega arith) e h p.blackboards b p.blackboardCount n en (λ l m. withBlackboards l m p) ∙ sym (blackboard-in id b p (slot-in blackboardLimit id k e h))
+  pub blackboard_at : (b : Blackboard) (n : ℕ) → k ≡ slot_of blackboard_limit id → k < blackboard_limit → n ≡ max p.blackboardCount (in_byte id) → with_blackboards (set p.blackboards k b) n p ≡ stored_blackboard id b p
+  blackboard_at b n e h en = kind_at blackboard_limit id k (omega arith) e h p.blackboards b p.blackboardCount n en (λ l m. with_blackboards l m p) ∙ sym (blackboard_in id b p (slot_in blackboard_limit id k e h))
 
   -- the messages of a buffer moved where they lie
-  pub moved_at : (a : Transfer) (o : Buffer) (n : ℕ) → k ≡ slot_of bufferLimit id → k < bufferLimit → n ≡ max p.bufferCount (inByte id) → withBuffers (set p.buffers k (movedIn a (get_or p.buffers k o))) n p ≡ storedBuffer id (movedIn a (buffer id p)) p
-  moved_at a o n e h en =
-      rw (set-default (movedIn a) p.buffers k o noBuffer)
-      (buffer-at (movedIn a (get_or p.buffers k noBuffer)) n e h en ∙ ap (λ (b : Buffer). storedBuffer id (movedIn a b) p) (named-at bufferLimit id k e noBuffer p.buffers h))
+  pub moved_at_holds : (a : Transfer) (o : Buffer) (n : ℕ) → k ≡ slot_of buffer_limit id → k < buffer_limit → n ≡ max p.bufferCount (in_byte id) → with_buffers (set p.buffers k (moved_in a (get_or p.buffers k o))) n p ≡ stored_buffer id (moved_in a (buffer id p)) p
+  moved_at_holds a o n e h en =
+      rw (set_default (moved_in a) p.buffers k o no_buffer)
+      (buffer_at (moved_in a (get_or p.buffers k no_buffer)) n e h en ∙ ap (λ (b : Buffer). stored_buffer id (moved_in a b) p) (named_at buffer_limit id k e no_buffer p.buffers h))
 
 -- ---------------------------------------------------------------- a transfer
 -- it ends the wait of the process that it names
-pub ended-stored : (a : Transfer) (p : Partition) → stored (endedId a) (ended_as a (process (endedId a) p)) p ≡ endedBy a p
-ended-stored (Put m) p = stored-out 0 _ p (outside-zero processLimit 0 refl)
-ended-stored (HandedTo id m) p = refl
-ended-stored Taken p = stored-out 0 _ p (outside-zero processLimit 0 refl)
-ended-stored (LetIn id m) p = refl
+pub ended_stored : (a : Transfer) (p : Partition) → stored (ended_id a) (ended_as a (process (ended_id a) p)) p ≡ ended_by a p
+ended_stored (Put m) p = stored_out 0 _ p (outside_zero process_limit 0 refl)
+ended_stored (HandedTo id m) p = refl
+ended_stored Taken p = stored_out 0 _ p (outside_zero process_limit 0 refl)
+ended_stored (LetIn id m) p = refl
 
-module _ (a : Transfer) (id : ℕ) (p : Partition) (named : id ≡ endedId a) where
-  pub ended : (x : Process) → x ≡ ended_as a (process id p) → stored id x p ≡ endedBy a p
-  ended x r = rw (r, named) (ended-stored a p)
+module _ (a : Transfer) (id : ℕ) (p : Partition) (named : id ≡ ended_id a) where
+  pub ended : (x : Process) → x ≡ ended_as a (process id p) → stored id x p ≡ ended_by a p
+  ended x r = rw (r, named) (ended_stored a p)
 
-  module _ (k : ℕ) (e : k ≡ slot_of processLimit id) where
-    pub ended_at : (x : Process) → k < processLimit → x ≡ ended_as a (get_or p.processes k blankProcess) → stored id x p ≡ endedBy a p
-    ended_at x h r = ended x (r ∙ ap (ended_as a) (named-at processLimit id k e blankProcess p.processes h))
+  module _ (k : ℕ) (e : k ≡ slot_of process_limit id) where
+    pub ended_at_holds : (x : Process) → k < process_limit → x ≡ ended_as a (get_or p.processes k blank_process) → stored id x p ≡ ended_by a p
+    ended_at_holds x h r = ended x (r ∙ ap (ended_as a) (named_at process_limit id k e blank_process p.processes h))
 
-    pub none-ended : processLimit ≤ k → p ≡ endedBy a p
-    none-ended h = sym (stored-out id _ p (slot-out processLimit id k e h)) ∙ ended _ refl
+    pub none_ended : process_limit ≤ k → p ≡ ended_by a p
+    none_ended h = sym (stored_out id _ p (slot_out process_limit id k e h)) ∙ ended _ refl
 
 -- ---------------------------------------------------------------- two changes
 -- what is left of two changes after n of them, where c is the next and b the second
@@ -221,11 +221,11 @@ untouched t id x p e h =
     let a : (due t (process id p).times.wake || due t (process id p).times.deadline) ≡ false = rw e at h in
     let w : due t (process id p).times.wake ≡ false = or_left (due t (process id p).times.wake) (due t (process id p).times.deadline) a in
     let d : due t (process id p).times.deadline ≡ false = or_right (due t (process id p).times.wake) (due t (process id p).times.deadline) a in
-    rw (ticked-same t (process id p) w d) (stored_same id p)
+    rw (ticked_same t (process id p) w d) (stored_same id p)
 
 -- a tick looks at every process in NORMAL, else at none
-pub tick-counted : (t n : ℕ) (p : Partition) → n ≡ cond (eqb p.mode 3) p.processCount 0 → eachFrom (ticked t) n 1 p ≡ tickPartition t p
-unfolding tickPartition eachFrom
-tick-counted t n p e = either (eqb p.mode 3)
+pub tick_counted : (t n : ℕ) (p : Partition) → n ≡ cond (eqb p.mode 3) p.processCount 0 → each_from (ticked t) n 1 p ≡ tick_partition t p
+unfolding tick_partition each_from
+tick_counted t n p e = either (eqb p.mode 3)
     (λ z. let a : n ≡ p.processCount = rw z at e in rw (z, a))
     (λ z. let a : n ≡ 0 = rw z at e in rw (z, a))

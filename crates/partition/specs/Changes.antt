@@ -2,7 +2,7 @@
 use Rattle.std.specs.Prelude.{ℕ, max, Bool, true, false, List, [], ◌∷◌, get_or, set}
 use Rattle.machine.specs.Ids.{appended, removed}
 use Rattle.machine.specs.Process.{served, handed}
-use Rattle.machine.specs.Partition.{waiters, noSemaphore, noEvent, noBuffer, noBlackboard, emptyBuffer, movedIn, created, enteredNormal}
+use Rattle.machine.specs.Partition.{waiters, no_semaphore, no_event, no_buffer, no_blackboard, empty_buffer, moved_in, created, entered_normal}
 use Rattle.machine.specs.declared.Blackboard.{Blackboard}
 use Rattle.machine.specs.declared.Buffer.{Buffer}
 use Rattle.machine.specs.declared.Change.{Change}
@@ -12,199 +12,199 @@ use Rattle.machine.specs.declared.Ids.{Ids}
 use Rattle.machine.specs.declared.Partition.{Partition}
 use Rattle.machine.specs.declared.Process.{Process}
 use Rattle.machine.specs.declared.Semaphore.{Semaphore}
-use Rattle.partition.specs.Places.{inByte}
-use Rattle.partition.specs.Waits.{endedId, ended_as}
+use Rattle.partition.specs.Places.{in_byte}
+use Rattle.partition.specs.Waits.{ended_id, ended_as}
 
 -- ---------------------------------------------------------------- the object
 -- the object that it stores, 0 for none
-abbrev pub objectId : Change → ℕ
-objectId Nothing = 0
-objectId (Stored id x) = 0
-objectId (Created id x) = 0
-objectId (Last id) = 0
-objectId (StoredSemaphore k x) = k
-objectId (StoredEvent k x) = k
-objectId (CreatedBuffer k name limit) = k
-objectId (Moved k a) = k
-objectId (StoredBlackboard k x) = k
-objectId (Ended o) = 0
-objectId (Handed o m) = 0
-objectId (LevelSet n h) = 0
-objectId (Entered c) = 0
+abbrev pub object_id : Change → ℕ
+object_id Nothing = 0
+object_id (Stored id x) = 0
+object_id (Created id x) = 0
+object_id (Last id) = 0
+object_id (StoredSemaphore k x) = k
+object_id (StoredEvent k x) = k
+object_id (CreatedBuffer k name limit) = k
+object_id (Moved k a) = k
+object_id (StoredBlackboard k x) = k
+object_id (Ended o) = 0
+object_id (Handed o m) = 0
+object_id (LevelSet n h) = 0
+object_id (Entered c) = 0
 
 -- what then stands at its place, of each kind
-abbrev pub semaphoreAs : Change → Semaphore → Semaphore
-semaphoreAs Nothing old = old
-semaphoreAs (Stored id x) old = old
-semaphoreAs (Created id x) old = old
-semaphoreAs (Last id) old = old
-semaphoreAs (StoredSemaphore k x) old = x
-semaphoreAs (StoredEvent k x) old = old
-semaphoreAs (CreatedBuffer k name limit) old = old
-semaphoreAs (Moved k a) old = old
-semaphoreAs (StoredBlackboard k x) old = old
-semaphoreAs (Ended o) old = old
-semaphoreAs (Handed o m) old = old
-semaphoreAs (LevelSet n h) old = old
-semaphoreAs (Entered c) old = old
+abbrev pub semaphore_as : Change → Semaphore → Semaphore
+semaphore_as Nothing old = old
+semaphore_as (Stored id x) old = old
+semaphore_as (Created id x) old = old
+semaphore_as (Last id) old = old
+semaphore_as (StoredSemaphore k x) old = x
+semaphore_as (StoredEvent k x) old = old
+semaphore_as (CreatedBuffer k name limit) old = old
+semaphore_as (Moved k a) old = old
+semaphore_as (StoredBlackboard k x) old = old
+semaphore_as (Ended o) old = old
+semaphore_as (Handed o m) old = old
+semaphore_as (LevelSet n h) old = old
+semaphore_as (Entered c) old = old
 
-abbrev pub eventAs : Change → EventState → EventState
-eventAs Nothing old = old
-eventAs (Stored id x) old = old
-eventAs (Created id x) old = old
-eventAs (Last id) old = old
-eventAs (StoredSemaphore k x) old = old
-eventAs (StoredEvent k x) old = x
-eventAs (CreatedBuffer k name limit) old = old
-eventAs (Moved k a) old = old
-eventAs (StoredBlackboard k x) old = old
-eventAs (Ended o) old = old
-eventAs (Handed o m) old = old
-eventAs (LevelSet n h) old = old
-eventAs (Entered c) old = old
+abbrev pub event_as : Change → EventState → EventState
+event_as Nothing old = old
+event_as (Stored id x) old = old
+event_as (Created id x) old = old
+event_as (Last id) old = old
+event_as (StoredSemaphore k x) old = old
+event_as (StoredEvent k x) old = x
+event_as (CreatedBuffer k name limit) old = old
+event_as (Moved k a) old = old
+event_as (StoredBlackboard k x) old = old
+event_as (Ended o) old = old
+event_as (Handed o m) old = old
+event_as (LevelSet n h) old = old
+event_as (Entered c) old = old
 
-abbrev pub bufferAs : Change → Buffer → Buffer
-bufferAs Nothing old = old
-bufferAs (Stored id x) old = old
-bufferAs (Created id x) old = old
-bufferAs (Last id) old = old
-bufferAs (StoredSemaphore k x) old = old
-bufferAs (StoredEvent k x) old = old
-bufferAs (CreatedBuffer k name limit) old = emptyBuffer name limit
-bufferAs (Moved k a) old = movedIn a old
-bufferAs (StoredBlackboard k x) old = old
-bufferAs (Ended o) old = old
-bufferAs (Handed o m) old = old
-bufferAs (LevelSet n h) old = old
-bufferAs (Entered c) old = old
+abbrev pub buffer_as : Change → Buffer → Buffer
+buffer_as Nothing old = old
+buffer_as (Stored id x) old = old
+buffer_as (Created id x) old = old
+buffer_as (Last id) old = old
+buffer_as (StoredSemaphore k x) old = old
+buffer_as (StoredEvent k x) old = old
+buffer_as (CreatedBuffer k name limit) old = empty_buffer name limit
+buffer_as (Moved k a) old = moved_in a old
+buffer_as (StoredBlackboard k x) old = old
+buffer_as (Ended o) old = old
+buffer_as (Handed o m) old = old
+buffer_as (LevelSet n h) old = old
+buffer_as (Entered c) old = old
 
-abbrev pub blackboardAs : Change → Blackboard → Blackboard
-blackboardAs Nothing old = old
-blackboardAs (Stored id x) old = old
-blackboardAs (Created id x) old = old
-blackboardAs (Last id) old = old
-blackboardAs (StoredSemaphore k x) old = old
-blackboardAs (StoredEvent k x) old = old
-blackboardAs (CreatedBuffer k name limit) old = old
-blackboardAs (Moved k a) old = old
-blackboardAs (StoredBlackboard k x) old = x
-blackboardAs (Ended o) old = old
-blackboardAs (Handed o m) old = old
-blackboardAs (LevelSet n h) old = old
-blackboardAs (Entered c) old = old
+abbrev pub blackboard_as : Change → Blackboard → Blackboard
+blackboard_as Nothing old = old
+blackboard_as (Stored id x) old = old
+blackboard_as (Created id x) old = old
+blackboard_as (Last id) old = old
+blackboard_as (StoredSemaphore k x) old = old
+blackboard_as (StoredEvent k x) old = old
+blackboard_as (CreatedBuffer k name limit) old = old
+blackboard_as (Moved k a) old = old
+blackboard_as (StoredBlackboard k x) old = x
+blackboard_as (Ended o) old = old
+blackboard_as (Handed o m) old = old
+blackboard_as (LevelSet n h) old = old
+blackboard_as (Entered c) old = old
 
 -- how many there are of each kind
-abbrev pub semaphoresAs : Change → ℕ → ℕ
-semaphoresAs Nothing old = old
-semaphoresAs (Stored id x) old = old
-semaphoresAs (Created id x) old = old
-semaphoresAs (Last id) old = old
-semaphoresAs (StoredSemaphore k x) old = max old (inByte k)
-semaphoresAs (StoredEvent k x) old = old
-semaphoresAs (CreatedBuffer k name limit) old = old
-semaphoresAs (Moved k a) old = old
-semaphoresAs (StoredBlackboard k x) old = old
-semaphoresAs (Ended o) old = old
-semaphoresAs (Handed o m) old = old
-semaphoresAs (LevelSet n h) old = old
-semaphoresAs (Entered c) old = old
+abbrev pub semaphores_as : Change → ℕ → ℕ
+semaphores_as Nothing old = old
+semaphores_as (Stored id x) old = old
+semaphores_as (Created id x) old = old
+semaphores_as (Last id) old = old
+semaphores_as (StoredSemaphore k x) old = max old (in_byte k)
+semaphores_as (StoredEvent k x) old = old
+semaphores_as (CreatedBuffer k name limit) old = old
+semaphores_as (Moved k a) old = old
+semaphores_as (StoredBlackboard k x) old = old
+semaphores_as (Ended o) old = old
+semaphores_as (Handed o m) old = old
+semaphores_as (LevelSet n h) old = old
+semaphores_as (Entered c) old = old
 
-abbrev pub eventsAs : Change → ℕ → ℕ
-eventsAs Nothing old = old
-eventsAs (Stored id x) old = old
-eventsAs (Created id x) old = old
-eventsAs (Last id) old = old
-eventsAs (StoredSemaphore k x) old = old
-eventsAs (StoredEvent k x) old = max old (inByte k)
-eventsAs (CreatedBuffer k name limit) old = old
-eventsAs (Moved k a) old = old
-eventsAs (StoredBlackboard k x) old = old
-eventsAs (Ended o) old = old
-eventsAs (Handed o m) old = old
-eventsAs (LevelSet n h) old = old
-eventsAs (Entered c) old = old
+abbrev pub events_as : Change → ℕ → ℕ
+events_as Nothing old = old
+events_as (Stored id x) old = old
+events_as (Created id x) old = old
+events_as (Last id) old = old
+events_as (StoredSemaphore k x) old = old
+events_as (StoredEvent k x) old = max old (in_byte k)
+events_as (CreatedBuffer k name limit) old = old
+events_as (Moved k a) old = old
+events_as (StoredBlackboard k x) old = old
+events_as (Ended o) old = old
+events_as (Handed o m) old = old
+events_as (LevelSet n h) old = old
+events_as (Entered c) old = old
 
-abbrev pub buffersAs : Change → ℕ → ℕ
-buffersAs Nothing old = old
-buffersAs (Stored id x) old = old
-buffersAs (Created id x) old = old
-buffersAs (Last id) old = old
-buffersAs (StoredSemaphore k x) old = old
-buffersAs (StoredEvent k x) old = old
-buffersAs (CreatedBuffer k name limit) old = max old (inByte k)
-buffersAs (Moved k a) old = max old (inByte k)
-buffersAs (StoredBlackboard k x) old = old
-buffersAs (Ended o) old = old
-buffersAs (Handed o m) old = old
-buffersAs (LevelSet n h) old = old
-buffersAs (Entered c) old = old
+abbrev pub buffers_as : Change → ℕ → ℕ
+buffers_as Nothing old = old
+buffers_as (Stored id x) old = old
+buffers_as (Created id x) old = old
+buffers_as (Last id) old = old
+buffers_as (StoredSemaphore k x) old = old
+buffers_as (StoredEvent k x) old = old
+buffers_as (CreatedBuffer k name limit) old = max old (in_byte k)
+buffers_as (Moved k a) old = max old (in_byte k)
+buffers_as (StoredBlackboard k x) old = old
+buffers_as (Ended o) old = old
+buffers_as (Handed o m) old = old
+buffers_as (LevelSet n h) old = old
+buffers_as (Entered c) old = old
 
-abbrev pub blackboardsAs : Change → ℕ → ℕ
-blackboardsAs Nothing old = old
-blackboardsAs (Stored id x) old = old
-blackboardsAs (Created id x) old = old
-blackboardsAs (Last id) old = old
-blackboardsAs (StoredSemaphore k x) old = old
-blackboardsAs (StoredEvent k x) old = old
-blackboardsAs (CreatedBuffer k name limit) old = old
-blackboardsAs (Moved k a) old = old
-blackboardsAs (StoredBlackboard k x) old = max old (inByte k)
-blackboardsAs (Ended o) old = old
-blackboardsAs (Handed o m) old = old
-blackboardsAs (LevelSet n h) old = old
-blackboardsAs (Entered c) old = old
+abbrev pub blackboards_as : Change → ℕ → ℕ
+blackboards_as Nothing old = old
+blackboards_as (Stored id x) old = old
+blackboards_as (Created id x) old = old
+blackboards_as (Last id) old = old
+blackboards_as (StoredSemaphore k x) old = old
+blackboards_as (StoredEvent k x) old = old
+blackboards_as (CreatedBuffer k name limit) old = old
+blackboards_as (Moved k a) old = old
+blackboards_as (StoredBlackboard k x) old = max old (in_byte k)
+blackboards_as (Ended o) old = old
+blackboards_as (Handed o m) old = old
+blackboards_as (LevelSet n h) old = old
+blackboards_as (Entered c) old = old
 
 -- the partition then, the place being i
-abbrev pub objectsAs : ℕ → Change → Partition → Partition
-objectsAs i c p = record {
+abbrev pub objects_as : ℕ → Change → Partition → Partition
+objects_as i c p = record {
   mode = p.mode;
   level = p.level;
   holder = p.holder;
   processes = p.processes;
   processCount = p.processCount;
-  semaphores = set p.semaphores i (semaphoreAs c (get_or p.semaphores i noSemaphore));
-  semaphoreCount = semaphoresAs c p.semaphoreCount;
-  events = set p.events i (eventAs c (get_or p.events i noEvent));
-  eventCount = eventsAs c p.eventCount;
-  buffers = set p.buffers i (bufferAs c (get_or p.buffers i noBuffer));
-  bufferCount = buffersAs c p.bufferCount;
-  blackboards = set p.blackboards i (blackboardAs c (get_or p.blackboards i noBlackboard));
-  blackboardCount = blackboardsAs c p.blackboardCount;
+  semaphores = set p.semaphores i (semaphore_as c (get_or p.semaphores i no_semaphore));
+  semaphoreCount = semaphores_as c p.semaphoreCount;
+  events = set p.events i (event_as c (get_or p.events i no_event));
+  eventCount = events_as c p.eventCount;
+  buffers = set p.buffers i (buffer_as c (get_or p.buffers i no_buffer));
+  bufferCount = buffers_as c p.bufferCount;
+  blackboards = set p.blackboards i (blackboard_as c (get_or p.blackboards i no_blackboard));
+  blackboardCount = blackboards_as c p.blackboardCount;
   arrival = p.arrival;
   waiting = p.waiting;
 }
 
 -- ---------------------------------------------------------------- processes
 -- those that it stores, in order, and the record of each then
-abbrev pub storedIds : Change → Partition → List ℕ
-storedIds Nothing p = []
-storedIds (Stored id x) p = inByte id ∷ []
-storedIds (Created id x) p = []
-storedIds (Last id) p = []
-storedIds (StoredSemaphore k x) p = []
-storedIds (StoredEvent k x) p = []
-storedIds (CreatedBuffer k name limit) p = []
-storedIds (Moved k a) p = inByte (endedId a) ∷ []
-storedIds (StoredBlackboard k x) p = []
-storedIds (Ended o) p = waiters o p
-storedIds (Handed o m) p = waiters o p
-storedIds (LevelSet n h) p = []
-storedIds (Entered c) p = []
+abbrev pub stored_ids : Change → Partition → List ℕ
+stored_ids Nothing p = []
+stored_ids (Stored id x) p = in_byte id ∷ []
+stored_ids (Created id x) p = []
+stored_ids (Last id) p = []
+stored_ids (StoredSemaphore k x) p = []
+stored_ids (StoredEvent k x) p = []
+stored_ids (CreatedBuffer k name limit) p = []
+stored_ids (Moved k a) p = in_byte (ended_id a) ∷ []
+stored_ids (StoredBlackboard k x) p = []
+stored_ids (Ended o) p = waiters o p
+stored_ids (Handed o m) p = waiters o p
+stored_ids (LevelSet n h) p = []
+stored_ids (Entered c) p = []
 
-abbrev pub storedAs : Change → Process → Process
-storedAs Nothing old = old
-storedAs (Stored id x) old = x
-storedAs (Created id x) old = old
-storedAs (Last id) old = old
-storedAs (StoredSemaphore k x) old = old
-storedAs (StoredEvent k x) old = old
-storedAs (CreatedBuffer k name limit) old = old
-storedAs (Moved k a) old = ended_as a old
-storedAs (StoredBlackboard k x) old = old
-storedAs (Ended o) old = served old
-storedAs (Handed o m) old = handed m old
-storedAs (LevelSet n h) old = old
-storedAs (Entered c) old = old
+abbrev pub stored_as : Change → Process → Process
+stored_as Nothing old = old
+stored_as (Stored id x) old = x
+stored_as (Created id x) old = old
+stored_as (Last id) old = old
+stored_as (StoredSemaphore k x) old = old
+stored_as (StoredEvent k x) old = old
+stored_as (CreatedBuffer k name limit) old = old
+stored_as (Moved k a) old = ended_as a old
+stored_as (StoredBlackboard k x) old = old
+stored_as (Ended o) old = served old
+stored_as (Handed o m) old = handed m old
+stored_as (LevelSet n h) old = old
+stored_as (Entered c) old = old
 
 -- ---------------------------------------------------------------- the preemption lock and the arrival list
 abbrev pub order : Change → Bool
@@ -222,56 +222,56 @@ order (Handed o m) = false
 order (LevelSet n h) = true
 order (Entered c) = false
 
-abbrev pub levelAs : Change → ℕ → ℕ
-levelAs Nothing old = old
-levelAs (Stored id x) old = old
-levelAs (Created id x) old = old
-levelAs (Last id) old = old
-levelAs (StoredSemaphore k x) old = old
-levelAs (StoredEvent k x) old = old
-levelAs (CreatedBuffer k name limit) old = old
-levelAs (Moved k a) old = old
-levelAs (StoredBlackboard k x) old = old
-levelAs (Ended o) old = old
-levelAs (Handed o m) old = old
-levelAs (LevelSet n h) old = n
-levelAs (Entered c) old = old
+abbrev pub level_as : Change → ℕ → ℕ
+level_as Nothing old = old
+level_as (Stored id x) old = old
+level_as (Created id x) old = old
+level_as (Last id) old = old
+level_as (StoredSemaphore k x) old = old
+level_as (StoredEvent k x) old = old
+level_as (CreatedBuffer k name limit) old = old
+level_as (Moved k a) old = old
+level_as (StoredBlackboard k x) old = old
+level_as (Ended o) old = old
+level_as (Handed o m) old = old
+level_as (LevelSet n h) old = n
+level_as (Entered c) old = old
 
-abbrev pub holderAs : Change → ℕ → ℕ
-holderAs Nothing old = old
-holderAs (Stored id x) old = old
-holderAs (Created id x) old = old
-holderAs (Last id) old = old
-holderAs (StoredSemaphore k x) old = old
-holderAs (StoredEvent k x) old = old
-holderAs (CreatedBuffer k name limit) old = old
-holderAs (Moved k a) old = old
-holderAs (StoredBlackboard k x) old = old
-holderAs (Ended o) old = old
-holderAs (Handed o m) old = old
-holderAs (LevelSet n h) old = h
-holderAs (Entered c) old = old
+abbrev pub holder_as : Change → ℕ → ℕ
+holder_as Nothing old = old
+holder_as (Stored id x) old = old
+holder_as (Created id x) old = old
+holder_as (Last id) old = old
+holder_as (StoredSemaphore k x) old = old
+holder_as (StoredEvent k x) old = old
+holder_as (CreatedBuffer k name limit) old = old
+holder_as (Moved k a) old = old
+holder_as (StoredBlackboard k x) old = old
+holder_as (Ended o) old = old
+holder_as (Handed o m) old = old
+holder_as (LevelSet n h) old = h
+holder_as (Entered c) old = old
 
-abbrev pub arrivalAs : Change → Ids → Ids
-arrivalAs Nothing old = old
-arrivalAs (Stored id x) old = old
-arrivalAs (Created id x) old = old
-arrivalAs (Last id) old = appended id (removed id old)
-arrivalAs (StoredSemaphore k x) old = old
-arrivalAs (StoredEvent k x) old = old
-arrivalAs (CreatedBuffer k name limit) old = old
-arrivalAs (Moved k a) old = old
-arrivalAs (StoredBlackboard k x) old = old
-arrivalAs (Ended o) old = old
-arrivalAs (Handed o m) old = old
-arrivalAs (LevelSet n h) old = old
-arrivalAs (Entered c) old = old
+abbrev pub arrival_as : Change → Ids → Ids
+arrival_as Nothing old = old
+arrival_as (Stored id x) old = old
+arrival_as (Created id x) old = old
+arrival_as (Last id) old = appended id (removed id old)
+arrival_as (StoredSemaphore k x) old = old
+arrival_as (StoredEvent k x) old = old
+arrival_as (CreatedBuffer k name limit) old = old
+arrival_as (Moved k a) old = old
+arrival_as (StoredBlackboard k x) old = old
+arrival_as (Ended o) old = old
+arrival_as (Handed o m) old = old
+arrival_as (LevelSet n h) old = old
+arrival_as (Entered c) old = old
 
-abbrev pub orderAs : Change → Partition → Partition
-orderAs c p = record {
+abbrev pub order_as : Change → Partition → Partition
+order_as c p = record {
   mode = p.mode;
-  level = levelAs c p.level;
-  holder = holderAs c p.holder;
+  level = level_as c p.level;
+  holder = holder_as c p.holder;
   processes = p.processes;
   processCount = p.processCount;
   semaphores = p.semaphores;
@@ -282,7 +282,7 @@ orderAs c p = record {
   bufferCount = p.bufferCount;
   blackboards = p.blackboards;
   blackboardCount = p.blackboardCount;
-  arrival = arrivalAs c p.arrival;
+  arrival = arrival_as c p.arrival;
   waiting = p.waiting;
 }
 
@@ -302,17 +302,17 @@ whole (Handed o m) = false
 whole (LevelSet n h) = false
 whole (Entered c) = true
 
-abbrev pub wholeAs : Change → Partition → Partition
-wholeAs Nothing p = p
-wholeAs (Stored id x) p = p
-wholeAs (Created id x) p = created id x p
-wholeAs (Last id) p = p
-wholeAs (StoredSemaphore k x) p = p
-wholeAs (StoredEvent k x) p = p
-wholeAs (CreatedBuffer k name limit) p = p
-wholeAs (Moved k a) p = p
-wholeAs (StoredBlackboard k x) p = p
-wholeAs (Ended o) p = p
-wholeAs (Handed o m) p = p
-wholeAs (LevelSet n h) p = p
-wholeAs (Entered c) p = enteredNormal c p
+abbrev pub whole_as : Change → Partition → Partition
+whole_as Nothing p = p
+whole_as (Stored id x) p = p
+whole_as (Created id x) p = created id x p
+whole_as (Last id) p = p
+whole_as (StoredSemaphore k x) p = p
+whole_as (StoredEvent k x) p = p
+whole_as (CreatedBuffer k name limit) p = p
+whole_as (Moved k a) p = p
+whole_as (StoredBlackboard k x) p = p
+whole_as (Ended o) p = p
+whole_as (Handed o m) p = p
+whole_as (LevelSet n h) p = p
+whole_as (Entered c) p = entered_normal c p

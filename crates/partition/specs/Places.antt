@@ -11,5 +11,5 @@ abbrev pub place_of : ℕ → ℕ → ℕ
 place_of limit id = cond (within limit id) (id - 1) 0
 
 -- an id as a list of ids and a number of records hold it: in a byte, 255 at most
-abbrev pub inByte : ℕ → ℕ
-inByte id = min id 255
+abbrev pub in_byte : ℕ → ℕ
+in_byte id = min id 255

@@ -1,6 +1,6 @@
 -- A number that no wake time or deadline of a partition comes before: what the loop over events asks at a tick.
 use Rattle.std.specs.Prelude.{ℕ, zero, suc, ◌+◌, min}
-use Rattle.machine.specs.Limits.{greatestTime}
+use Rattle.machine.specs.Limits.{greatest_time}
 use Rattle.machine.specs.Partition.{process}
 use Rattle.machine.specs.declared.Partition.{Partition}
 use Rattle.machine.specs.declared.Time.{Time}
@@ -12,9 +12,9 @@ sooner Never n = n
 sooner (At t) n = min t n
 
 -- of n processes from id on
-unfoldable pub soonestFrom : ℕ → ℕ → Partition → ℕ
-soonestFrom zero id p = greatestTime
-soonestFrom (suc n) id p = sooner (process id p).times.wake (sooner (process id p).times.deadline (soonestFrom n (id + 1) p))
+unfoldable pub soonest_from : ℕ → ℕ → Partition → ℕ
+soonest_from zero id p = greatest_time
+soonest_from (suc n) id p = sooner (process id p).times.wake (sooner (process id p).times.deadline (soonest_from n (id + 1) p))
 
-abbrev pub soonestOf : Partition → ℕ
-soonestOf p = soonestFrom p.processCount 1 p
+abbrev pub soonest_of : Partition → ℕ
+soonest_of p = soonest_from p.processCount 1 p

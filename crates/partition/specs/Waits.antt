@@ -6,15 +6,15 @@ use Rattle.machine.specs.declared.Transfer.TheVariants.{Put, HandedTo, Taken, Le
 use Rattle.machine.specs.Process.{served, handed}
 
 -- the wait ends with wake code 0: this message is handed over, or none
-abbrev pub servedWith : Bool → ℕ → Process → Process
-servedWith hands m x = cond hands (handed m x) (served x)
+abbrev pub served_with : Bool → ℕ → Process → Process
+served_with hands m x = cond hands (handed m x) (served x)
 
 -- the process whose wait a transfer ends, 0 for none, and its record then
-abbrev pub endedId : Transfer → ℕ
-endedId (Put m) = 0
-endedId (HandedTo id m) = id
-endedId Taken = 0
-endedId (LetIn id m) = id
+abbrev pub ended_id : Transfer → ℕ
+ended_id (Put m) = 0
+ended_id (HandedTo id m) = id
+ended_id Taken = 0
+ended_id (LetIn id m) = id
 
 abbrev pub ended_as : Transfer → Process → Process
 ended_as (Put m) x = x

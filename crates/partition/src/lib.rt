@@ -1,15 +1,15 @@
 // A partition's record: its processes, the lists that follow them, the running process and the tick.
 ghost use Rattle.std.specs.Prelude.{◌≡◌, ◌≤◌, max, cond, ◌||◌, map, length, take, eqb};
-ghost use Rattle.partition.specs.Places.{slot_of, place_of, inByte};
-ghost use Rattle.partition.specs.Changes.{objectId, semaphoreAs, eventAs, bufferAs, blackboardAs, semaphoresAs, eventsAs, buffersAs, blackboardsAs, storedAs, order, levelAs, holderAs, arrivalAs, whole, wholeAs};
-ghost use Rattle.partition.specs.Soonest.{sooner, soonestOf};
-ghost use Rattle.partition.specs.Waits.{servedWith, endedId, ended_as};
-ghost use Rattle.machine.specs.Limits.{processLimit, semaphoreLimit, eventLimit, bufferLimit, blackboardLimit};
+ghost use Rattle.partition.specs.Places.{slot_of, place_of, in_byte};
+ghost use Rattle.partition.specs.Changes.{object_id, semaphore_as, event_as, buffer_as, blackboard_as, semaphores_as, events_as, buffers_as, blackboards_as, stored_as, order, level_as, holder_as, arrival_as, whole, whole_as};
+ghost use Rattle.partition.specs.Soonest.{sooner, soonest_of};
+ghost use Rattle.partition.specs.Waits.{served_with, ended_id, ended_as};
+ghost use Rattle.machine.specs.Limits.{process_limit, semaphore_limit, event_limit, buffer_limit, blackboard_limit};
 ghost use Rattle.machine.specs.Ids.{members, ids_of, appended, removed, follow};
-ghost use Rattle.machine.specs.Messages.{queueOf};
+ghost use Rattle.machine.specs.Messages.{queue_of};
 ghost use Rattle.machine.specs.Process as Pr;
-ghost use Rattle.machine.specs.Process.{blankProcess, carried, due, ready, onObject, ticked, served, entered};
-ghost use Rattle.machine.specs.Partition.{within, noSemaphore, noEvent, noBuffer, noBlackboard, movedIn, process, stored, preferred, running, waiters, firstWaiter, changedAll, tickPartition, enteredNormal, nothingCreated, emptyBuffer, created, endedBy};
+ghost use Rattle.machine.specs.Process.{blank_process, carried, due, ready, on_object, ticked, served, entered};
+ghost use Rattle.machine.specs.Partition.{within, no_semaphore, no_event, no_buffer, no_blackboard, moved_in, process, stored, preferred, running, waiters, first_waiter, changed_all, tick_partition, entered_normal, nothing_created, empty_buffer, created, ended_by};
 
 use machine::{
     Blackboard, Buffer, Change, Choice, Context, EventState, Ids, Module, Partition, Process,
@@ -24,14 +24,14 @@ fn wide(id: u8) -> u32
 
 // An id in a byte; no record has one past 255.
 pub fn narrow(id: u32) -> u8
-    ensures { result ≡ inByte id }
+    ensures { result ≡ in_byte id }
 {
     if id < 255 { id as u8 } else { 255 }
 }
 
 // How many ids a list holds, the array's length at most.
 pub fn count(q: Ids) -> usize
-    ensures { (result ≡ length (members q)) × (result ≤ processLimit) }
+    ensures { (result ≡ length (members q)) × (result ≤ process_limit) }
 {
     let n = q.len as usize;
     if n < Module::PROCESSES {
@@ -131,7 +131,7 @@ fn is_within(id: u32, limit: u32) -> bool
 }
 
 pub fn process_read(id: u32, x: Process) -> Process
-    ensures { result ≡ cond (within processLimit id) x blankProcess }
+    ensures { result ≡ cond (within process_limit id) x blank_process }
 {
     let mut r = x;
     if !is_within(id, Module::PROCESSES as u32) {
@@ -141,13 +141,13 @@ pub fn process_read(id: u32, x: Process) -> Process
 }
 
 pub fn carried_read(id: u8, x: Process) -> u32
-    ensures { result ≡ carried (cond (within processLimit id) x blankProcess) }
+    ensures { result ≡ carried (cond (within process_limit id) x blank_process) }
 {
     process::carried_by(process_read(wide(id), x))
 }
 
 pub fn semaphore_read(id: u32, x: Semaphore) -> Semaphore
-    ensures { result ≡ cond (within semaphoreLimit id) x noSemaphore }
+    ensures { result ≡ cond (within semaphore_limit id) x no_semaphore }
 {
     if is_within(id, Module::SEMAPHORES as u32) {
         x
@@ -161,7 +161,7 @@ pub fn semaphore_read(id: u32, x: Semaphore) -> Semaphore
 }
 
 pub fn event_read(id: u32, x: EventState) -> EventState
-    ensures { result ≡ cond (within eventLimit id) x noEvent }
+    ensures { result ≡ cond (within event_limit id) x no_event }
 {
     if is_within(id, Module::EVENTS as u32) {
         x
@@ -171,7 +171,7 @@ pub fn event_read(id: u32, x: EventState) -> EventState
 }
 
 pub fn buffer_read(id: u32, x: Buffer) -> Buffer
-    ensures { result ≡ cond (within bufferLimit id) x noBuffer }
+    ensures { result ≡ cond (within buffer_limit id) x no_buffer }
 {
     if is_within(id, Module::BUFFERS as u32) {
         x
@@ -181,7 +181,7 @@ pub fn buffer_read(id: u32, x: Buffer) -> Buffer
 }
 
 pub fn blackboard_read(id: u32, x: Blackboard) -> Blackboard
-    ensures { result ≡ cond (within blackboardLimit id) x noBlackboard }
+    ensures { result ≡ cond (within blackboard_limit id) x no_blackboard }
 {
     if is_within(id, Module::BLACKBOARDS as u32) {
         x
@@ -277,7 +277,7 @@ pub fn queue_of(p: Partition, object: u16) -> Ids
 
 // The first of the queue of an object, 0 for none.
 pub fn first_waiter(p: Partition, object: u16) -> u8
-    ensures { result ≡ firstWaiter object p }
+    ensures { result ≡ first_waiter object p }
 {
     let waiting = p.waiting;
     let n = count(waiting);
@@ -310,7 +310,7 @@ fn first_waiters(p: Partition, object: u16, n: u8) -> Ids
 
 // The messages that are kept with their waits.
 pub fn waiting_messages(p: Partition, object: u16, n: u8) -> Queue
-    ensures { result ≡ queueOf (map (λ id. carried (process id p)) (take n (waiters object p))) }
+    ensures { result ≡ queue_of (map (λ id. carried (process id p)) (take n (waiters object p))) }
 {
     let ids = first_waiters(p, object, n);
     let len = count(ids);
@@ -346,7 +346,7 @@ pub fn soonest_with(x: Process, n: u32) -> u32
 
 // No wake time or deadline comes before it.
 pub fn soonest_of(p: Partition) -> u32
-    ensures { result ≡ soonestOf p }
+    ensures { result ≡ soonest_of p }
 {
     let n = wide(p.processCount);
     let mut id = n;
@@ -366,13 +366,13 @@ pub fn soonest_of(p: Partition) -> u32
 // ---------------------------------------------------------------- one record stored
 // The arrival list and the waiting list after process id, which had the record old, has the record x.
 pub fn arrival_with(q: Ids, old: Process, x: Process, id: u32) -> Ids
-    ensures { result ≡ follow (ready old) (ready x) (inByte id) q }
+    ensures { result ≡ follow (ready old) (ready x) (in_byte id) q }
 {
     followed(q, process::is_ready(old), process::is_ready(x), narrow(id))
 }
 
 pub fn waiting_with(q: Ids, old: Process, x: Process, id: u32) -> Ids
-    ensures { result ≡ follow (onObject old) (onObject x) (inByte id) q }
+    ensures { result ≡ follow (on_object old) (on_object x) (in_byte id) q }
 {
     followed(
         q,
@@ -400,7 +400,7 @@ fn store(p: Partition, id: u32, x: Process) -> Partition
 
 // How many there are with this one among them.
 pub fn counted(n: u8, id: u32) -> u8
-    ensures { result ≡ max n (inByte id) }
+    ensures { result ≡ max n (in_byte id) }
 {
     let k = narrow(id);
     if n < k { k } else { n }
@@ -423,7 +423,7 @@ pub fn create(p: Partition, id: u32, x: Process) -> Partition
 // ---------------------------------------------------------------- many records stored
 // The wait of a process ends with wake code 0; where one is handed over, the message stays in its record.
 fn serve(x: Process, hands: bool, m: u32) -> Process
-    ensures { result ≡ servedWith hands m x }
+    ensures { result ≡ served_with hands m x }
 {
     if hands {
         process::hand(x, m)
@@ -434,7 +434,7 @@ fn serve(x: Process, hands: bool, m: u32) -> Process
 
 // The wait of process id ends.
 fn end_wait(p: Partition, id: u8, hands: bool, m: u32) -> Partition
-    ensures { result ≡ stored id (servedWith hands m (process id p)) p }
+    ensures { result ≡ stored id (served_with hands m (process id p)) p }
 {
     let n = wide(id);
     let x = process_at(p, n);
@@ -443,7 +443,7 @@ fn end_wait(p: Partition, id: u8, hands: bool, m: u32) -> Partition
 
 // The waits of these processes end, one after the other.
 fn end_waits(p: Partition, ids: Ids, hands: bool, m: u32) -> Partition
-    ensures { result ≡ changedAll (servedWith hands m) (members ids) p }
+    ensures { result ≡ changed_all (served_with hands m) (members ids) p }
 {
     let n = count(ids);
     let mut q = p;
@@ -458,14 +458,14 @@ fn end_waits(p: Partition, ids: Ids, hands: bool, m: u32) -> Partition
 
 // The waits of the first n of the queue of an object end with wake code 0.
 pub fn let_in(p: Partition, object: u16, n: u8) -> Partition
-    ensures { result ≡ changedAll served (take n (waiters object p)) p }
+    ensures { result ≡ changed_all served (take n (waiters object p)) p }
 {
     end_waits(p, first_waiters(p, object, n), false, 0)
 }
 
 // The process whose wait a transfer ends, 0 for none.
 pub fn ended_id(a: Transfer) -> u32
-    ensures { result ≡ endedId a }
+    ensures { result ≡ ended_id a }
 {
     match a {
         Transfer::Put(_) => 0,
@@ -489,7 +489,7 @@ pub fn ended_as(x: Process, a: Transfer) -> Process
 
 // The partition of those who wait after a transfer.
 pub fn after_transfer(p: Partition, a: Transfer) -> Partition
-    ensures { result ≡ endedBy a p }
+    ensures { result ≡ ended_by a p }
 {
     let mut q = p;
     let id = ended_id(a);
@@ -527,7 +527,7 @@ fn touched_count(mode: u8, count: u8) -> u32
 
 // A tick of a partition.
 pub fn ticked(p: Partition, t: u32) -> Partition
-    ensures { result ≡ tickPartition t p }
+    ensures { result ≡ tick_partition t p }
 {
     let n = touched_count(p.mode, p.processCount);
     let mut q = p;
@@ -557,7 +557,7 @@ fn enter_process(p: Partition, c: Context, id: u32) -> Partition
 }
 
 pub fn enter_normal(p: Partition, c: Context) -> Partition
-    ensures { result ≡ enteredNormal c p }
+    ensures { result ≡ entered_normal c p }
 {
     let n = wide(p.processCount);
     let mut q = p;
@@ -575,7 +575,7 @@ pub fn enter_normal(p: Partition, c: Context) -> Partition
 // ---------------------------------------------------------------- a change, part by part
 // The record of a process that a change stores.
 pub fn stored_as(c: Change, old: Process) -> Process
-    ensures { result ≡ storedAs c old }
+    ensures { result ≡ stored_as c old }
 {
     match c {
         Change::Nothing => old,
@@ -596,7 +596,7 @@ pub fn stored_as(c: Change, old: Process) -> Process
 
 // The object that it stores, 0 for none, and what then stands at its place, of each kind.
 pub fn object_id(c: Change) -> u32
-    ensures { result ≡ objectId c }
+    ensures { result ≡ object_id c }
 {
     match c {
         Change::Nothing => 0,
@@ -616,7 +616,7 @@ pub fn object_id(c: Change) -> u32
 }
 
 pub fn semaphore_as(c: Change, old: Semaphore) -> Semaphore
-    ensures { result ≡ semaphoreAs c old }
+    ensures { result ≡ semaphore_as c old }
 {
     match c {
         Change::Nothing => old,
@@ -636,7 +636,7 @@ pub fn semaphore_as(c: Change, old: Semaphore) -> Semaphore
 }
 
 pub fn event_as(c: Change, old: EventState) -> EventState
-    ensures { result ≡ eventAs c old }
+    ensures { result ≡ event_as c old }
 {
     match c {
         Change::Nothing => old,
@@ -656,7 +656,7 @@ pub fn event_as(c: Change, old: EventState) -> EventState
 }
 
 pub fn blackboard_as(c: Change, old: Blackboard) -> Blackboard
-    ensures { result ≡ blackboardAs c old }
+    ensures { result ≡ blackboard_as c old }
 {
     match c {
         Change::Nothing => old,
@@ -676,7 +676,7 @@ pub fn blackboard_as(c: Change, old: Blackboard) -> Blackboard
 }
 
 fn moved_in(b: Buffer, a: Transfer) -> Buffer
-    ensures { result ≡ movedIn a b }
+    ensures { result ≡ moved_in a b }
 {
     let mut r = b;
     r.queue = messages::change(r.queue, a);
@@ -684,14 +684,14 @@ fn moved_in(b: Buffer, a: Transfer) -> Buffer
 }
 
 fn empty_buffer(name: u16, limit: u8) -> Buffer
-    ensures { result ≡ emptyBuffer name limit }
+    ensures { result ≡ empty_buffer name limit }
 {
     let b = Buffer::blank();
     Buffer { name, limit, ..b }
 }
 
 pub fn buffer_as(c: Change, old: Buffer) -> Buffer
-    ensures { result ≡ bufferAs c old }
+    ensures { result ≡ buffer_as c old }
 {
     match c {
         Change::Nothing => old,
@@ -712,7 +712,7 @@ pub fn buffer_as(c: Change, old: Buffer) -> Buffer
 
 // How many there are of each kind.
 pub fn semaphores_as(c: Change, n: u8) -> u8
-    ensures { result ≡ semaphoresAs c n }
+    ensures { result ≡ semaphores_as c n }
 {
     match c {
         Change::Nothing => n,
@@ -732,7 +732,7 @@ pub fn semaphores_as(c: Change, n: u8) -> u8
 }
 
 pub fn events_as(c: Change, n: u8) -> u8
-    ensures { result ≡ eventsAs c n }
+    ensures { result ≡ events_as c n }
 {
     match c {
         Change::Nothing => n,
@@ -752,7 +752,7 @@ pub fn events_as(c: Change, n: u8) -> u8
 }
 
 pub fn buffers_as(c: Change, n: u8) -> u8
-    ensures { result ≡ buffersAs c n }
+    ensures { result ≡ buffers_as c n }
 {
     match c {
         Change::Nothing => n,
@@ -772,7 +772,7 @@ pub fn buffers_as(c: Change, n: u8) -> u8
 }
 
 pub fn blackboards_as(c: Change, n: u8) -> u8
-    ensures { result ≡ blackboardsAs c n }
+    ensures { result ≡ blackboards_as c n }
 {
     match c {
         Change::Nothing => n,
@@ -793,7 +793,7 @@ pub fn blackboards_as(c: Change, n: u8) -> u8
 
 // The preemption lock, and the arrival list.
 pub fn level_as(c: Change, n: u8) -> u8
-    ensures { result ≡ levelAs c n }
+    ensures { result ≡ level_as c n }
 {
     match c {
         Change::Nothing => n,
@@ -813,7 +813,7 @@ pub fn level_as(c: Change, n: u8) -> u8
 }
 
 pub fn holder_as(c: Change, n: u8) -> u8
-    ensures { result ≡ holderAs c n }
+    ensures { result ≡ holder_as c n }
 {
     match c {
         Change::Nothing => n,
@@ -833,7 +833,7 @@ pub fn holder_as(c: Change, n: u8) -> u8
 }
 
 pub fn arrival_as(c: Change, q: Ids) -> Ids
-    ensures { result ≡ arrivalAs c q }
+    ensures { result ≡ arrival_as c q }
 {
     match c {
         Change::Nothing => q,
@@ -895,7 +895,7 @@ pub fn is_whole(c: Change) -> bool
 }
 
 pub fn whole_as(c: Change, p: Partition) -> Partition
-    ensures { result ≡ wholeAs c p }
+    ensures { result ≡ whole_as c p }
 {
     match c {
         Change::Nothing => p,
@@ -916,7 +916,7 @@ pub fn whole_as(c: Change, p: Partition) -> Partition
 
 // A partition in this mode with nothing created.
 pub fn nothing_created(mode: u8) -> Partition
-    ensures { result ≡ nothingCreated mode }
+    ensures { result ≡ nothing_created mode }
 {
     let p = Partition::empty();
     Partition { mode, ..p }

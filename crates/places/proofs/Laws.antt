@@ -7,28 +7,28 @@ use native.Mathlib.Omega.{arith}
 use lib.Dec.{eqb}
 use lib.ListN.{get_or, get_or-map, get_or-eq_default}
 use borrow.Author.Tests.{ne_eqb}
-use Rattle.machine.specs.Limits.{callLimit}
-use Rattle.machine.specs.Services.{Service, services, noService, serviceOf}
+use Rattle.machine.specs.Limits.{call_limit}
+use Rattle.machine.specs.Services.{Service, services, no_service, service_of}
 
 -- a test before others
-pub or-on : (a b : Bool) → a ≡ true → true ≡ (a || b)
-or-on a b e = rw e
+pub or_on : (a b : Bool) → a ≡ true → true ≡ (a || b)
+or_on a b e = rw e
 
-pub or-next : (a b r : Bool) → a ≡ false → r ≡ b → r ≡ (a || b)
-or-next a b r e h = rw e h
+pub or_next : (a b r : Bool) → a ≡ false → r ≡ b → r ≡ (a || b)
+or_next a b r e h = rw e h
 
 -- the fields that each number uses, from 0 on
 abbrev used : List ℕ
 used = 0 ∷ map (λ (s : Service). s.fields) services
 
-pub fields-used : (n : ℕ) → get_or used n 0 ≡ (serviceOf n).fields
-fields-used zero = refl
-fields-used (suc n) =
+pub fields_used : (n : ℕ) → get_or used n 0 ≡ (service_of n).fields
+fields_used zero = refl
+fields_used (suc n) =
     let a : eqb (suc n) 0 ≡ false = ne_eqb (suc n) 0 (λ h. omega arith) in
     let b : suc n - 1 ≡ n = omega arith in
-    rw (a, b) (get_or-map (λ (s : Service). s.fields) services n noService)
+    rw (a, b) (get_or-map (λ (s : Service). s.fields) services n no_service)
 
 -- past the last call there is none
-pub fields-past : (n : ℕ) → callLimit < n → 0 ≡ (serviceOf n).fields
+pub fields_past : (n : ℕ) → call_limit < n → 0 ≡ (service_of n).fields
 unfolding services
-fields-past n h = sym (get_or-eq_default used 0 {n = n} h) ∙ fields-used n
+fields_past n h = sym (get_or-eq_default used 0 {n = n} h) ∙ fields_used n

@@ -2,8 +2,8 @@
 ghost use Rattle.std.specs.Prelude.{◌≡◌, not, ◌&&◌, ltb};
 ghost use Rattle.machine.specs.Fields.{is_number};
 ghost use Rattle.machine.specs.declared.Table.{Table};
-ghost use Rattle.machine.specs.Services.{serviceOf};
-ghost use Rattle.machine.specs.Places.{strayField, oneZero, malformed};
+ghost use Rattle.machine.specs.Services.{service_of};
+ghost use Rattle.machine.specs.Places.{stray_field, one_zero, malformed};
 ghost use Rattle.places.specs.Placed.{placed_at};
 
 use machine::{Field, Module, Request};
@@ -23,7 +23,7 @@ const FIELDS: [u8; 35] = [
 
 // How many of the fields a, b, c, e call n uses; the tick and another number use none.
 fn fields_of(n: u32) -> u8
-    ensures { result ≡ (serviceOf n).fields }
+    ensures { result ≡ (service_of n).fields }
 {
     if Module::CALL < n {
         return 0;
@@ -43,7 +43,7 @@ fn is_stray_at(used: u8, place: u8, f: Field) -> bool
 }
 
 fn has_stray(used: u8, r: Request) -> bool
-    ensures { result ≡ strayField used r }
+    ensures { result ≡ stray_field used r }
 {
     let a = r.a;
     let b = r.b;
@@ -63,7 +63,7 @@ fn has_stray(used: u8, r: Request) -> bool
 
 // Whether just one of partition and call is 0.
 fn has_one_zero(r: Request) -> bool
-    ensures { result ≡ oneZero r }
+    ensures { result ≡ one_zero r }
 {
     let partition = r.partition;
     let call = r.call;

@@ -1,6 +1,6 @@
 // A process by itself: times, waits, and what each rule makes of its record.
 ghost use Rattle.std.specs.Prelude.{◌≡◌, cond};
-ghost use Rattle.machine.specs.Process.{createdProcess, capped, later, due, isNever, periodic, object, carried, onObject, waitsForNothing, waitsForNormal, ready, releasedAt, waitEnded, withSuspended, withCurrent, handed, waitingFor, suspendedUntil, onlyMarked, woken, expired, ticked, begun, startedAperiodic, startedPeriodic, startRule, startedEarly, entered, stopped, resumed, waitingForRelease};
+ghost use Rattle.machine.specs.Process.{created_process, capped, later, due, is_never, periodic, object, carried, on_object, waits_for_nothing, waits_for_normal, ready, released_at, wait_ended, with_suspended, with_current, handed, waiting_for, suspended_until, only_marked, woken, expired, ticked, begun, started_aperiodic, started_periodic, start_rule, started_early, entered, stopped, resumed, waiting_for_release};
 ghost use Rattle.machine.specs.Scheduling.{reaches};
 
 use machine::{Context, Given, Module, Process, Time, Times, Wait};
@@ -37,7 +37,7 @@ pub fn is_due(a: Time, t: u32) -> bool
 }
 
 pub fn is_never(a: Time) -> bool
-    ensures { result ≡ isNever a }
+    ensures { result ≡ is_never a }
 {
     match a {
         Time::Never => true,
@@ -56,7 +56,7 @@ pub fn does_reach(period: Time, delay: u32) -> bool
 }
 
 pub fn waits_for_nothing(w: Wait) -> bool
-    ensures { result ≡ waitsForNothing w }
+    ensures { result ≡ waits_for_nothing w }
 {
     match w {
         Wait::None => true,
@@ -75,7 +75,7 @@ pub fn waits_for_nothing(w: Wait) -> bool
 }
 
 pub fn is_for_normal(w: Wait) -> bool
-    ensures { result ≡ waitsForNormal w }
+    ensures { result ≡ waits_for_normal w }
 {
     match w {
         Wait::None => false,
@@ -135,7 +135,7 @@ pub fn carried_by(x: Process) -> u32
 }
 
 pub fn created_process(given: Given) -> Process
-    ensures { result ≡ createdProcess given }
+    ensures { result ≡ created_process given }
 {
     let x = Process::blank();
     Process { given, ..x }
@@ -165,14 +165,14 @@ pub fn is_ready(x: Process) -> bool
 }
 
 pub fn is_on_object(x: Process) -> bool
-    ensures { result ≡ onObject x }
+    ensures { result ≡ on_object x }
 {
     let w = x.wait;
     object_of(w) != 0
 }
 
 pub fn wait_ended(x: Process, code: u8) -> Process
-    ensures { result ≡ waitEnded code x }
+    ensures { result ≡ wait_ended code x }
 {
     let old = x.times;
     let times = Times {
@@ -196,19 +196,19 @@ pub fn hand(x: Process, m: u32) -> Process
 }
 
 pub fn with_suspended(x: Process, suspended: bool) -> Process
-    ensures { result ≡ withSuspended suspended x }
+    ensures { result ≡ with_suspended suspended x }
 {
     Process { suspended, ..x }
 }
 
 pub fn with_current(x: Process, current: u8) -> Process
-    ensures { result ≡ withCurrent current x }
+    ensures { result ≡ with_current current x }
 {
     Process { current, ..x }
 }
 
 pub fn waiting_for(x: Process, wait: Wait, wake: Time) -> Process
-    ensures { result ≡ waitingFor wait wake x }
+    ensures { result ≡ waiting_for wait wake x }
 {
     let old = x.times;
     let times = Times { wake, ..old };
@@ -216,7 +216,7 @@ pub fn waiting_for(x: Process, wait: Wait, wake: Time) -> Process
 }
 
 pub fn suspended_until(x: Process, wake: Time) -> Process
-    ensures { result ≡ suspendedUntil wake x }
+    ensures { result ≡ suspended_until wake x }
 {
     let old = x.times;
     let times = Times { wake, ..old };
@@ -229,14 +229,14 @@ pub fn suspended_until(x: Process, wake: Time) -> Process
 
 // The wake code that a time-out leaves.
 fn timeout_code(x: Process) -> u8
-    ensures { result ≡ cond (onObject x) 6 0 }
+    ensures { result ≡ cond (on_object x) 6 0 }
 {
     if is_on_object(x) { 6 } else { 0 }
 }
 
 // Whether a process has no wait, but the suspended mark.
 fn is_only_marked(x: Process) -> bool
-    ensures { result ≡ onlyMarked x }
+    ensures { result ≡ only_marked x }
 {
     let wait = x.wait;
     if waits_for_nothing(wait) {
@@ -307,7 +307,7 @@ pub fn begin(x: Process, times: Times, wait: Wait) -> Process
 
 // Times released at r.
 pub fn released_at(times: Times, release: Time, capacity: Time) -> Times
-    ensures { result ≡ releasedAt release capacity times }
+    ensures { result ≡ released_at release capacity times }
 {
     let deadline = later_time(release, capacity);
     Times {
@@ -319,7 +319,7 @@ pub fn released_at(times: Times, release: Time, capacity: Time) -> Times
 }
 
 pub fn start_aperiodic(x: Process, c: Context, delay: u32) -> Process
-    ensures { result ≡ startedAperiodic c delay x }
+    ensures { result ≡ started_aperiodic c delay x }
 {
     let given = x.given;
     let capacity = given.capacity;
@@ -343,7 +343,7 @@ pub fn start_aperiodic(x: Process, c: Context, delay: u32) -> Process
 }
 
 pub fn start_periodic(x: Process, c: Context, delay: u32) -> Process
-    ensures { result ≡ startedPeriodic c delay x }
+    ensures { result ≡ started_periodic c delay x }
 {
     let given = x.given;
     let capacity = given.capacity;
@@ -354,7 +354,7 @@ pub fn start_periodic(x: Process, c: Context, delay: u32) -> Process
 
 // The start rule.
 pub fn start(x: Process, c: Context, delay: u32) -> Process
-    ensures { result ≡ startRule c delay x }
+    ensures { result ≡ start_rule c delay x }
 {
     if is_periodic(x) {
         start_periodic(x, c, delay)
@@ -365,7 +365,7 @@ pub fn start(x: Process, c: Context, delay: u32) -> Process
 
 // Started in a start mode.
 pub fn start_early(x: Process, delay: u32) -> Process
-    ensures { result ≡ startedEarly delay x }
+    ensures { result ≡ started_early delay x }
 {
     let old = x.times;
     let times = Times { delay, ..old };
@@ -416,7 +416,7 @@ pub fn resume(x: Process) -> Process
 
 // The process waits for a release.
 pub fn wait_for_release(x: Process, release: Time) -> Process
-    ensures { result ≡ waitingForRelease release x }
+    ensures { result ≡ waiting_for_release release x }
 {
     let given = x.given;
     let capacity = given.capacity;

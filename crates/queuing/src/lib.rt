@@ -1,12 +1,12 @@
 // Queuing channels: what a call sees of their traffic, calls 30 and 31, and what a restart of a partition makes of the module.
 ghost use Rattle.std.specs.Prelude.{◌≡◌, ℕ, ◌-◌, cond, ◌&&◌, [], eqb, ltb};
-ghost use Rattle.machine.specs.Limits.{partitionLimit, channelLimit};
-ghost use Rattle.machine.specs.Messages.{first, endsWait};
-ghost use Rattle.machine.specs.Decisions.{code_of, waitChecks};
+ghost use Rattle.machine.specs.Limits.{partition_limit, channel_limit};
+ghost use Rattle.machine.specs.Messages.{first, ends_wait};
+ghost use Rattle.machine.specs.Decisions.{code_of, wait_checks};
 ghost use Rattle.machine.specs.Module.{channel};
-ghost use Rattle.machine.specs.Channels.{queuingAt, seesTraffic, otherEnd, otherQueue, noTraffic, trafficOf, leadsInto};
-ghost use Rattle.machine.specs.Queuing.{queuingPort, send, receive};
-ghost use Rattle.machine.specs.Partition.{nothingCreated};
+ghost use Rattle.machine.specs.Channels.{queuing_at, sees_traffic, other_end, other_queue, no_traffic, traffic_of, leads_into};
+ghost use Rattle.machine.specs.Queuing.{queuing_port, send, receive};
+ghost use Rattle.machine.specs.Partition.{nothing_created};
 ghost use Rattle.machine.specs.Step.{restarted};
 ghost use Rattle.machine.specs.declared.Table.{Table as TableT};
 ghost use Rattle.queuing.specs.Ports.{number_at};
@@ -23,7 +23,7 @@ use machine::{
 // ---------------------------------------------------------------- what a call sees of a queuing channel
 // Whether there is a channel at this place, and it is queuing.
 fn is_queuing_at(table: Table, i: usize) -> bool
-    ensures { result ≡ queuingAt table i }
+    ensures { result ≡ queuing_at table i }
 {
     if table.channelCount as usize <= i {
         return false;
@@ -33,7 +33,7 @@ fn is_queuing_at(table: Table, i: usize) -> bool
 
 // Whether partition k sees the traffic of the channel at this place, which is this one of so many.
 fn sees_traffic(count: u8, c: Channel, k: u32, place: usize) -> bool
-    ensures { (T : TableT) → T.channelCount ≡ count → c ≡ channel T place → result ≡ seesTraffic T k place }
+    ensures { (T : TableT) → T.channelCount ≡ count → c ≡ channel T place → result ≡ sees_traffic T k place }
 {
     if count as usize <= place {
         return false;
@@ -45,7 +45,7 @@ fn sees_traffic(count: u8, c: Channel, k: u32, place: usize) -> bool
 }
 
 fn other_end(c: Channel, k: u32) -> u8
-    ensures { result ≡ otherEnd k c }
+    ensures { result ≡ other_end k c }
 {
     if c.source as u32 == k {
         return c.destination;
@@ -55,7 +55,7 @@ fn other_end(c: Channel, k: u32) -> u8
 
 // Where the partition at the other end of a channel lies.
 fn end_slot(c: Channel, k: u32) -> usize
-    ensures { result ≡ otherEnd k c - 1 }
+    ensures { result ≡ other_end k c - 1 }
 {
     let n = other_end(c, k);
     if n == 0 {
@@ -66,7 +66,7 @@ fn end_slot(c: Channel, k: u32) -> usize
 
 // Where the partition at the other end of the channel at this place lies.
 fn other_slot(table: Table, k: u32, place: usize) -> usize
-    ensures { result ≡ otherEnd k (channel table place) - 1 }
+    ensures { result ≡ other_end k (channel table place) - 1 }
 {
     end_slot(channels::channel_at(table, place), k)
 }
@@ -74,7 +74,7 @@ fn other_slot(table: Table, k: u32, place: usize) -> usize
 // Where the partition at the other end lies, if partition k sees the traffic of the channel at this place, which is this one of so many;
 // past the last if not.
 pub fn seen_slot(count: u8, c: Channel, k: u32, place: usize) -> usize
-    ensures { (T : TableT) → T.channelCount ≡ count → c ≡ channel T place → result ≡ cond (seesTraffic T k place) (otherEnd k (channel T place) - 1) partitionLimit }
+    ensures { (T : TableT) → T.channelCount ≡ count → c ≡ channel T place → result ≡ cond (sees_traffic T k place) (other_end k (channel T place) - 1) partition_limit }
 {
     if k == 0 {
         return Module::PARTITIONS;
@@ -87,7 +87,7 @@ pub fn seen_slot(count: u8, c: Channel, k: u32, place: usize) -> usize
 
 // Where it lies, if this transfer of partition k ends a wait there; past the last if not.
 pub fn ended_slot(table: Table, k: u32, place: usize, a: Transfer) -> usize
-    ensures { result ≡ cond (endsWait a) (otherEnd k (channel table place) - 1) partitionLimit }
+    ensures { result ≡ cond (ends_wait a) (other_end k (channel table place) - 1) partition_limit }
 {
     if messages::ends_wait(a) {
         return other_slot(table, k, place);
@@ -107,7 +107,7 @@ fn number_at(place: usize) -> u8
 
 // The object that those wait for who wait there, where this is the channel at the place; 0 past the last channel.
 pub fn other_object(c: Channel, k: u32, place: usize) -> u16
-    ensures { result ≡ cond (ltb place channelLimit) (otherQueue k place c) 0 }
+    ensures { result ≡ cond (ltb place channel_limit) (other_queue k place c) 0 }
 {
     if Module::CHANNELS <= place {
         return 0;
@@ -120,7 +120,7 @@ pub fn other_object(c: Channel, k: u32, place: usize) -> u16
 }
 
 pub fn no_traffic() -> Traffic
-    ensures { result ≡ noTraffic }
+    ensures { result ≡ no_traffic }
 {
     Traffic {
         len: 0,
@@ -132,7 +132,7 @@ pub fn no_traffic() -> Traffic
 
 // What is seen of these messages, and of those who wait for this object in the partition at the other end.
 pub fn traffic_of(q: Queue, object: u16, other: Partition) -> Traffic
-    ensures { result ≡ trafficOf q object other }
+    ensures { result ≡ traffic_of q object other }
 {
     let waiter = partition::first_waiter(other, object);
     let x = partition::process_at(other, waiter as u32);
@@ -159,7 +159,7 @@ pub fn unawaited(q: Queue) -> Traffic
 // ---------------------------------------------------------------- the calls
 // Whether the channel that a call names is queuing.
 fn is_queuing_port(x: Port) -> bool
-    ensures { result ≡ queuingPort x }
+    ensures { result ≡ queuing_port x }
 {
     if channels::is_queuing(x.channel) {
         return (x.place as usize) < Module::CHANNELS;
@@ -169,7 +169,7 @@ fn is_queuing_port(x: Port) -> bool
 
 // The code of the checks of a wait, by that of the checks before them.
 fn code_after(before: u8, start: bool, admitted: bool) -> u8
-    ensures { result ≡ cond (eqb before 0) (code_of (waitChecks [] start admitted [])) before }
+    ensures { result ≡ cond (eqb before 0) (code_of (wait_checks [] start admitted [])) before }
 {
     if before != 0 {
         return before;
@@ -211,7 +211,7 @@ pub fn receive_channel(v: View, c: Context, x: Port, a: Field) -> Decision
 // ---------------------------------------------------------------- restarts
 // Whether the channel at this place is queuing and leads into partition k.
 fn is_refilled(table: Table, k: u32, i: usize) -> bool
-    ensures { result ≡ queuingAt table i && leadsInto k (channel table i) }
+    ensures { result ≡ queuing_at table i && leads_into k (channel table i) }
 {
     if is_queuing_at(table, i) {
         let c = channels::channel_at(table, i);
@@ -230,7 +230,7 @@ fn one_less(k: u32) -> u32
 // anew, channels by ascending number: each holds the messages of its first waiting senders, whose waits end. One function, since each
 // that takes a module by value has a place for it on the stack.
 pub fn restart(m: Module, k: u32, mode: u8) -> Module
-    ensures { result ≡ restarted k (nothingCreated mode) m }
+    ensures { result ≡ restarted k (nothing_created mode) m }
 {
     let mut r = m;
     let table = r.table;

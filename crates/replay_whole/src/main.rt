@@ -1,7 +1,7 @@
 // The replay of a standard input that is held whole. An input that is too long for it, or whose answers are, prints one line: 11 and five 0.
 ghost use Rattle.std.specs.Prelude.{◌≡◌, length};
-ghost use Rattle.machine.specs.Replay.{replayedInto};
-ghost use Rattle.whole_input.specs.WholeInput.{printed, heldPrinted, heldInto};
+ghost use Rattle.machine.specs.Replay.{replayed_into};
+ghost use Rattle.whole_input.specs.WholeInput.{printed, held_printed, held_into};
 
 use whole_input::Printed;
 
@@ -13,7 +13,7 @@ const OUTPUT: usize = 131072;
 
 // What is printed for an input that was read; one that fills what the program holds is too long.
 fn result(input: &[u8], out: &mut [u8]) -> Printed
-    ensures { (result ≡ heldPrinted (length input.now) (printed input.now (length out.old))) × (out.new ≡ heldInto (length input.now) (replayedInto input.now out.old) out.old) }
+    ensures { (result ≡ held_printed (length input.now) (printed input.now (length out.old))) × (out.new ≡ held_into (length input.now) (replayed_into input.now out.old) out.old) }
 {
     if input.len() < INPUT {
         return whole_input::replay(input, out);

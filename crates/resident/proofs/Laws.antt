@@ -8,142 +8,142 @@ use native.Mathlib.Omega.{arith}
 use lib.Dec.{eqb}
 use lib.ListN.{length, get_or, set, take, drop, replicate, length-set, length-map, get_or-map}
 use lib.Seq.{take_all}
-use Rattle.machine.specs.Ids.{members, kept, keptIf, follow}
-use Rattle.machine.specs.Limits.{processLimit, greatestTime}
-use Rattle.machine.specs.Partition.{within, by_id, process, preferred, locked, chosen, running, waitsOn, waiters, firstWaiter, withProcesses, stored, emptyPartition}
-use Rattle.machine.specs.Process.{blankProcess, ready, onObject}
+use Rattle.machine.specs.Ids.{members, kept, kept_if, follow}
+use Rattle.machine.specs.Limits.{process_limit, greatest_time}
+use Rattle.machine.specs.Partition.{within, by_id, process, preferred, locked, chosen, running, waits_on, waiters, first_waiter, with_processes, stored, empty_partition}
+use Rattle.machine.specs.Process.{blank_process, ready, on_object}
 use Rattle.machine.specs.declared.Choice.{Choice}
 use Rattle.machine.specs.declared.Ids.{Ids}
 use Rattle.machine.specs.declared.Partition.{Partition}
 use Rattle.machine.specs.declared.Process.{Process}
 use Rattle.machine.proofs.Either.{either}
-use Rattle.machine.proofs.Lists.{next-member, no_member}
-use Rattle.partition.specs.Places.{slot_of, inByte}
-use Rattle.partition.proofs.Laws.{named-at, named_past, stored_at}
-use Rattle.resident.specs.Mirrors.{currentOf, objectOf, dueOf, Mirrors, filled, isOn, queueOn, firstOn, chosenBy, runningBy}
+use Rattle.machine.proofs.Lists.{next_member, no_member}
+use Rattle.partition.specs.Places.{slot_of, in_byte}
+use Rattle.partition.proofs.Laws.{named_at, named_past, stored_at}
+use Rattle.resident.specs.Mirrors.{current_of, object_of, due_of, Mirrors, filled, is_on, queue_on, first_on, chosen_by, running_by}
 
 -- ---------------------------------------------------------------- lists of numbers
-by-id-map : {A B : Type 0} (limit : ℕ) (f : A → B) (d : A) (id : ℕ) (l : List A) → by_id limit (f d) id (map f l) ≡ f (by_id limit d id l)
+by_id_map : {A B : Type 0} (limit : ℕ) (f : A → B) (d : A) (id : ℕ) (l : List A) → by_id limit (f d) id (map f l) ≡ f (by_id limit d id l)
 unfolding by_id
-by-id-map limit f d id l = either (within limit id)
+by_id_map limit f d id l = either (within limit id)
     (λ t. rw t (get_or-map f l (id - 1) d))
     (λ t. rw t)
 
-map-set : {A B : Type 0} (f : A → B) (l : List A) (k : ℕ) (x : A) → map f (set l k x) ≡ set (map f l) k (f x)
-map-set f [] k x = refl
-map-set f (y ∷ l) zero x = refl
-map-set f (y ∷ l) (suc k) x = ap (λ (r : List _). f y ∷ r) (map-set f l k x)
+map_set : {A B : Type 0} (f : A → B) (l : List A) (k : ℕ) (x : A) → map f (set l k x) ≡ set (map f l) k (f x)
+map_set f [] k x = refl
+map_set f (y ∷ l) zero x = refl
+map_set f (y ∷ l) (suc k) x = ap (λ (r : List _). f y ∷ r) (map_set f l k x)
 
 kept_same : (f g : ℕ → Bool) → ((x : ℕ) → f x ≡ g x) → (l : List ℕ) → kept f l ≡ kept g l
 unfolding kept
 kept_same f g h [] = refl
-kept_same f g h (x ∷ l) = ap₂ (λ (b : Bool) (k : List ℕ). keptIf b x k) (h x) (kept_same f g h l)
+kept_same f g h (x ∷ l) = ap₂ (λ (b : Bool) (k : List ℕ). kept_if b x k) (h x) (kept_same f g h l)
 
-abbrev pub processesOf : Partition → List Process
-processesOf p = p.processes
+abbrev pub processes_of : Partition → List Process
+processes_of p = p.processes
 
 -- ---------------------------------------------------------------- what the numbers say
 module _ {p : Partition} {currents objects dues : List ℕ} (m : Mirrors p currents objects dues) where
   -- as many as processes
-  pub mirrors-lengths : (length currents ≡ processLimit) × (length objects ≡ processLimit) × (length dues ≡ processLimit)
-  mirrors-lengths = (long currentOf m.priorities, long objectOf m.waits, long dueOf m.times)
+  pub mirrors_lengths : (length currents ≡ process_limit) × (length objects ≡ process_limit) × (length dues ≡ process_limit)
+  mirrors_lengths = (long current_of m.priorities, long object_of m.waits, long due_of m.times)
     where
-      long : (f : Process → ℕ) {l : List ℕ} → l ≡ map f p.processes → length l ≡ processLimit
+      long : (f : Process → ℕ) {l : List ℕ} → l ≡ map f p.processes → length l ≡ process_limit
       long f e = ap length e ∙ length-map p.processes f ∙ m.long
 
   -- a process's own
-  pub current-of : (id : ℕ) → by_id processLimit 0 id currents ≡ (process id p).current
-  current-of id = ap (by_id processLimit 0 id) m.priorities ∙ by-id-map processLimit currentOf blankProcess id p.processes
+  pub current_of_holds : (id : ℕ) → by_id process_limit 0 id currents ≡ (process id p).current
+  current_of_holds id = ap (by_id process_limit 0 id) m.priorities ∙ by_id_map process_limit current_of blank_process id p.processes
 
-  pub object_of : (id : ℕ) → by_id processLimit 0 id objects ≡ objectOf (process id p)
-  object_of id = ap (by_id processLimit 0 id) m.waits ∙ by-id-map processLimit objectOf blankProcess id p.processes
+  pub object_of_holds : (id : ℕ) → by_id process_limit 0 id objects ≡ object_of (process id p)
+  object_of_holds id = ap (by_id process_limit 0 id) m.waits ∙ by_id_map process_limit object_of blank_process id p.processes
 
   -- the queue of an object, and the first of it
-  pub mirrors-queue : (o : ℕ) → queueOn o p.waiting objects ≡ waiters o p
+  pub mirrors_queue : (o : ℕ) → queue_on o p.waiting objects ≡ waiters o p
   unfolding waiters
-  mirrors-queue o = kept_same (isOn o objects) (waitsOn o p) (λ id. ap (λ (n : ℕ). eqb n o) (object_of id)) (members p.waiting)
+  mirrors_queue o = kept_same (is_on o objects) (waits_on o p) (λ id. ap (λ (n : ℕ). eqb n o) (object_of_holds id)) (members p.waiting)
 
-  pub mirrors-first : (o : ℕ) → firstOn o p.waiting objects ≡ firstWaiter o p
-  mirrors-first o = ap (λ (l : List ℕ). get_or l 0 0) (mirrors-queue o)
+  pub mirrors_first : (o : ℕ) → first_on o p.waiting objects ≡ first_waiter o p
+  mirrors_first o = ap (λ (l : List ℕ). get_or l 0 0) (mirrors_queue o)
 
   -- the running process
-  chosen_by : (c : Choice) (l : List ℕ) → chosenBy currents c l ≡ chosen p c l
-  unfolding chosenBy chosen
-  chosen_by c [] = refl
-  chosen_by c (id ∷ l) = ap (λ (n : ℕ). chosenBy currents (preferred c id n) l) (current-of id) ∙ chosen_by (preferred c id (process id p).current) l
+  chosen_by_holds : (c : Choice) (l : List ℕ) → chosen_by currents c l ≡ chosen p c l
+  unfolding chosen_by chosen
+  chosen_by_holds c [] = refl
+  chosen_by_holds c (id ∷ l) = ap (λ (n : ℕ). chosen_by currents (preferred c id n) l) (current_of_holds id) ∙ chosen_by_holds (preferred c id (process id p).current) l
 
-  pub mirrors-running : runningBy p.mode p.level p.holder p.arrival currents ≡ running p
+  pub mirrors_running : running_by p.mode p.level p.holder p.arrival currents ≡ running p
   unfolding running
-  mirrors-running = ap (λ (c : Choice). cond (eqb p.mode 3) (cond (locked p.level) p.holder c.id) 0) (chosen_by (record { id = 0; priority = 0 }) (members p.arrival))
+  mirrors_running = ap (λ (c : Choice). cond (eqb p.mode 3) (cond (locked p.level) p.holder c.id) 0) (chosen_by_holds (record { id = 0; priority = 0 }) (members p.arrival))
 
   -- ---------------------------------------------------------------- what keeps them
   -- the processes stay
-  pub mirrors-same : {q : Partition} → q.processes ≡ p.processes → Mirrors q currents objects dues
-  mirrors-same e = record { long = ap length e ∙ m.long; priorities = m.priorities ∙ ap (map currentOf) (sym e); waits = m.waits ∙ ap (map objectOf) (sym e); times = m.times ∙ ap (map dueOf) (sym e) }
+  pub mirrors_same : {q : Partition} → q.processes ≡ p.processes → Mirrors q currents objects dues
+  mirrors_same e = record { long = ap length e ∙ m.long; priorities = m.priorities ∙ ap (map current_of) (sym e); waits = m.waits ∙ ap (map object_of) (sym e); times = m.times ∙ ap (map due_of) (sym e) }
 
   -- the process at place k has the record x, and the numbers there are its own
-  pub mirrors-set : {q : Partition} (k : ℕ) (x : Process) {c o d : ℕ} → q.processes ≡ set p.processes k x → c ≡ x.current → o ≡ objectOf x → d ≡ dueOf x → Mirrors q (set currents k c) (set objects k o) (set dues k d)
-  mirrors-set {q = q} k x e ec eo ed = record { long = ap length e ∙ length-set p.processes k x ∙ m.long; priorities = here currentOf m.priorities ec; waits = here objectOf m.waits eo; times = here dueOf m.times ed }
+  pub mirrors_set : {q : Partition} (k : ℕ) (x : Process) {c o d : ℕ} → q.processes ≡ set p.processes k x → c ≡ x.current → o ≡ object_of x → d ≡ due_of x → Mirrors q (set currents k c) (set objects k o) (set dues k d)
+  mirrors_set {q = q} k x e ec eo ed = record { long = ap length e ∙ length-set p.processes k x ∙ m.long; priorities = here current_of m.priorities ec; waits = here object_of m.waits eo; times = here due_of m.times ed }
     where
       here : (f : Process → ℕ) {l : List ℕ} {n : ℕ} → l ≡ map f p.processes → n ≡ f x → set l k n ≡ map f q.processes
-      here f el en = ap₂ (λ (l : List ℕ) (n : ℕ). set l k n) el en ∙ sym (map-set f p.processes k x) ∙ ap (map f) (sym e)
+      here f el en = ap₂ (λ (l : List ℕ) (n : ℕ). set l k n) el en ∙ sym (map_set f p.processes k x) ∙ ap (map f) (sym e)
 
   -- process id has the record x from now on, at its place or nowhere
-  module _ (id k : ℕ) (x : Process) (e : k ≡ slot_of processLimit id) where
-    pub mirrors-stored : k < processLimit → {c o d : ℕ} → c ≡ x.current → o ≡ objectOf x → d ≡ dueOf x → Mirrors (stored id x p) (set currents k c) (set objects k o) (set dues k d)
-    mirrors-stored h ec eo ed = mirrors-set k x (sym (ap processesOf (stored_at id k p x e _ _ h refl refl))) ec eo ed
+  module _ (id k : ℕ) (x : Process) (e : k ≡ slot_of process_limit id) where
+    pub mirrors_stored : k < process_limit → {c o d : ℕ} → c ≡ x.current → o ≡ object_of x → d ≡ due_of x → Mirrors (stored id x p) (set currents k c) (set objects k o) (set dues k d)
+    mirrors_stored h ec eo ed = mirrors_set k x (sym (ap processes_of (stored_at id k p x e _ _ h refl refl))) ec eo ed
 
     -- the same by what the code leaves of the partition and of the numbers
     module _ {q : Partition} {cs os ds : List ℕ} where
-      pub stored_here : k < processLimit → {a w : Ids} {c o d : ℕ}
-          → a ≡ follow (ready (get_or p.processes k blankProcess)) (ready x) (inByte id) p.arrival
-          → w ≡ follow (onObject (get_or p.processes k blankProcess)) (onObject x) (inByte id) p.waiting
-          → c ≡ x.current → o ≡ objectOf x → d ≡ dueOf x
-          → q ≡ withProcesses (set p.processes k x) p.processCount a w p → cs ≡ set currents k c → os ≡ set objects k o → ds ≡ set dues k d
+      pub stored_here : k < process_limit → {a w : Ids} {c o d : ℕ}
+          → a ≡ follow (ready (get_or p.processes k blank_process)) (ready x) (in_byte id) p.arrival
+          → w ≡ follow (on_object (get_or p.processes k blank_process)) (on_object x) (in_byte id) p.waiting
+          → c ≡ x.current → o ≡ object_of x → d ≡ due_of x
+          → q ≡ with_processes (set p.processes k x) p.processCount a w p → cs ≡ set currents k c → os ≡ set objects k o → ds ≡ set dues k d
           → (q ≡ stored id x p) × Mirrors q cs os ds
-      stored_here h ea ew ec eo ed eq ecs eos eds = (eq ∙ stored_at id k p x e _ _ h ea ew, rw (ecs, eos, eds) (mirrors-set k x (ap processesOf eq) ec eo ed))
+      stored_here h ea ew ec eo ed eq ecs eos eds = (eq ∙ stored_at id k p x e _ _ h ea ew, rw (ecs, eos, eds) (mirrors_set k x (ap processes_of eq) ec eo ed))
 
 -- all of them are written over a list that has as many
-filled-whole : (f : Process → ℕ) (ps : List Process) (l : List ℕ) → length l ≡ length ps → filled f ps l ≡ map f ps
+filled_whole : (f : Process → ℕ) (ps : List Process) (l : List ℕ) → length l ≡ length ps → filled f ps l ≡ map f ps
 unfolding filled
-filled-whole f [] [] h = refl
-filled-whole f [] (n ∷ l) h = absurd (omega arith)
-filled-whole f (x ∷ ps) [] h = absurd (omega arith)
-filled-whole f (x ∷ ps) (n ∷ l) h = ap (λ (r : List ℕ). f x ∷ r) (filled-whole f ps l (omega arith))
+filled_whole f [] [] h = refl
+filled_whole f [] (n ∷ l) h = absurd (omega arith)
+filled_whole f (x ∷ ps) [] h = absurd (omega arith)
+filled_whole f (x ∷ ps) (n ∷ l) h = ap (λ (r : List ℕ). f x ∷ r) (filled_whole f ps l (omega arith))
 
-pub mirrors-filled : {p : Partition} (currents objects dues : List ℕ) {cs os ds : List ℕ} → (length currents ≡ processLimit) × (length objects ≡ processLimit) × (length dues ≡ processLimit)
-    → (length p.processes ≡ processLimit) × (cs ≡ filled currentOf p.processes currents) × (os ≡ filled objectOf p.processes objects) × (ds ≡ filled dueOf p.processes dues)
+pub mirrors_filled : {p : Partition} (currents objects dues : List ℕ) {cs os ds : List ℕ} → (length currents ≡ process_limit) × (length objects ≡ process_limit) × (length dues ≡ process_limit)
+    → (length p.processes ≡ process_limit) × (cs ≡ filled current_of p.processes currents) × (os ≡ filled object_of p.processes objects) × (ds ≡ filled due_of p.processes dues)
     → Mirrors p cs os ds
-mirrors-filled {p} currents objects dues h e = record {
+mirrors_filled {p} currents objects dues h e = record {
   long = e.0;
-  priorities = e.1 ∙ filled-whole currentOf p.processes currents (h.0 ∙ sym e.0);
-  waits = e.2 ∙ filled-whole objectOf p.processes objects (h.1 ∙ sym e.0);
-  times = e.3 ∙ filled-whole dueOf p.processes dues (h.2 ∙ sym e.0);
+  priorities = e.1 ∙ filled_whole current_of p.processes currents (h.0 ∙ sym e.0);
+  waits = e.2 ∙ filled_whole object_of p.processes objects (h.1 ∙ sym e.0);
+  times = e.3 ∙ filled_whole due_of p.processes dues (h.2 ∙ sym e.0);
 }
 
 -- those of the partition that holds nothing
-pub mirrors-empty : Mirrors emptyPartition (replicate processLimit 0) (replicate processLimit 0) (replicate processLimit greatestTime)
-unfolding emptyPartition
-mirrors-empty = record { long = refl; priorities = refl; waits = refl; times = refl }
+pub mirrors_empty : Mirrors empty_partition (replicate process_limit 0) (replicate process_limit 0) (replicate process_limit greatest_time)
+unfolding empty_partition
+mirrors_empty = record { long = refl; priorities = refl; waits = refl; times = refl }
 
 -- the number of process id, read at its place
-module _ (l : List ℕ) {w id k : ℕ} (s : w ≡ id) (e : k ≡ slot_of processLimit w) where
-  named : by_id processLimit 0 w l ≡ by_id processLimit 0 id l
-  named = ap (λ (n : ℕ). by_id processLimit 0 n l) s
+module _ (l : List ℕ) {w id k : ℕ} (s : w ≡ id) (e : k ≡ slot_of process_limit w) where
+  named : by_id process_limit 0 w l ≡ by_id process_limit 0 id l
+  named = ap (λ (n : ℕ). by_id process_limit 0 n l) s
 
-  pub number_in : k < processLimit → get_or l k 0 ≡ by_id processLimit 0 id l
-  number_in h = named-at processLimit w k e 0 l h ∙ named
+  pub number_in : k < process_limit → get_or l k 0 ≡ by_id process_limit 0 id l
+  number_in h = named_at process_limit w k e 0 l h ∙ named
 
-  pub number-out : processLimit ≤ k → 0 ≡ by_id processLimit 0 id l
-  number-out h = named_past processLimit w k e 0 l h ∙ named
+  pub number_out : process_limit ≤ k → 0 ≡ by_id process_limit 0 id l
+  number_out h = named_past process_limit w k e 0 l h ∙ named
 
 -- ---------------------------------------------------------------- loops
 -- one more of the numbers is written
-pub fill_more : (f : Process → ℕ) (l r : List ℕ) (ps : List Process) (k : ℕ) {n : ℕ} → n ≡ f (get_or ps k blankProcess) → k < length ps → r ≡ filled f (take k ps) l → set r k n ≡ filled f (take (k + 1) ps) l
+pub fill_more : (f : Process → ℕ) (l r : List ℕ) (ps : List Process) (k : ℕ) {n : ℕ} → n ≡ f (get_or ps k blank_process) → k < length ps → r ≡ filled f (take k ps) l → set r k n ≡ filled f (take (k + 1) ps) l
 unfolding filled
 fill_more f l r ps k e h t = rw (e, t, add-one) (next ps k l h)
   where
-    next : (ps : List Process) (k : ℕ) (l : List ℕ) → k < length ps → set (filled f (take k ps) l) k (f (get_or ps k blankProcess)) ≡ filled f (take (suc k) ps) l
+    next : (ps : List Process) (k : ℕ) (l : List ℕ) → k < length ps → set (filled f (take k ps) l) k (f (get_or ps k blank_process)) ≡ filled f (take (suc k) ps) l
     next [] k l h = absurd (omega arith)
     next (x ∷ ps) zero [] h = refl
     next (x ∷ ps) zero (n ∷ l) h = refl
@@ -158,10 +158,10 @@ pub fill_done : (f : Process → ℕ) (l r : List ℕ) (ps : List Process) (k : 
 fill_done f l r ps k h t = t ∙ ap (λ (q : List Process). filled f q l) (take_all k ps h)
 
 module _ (q : Ids) (i : ℕ) (l : List ℕ) (c : Choice) where
-  pub chosen_more : i < length (members q) → {n : ℕ} → n ≡ by_id processLimit 0 (get_or q.items i 0) l → chosenBy l c (drop i (members q)) ≡ chosenBy l (preferred c (get_or q.items i 0) n) (drop (i + 1) (members q))
-  unfolding chosenBy
-  chosen_more h e = rw (next-member q i h, e)
+  pub chosen_more : i < length (members q) → {n : ℕ} → n ≡ by_id process_limit 0 (get_or q.items i 0) l → chosen_by l c (drop i (members q)) ≡ chosen_by l (preferred c (get_or q.items i 0) n) (drop (i + 1) (members q))
+  unfolding chosen_by
+  chosen_more h e = rw (next_member q i h, e)
 
-  pub chosen-done : length (members q) ≤ i → chosenBy l c (drop i (members q)) ≡ c
-  unfolding chosenBy
-  chosen-done h = rw (no_member q i h)
+  pub chosen_done : length (members q) ≤ i → chosen_by l c (drop i (members q)) ≡ c
+  unfolding chosen_by
+  chosen_done h = rw (no_member q i h)

@@ -5,7 +5,7 @@ use mathlib.Core.Logic.{◌≢◌}
 use mathlib.Core.Path.{◌≡◌, ap, ◌∙◌}
 use lib.ListN.{length, get_or}
 use lib.Seq.{set-get_or, set-set, set_comm, set_out, get_or-set_same, get_or-set_other}
-use Rattle.machine.specs.Module.{part, noPartition}
+use Rattle.machine.specs.Module.{part, no_partition}
 use Rattle.machine.specs.declared.Module.{Module}
 use Rattle.machine.specs.declared.Partition.{Partition}
 use Rattle.resident.specs.Settled.{settled}
@@ -17,23 +17,23 @@ with m l = record { table = m.table; t = m.t; messages = m.messages; queues = m.
 module _ (i : ℕ) (p : Partition) (m : Module) where
   -- it is read at its place
   pub settled_here : i < length m.partitions → part (settled i p m) i ≡ p
-  settled_here h = get_or-set_same m.partitions i p noPartition h
+  settled_here h = get_or-set_same m.partitions i p no_partition h
 
   -- and the others at theirs
-  pub settled-there : (j : ℕ) → j ≢ i → part (settled i p m) j ≡ part m j
-  settled-there j n = get_or-set_other m.partitions i j p noPartition n
+  pub settled_there : (j : ℕ) → j ≢ i → part (settled i p m) j ≡ part m j
+  settled_there j n = get_or-set_other m.partitions i j p no_partition n
 
   -- the last one counts
-  pub settled-twice : (q : Partition) → settled i q (settled i p m) ≡ settled i q m
-  settled-twice q = ap (with m) (set-set m.partitions i p q)
+  pub settled_twice : (q : Partition) → settled i q (settled i p m) ≡ settled i q m
+  settled_twice q = ap (with m) (set-set m.partitions i p q)
 
   -- two places
-  pub settled-both : (j : ℕ) (q : Partition) → i ≢ j → settled j q (settled i p m) ≡ settled i p (settled j q m)
-  settled-both j q n = ap (with m) (set_comm m.partitions i j p q n)
+  pub settled_both : (j : ℕ) (q : Partition) → i ≢ j → settled j q (settled i p m) ≡ settled i p (settled j q m)
+  settled_both j q n = ap (with m) (set_comm m.partitions i j p q n)
 
   -- past the last partition there is no place
-  pub settled-past : length m.partitions ≤ i → settled i p m ≡ m
-  settled-past h = ap (with m) (set_out m.partitions i p h)
+  pub settled_past : length m.partitions ≤ i → settled i p m ≡ m
+  settled_past h = ap (with m) (set_out m.partitions i p h)
 
 -- a partition that has not changed since it was read, with whatever default
 pub settled_same : (i : ℕ) (m : Module) (d : Partition) {p : Partition} → p ≡ get_or m.partitions i d → settled i p m ≡ m

@@ -1,11 +1,11 @@
 // Numbers kept beside the partition that the loop holds: the current priority of each process, the object that each waits for, and the sooner of
 // its times. A function is lent them without a copy.
 ghost use Rattle.std.specs.Prelude.{◌≡◌, cond, [], ◌∷◌, eqb, length};
-ghost use Rattle.machine.specs.Limits.{processLimit};
+ghost use Rattle.machine.specs.Limits.{process_limit};
 ghost use Rattle.machine.specs.Ids.{ids_of};
 ghost use Rattle.machine.specs.Partition.{by_id};
-ghost use Rattle.partition.specs.Places.{inByte};
-ghost use Rattle.resident.specs.Mirrors.{currentOf, objectOf, dueOf, filled, isOn, queueOn, firstOn, runningBy, soonestBy, dueIds, idsFor, doneAs};
+ghost use Rattle.partition.specs.Places.{in_byte};
+ghost use Rattle.resident.specs.Mirrors.{current_of, object_of, due_of, filled, is_on, queue_on, first_on, running_by, soonest_by, due_ids, ids_for, done_as};
 
 use machine::{Change, Choice, Ids, Module, Partition, Process};
 
@@ -17,7 +17,7 @@ fn wide(id: u8) -> u32
 
 // The object that a process waits for, 0 for none.
 pub fn object_of(x: Process) -> u16
-    ensures { result ≡ objectOf x }
+    ensures { result ≡ object_of x }
 {
     let w = x.wait;
     process::object_of(w)
@@ -25,7 +25,7 @@ pub fn object_of(x: Process) -> u16
 
 // The current priority of process id, and the object that it waits for; 0 for none.
 fn priority_of(currents: &[u8; Module::PROCESSES], id: u8) -> u8
-    ensures { result ≡ by_id processLimit 0 id currents.now }
+    ensures { result ≡ by_id process_limit 0 id currents.now }
 {
     let k = partition::slot(wide(id), Module::PROCESSES);
     if k < Module::PROCESSES {
@@ -35,7 +35,7 @@ fn priority_of(currents: &[u8; Module::PROCESSES], id: u8) -> u8
 }
 
 fn waited_for(objects: &[u16; Module::PROCESSES], id: u8) -> u16
-    ensures { result ≡ by_id processLimit 0 id objects.now }
+    ensures { result ≡ by_id process_limit 0 id objects.now }
 {
     let k = partition::slot(wide(id), Module::PROCESSES);
     if k < Module::PROCESSES {
@@ -45,7 +45,7 @@ fn waited_for(objects: &[u16; Module::PROCESSES], id: u8) -> u16
 }
 
 fn is_on(objects: &[u16; Module::PROCESSES], id: u8, object: u64) -> bool
-    ensures { result ≡ isOn object objects.now id }
+    ensures { result ≡ is_on object objects.now id }
 {
     waited_for(objects, id) as u64 == object
 }
@@ -58,7 +58,7 @@ pub fn running(
     arrival: Ids,
     currents: &[u8; Module::PROCESSES],
 ) -> u8
-    ensures { result ≡ runningBy mode level holder arrival currents.now }
+    ensures { result ≡ running_by mode level holder arrival currents.now }
 {
     if mode != 3 {
         return 0;
@@ -79,7 +79,7 @@ pub fn running(
 
 // The first of the queue of an object, 0 for none.
 pub fn first_on(waiting: Ids, objects: &[u16; Module::PROCESSES], object: u64) -> u8
-    ensures { result ≡ firstOn object waiting objects.now }
+    ensures { result ≡ first_on object waiting objects.now }
 {
     let n = partition::count(waiting);
     let mut i: usize = 0;
@@ -95,7 +95,7 @@ pub fn first_on(waiting: Ids, objects: &[u16; Module::PROCESSES], object: u64) -
 
 // The same, and 0 for the number 0, which is no object.
 pub fn first_for(waiting: Ids, objects: &[u16; Module::PROCESSES], object: u64) -> u8
-    ensures { result ≡ cond (eqb object 0) 0 (firstOn object waiting objects.now) }
+    ensures { result ≡ cond (eqb object 0) 0 (first_on object waiting objects.now) }
 {
     if object == 0 {
         return 0;
@@ -105,7 +105,7 @@ pub fn first_for(waiting: Ids, objects: &[u16; Module::PROCESSES], object: u64) 
 
 // The queue of an object. It is filled where it lies.
 pub fn queue_on(waiting: Ids, objects: &[u16; Module::PROCESSES], object: u64) -> Ids
-    ensures { result ≡ ids_of (queueOn object waiting objects.now) }
+    ensures { result ≡ ids_of (queue_on object waiting objects.now) }
 {
     let n = partition::count(waiting);
     let mut found = Ids {
@@ -134,7 +134,7 @@ pub fn fill(
     objects: &mut [u16; Module::PROCESSES],
     dues: &mut [u32; Module::PROCESSES],
 )
-    ensures { (length p.processes ≡ processLimit) × (currents.new ≡ filled currentOf p.processes currents.old) × (objects.new ≡ filled objectOf p.processes objects.old) × (dues.new ≡ filled dueOf p.processes dues.old) }
+    ensures { (length p.processes ≡ process_limit) × (currents.new ≡ filled current_of p.processes currents.old) × (objects.new ≡ filled object_of p.processes objects.old) × (dues.new ≡ filled due_of p.processes dues.old) }
 {
     let mut i: usize = 0;
     while i < Module::PROCESSES {
@@ -148,14 +148,14 @@ pub fn fill(
 
 // The sooner of a process's wake time and deadline; the latest time for none.
 pub fn due_of(x: Process) -> u32
-    ensures { result ≡ dueOf x }
+    ensures { result ≡ due_of x }
 {
     partition::soonest_with(x, Module::LATEST)
 }
 
 // No wake time or deadline of so many processes comes before it.
 pub fn soonest(count: u8, dues: &[u32; Module::PROCESSES]) -> u32
-    ensures { result ≡ soonestBy count dues.now }
+    ensures { result ≡ soonest_by count dues.now }
 {
     let mut s = Module::LATEST;
     let mut k: usize = 0;
@@ -172,7 +172,7 @@ pub fn soonest(count: u8, dues: &[u32; Module::PROCESSES]) -> u32
 
 // The processes of which something is due, in a partition in this mode with so many.
 fn due_ids(mode: u8, count: u8, dues: &[u32; Module::PROCESSES], t: u32) -> Ids
-    ensures { result ≡ ids_of (dueIds mode count dues.now t) }
+    ensures { result ≡ ids_of (due_ids mode count dues.now t) }
 {
     let mut found = Ids {
         items: [0; Module::PROCESSES],
@@ -207,7 +207,7 @@ fn no_id() -> Ids
 }
 
 fn one_id(id: u32) -> Ids
-    ensures { result ≡ ids_of (inByte id ∷ []) }
+    ensures { result ≡ ids_of (in_byte id ∷ []) }
 {
     partition::last_in(no_id(), partition::narrow(id))
 }
@@ -223,7 +223,7 @@ pub fn ids_for(
     dues: &[u32; Module::PROCESSES],
     t: u32,
 ) -> Ids
-    ensures { result ≡ ids_of (idsFor due c mode count waiting objects.now dues.now t) }
+    ensures { result ≡ ids_of (ids_for due c mode count waiting objects.now dues.now t) }
 {
     if due {
         return due_ids(mode, count, dues, t);
@@ -247,7 +247,7 @@ pub fn ids_for(
 
 // The record of each of them then.
 pub fn done(due: bool, c: Change, t: u32, old: Process) -> Process
-    ensures { result ≡ doneAs due c t old }
+    ensures { result ≡ done_as due c t old }
 {
     if due {
         return process::tick(old, t);

@@ -1,13 +1,13 @@
 // Calls 1 to 13 and 32 to 34: what each decides.
 ghost use Rattle.std.specs.Prelude.{◌≡◌, ℕ, cond, not, ◌&&◌, ◌||◌, eqb, take};
-ghost use Rattle.machine.specs.Limits.{durationLimit};
-ghost use Rattle.machine.specs.Fields.{is_number, isMinusOne, between, isDuration, number_of};
+ghost use Rattle.machine.specs.Limits.{duration_limit};
+ghost use Rattle.machine.specs.Fields.{is_number, is_minus_one, between, is_duration, number_of};
 ghost use Rattle.machine.specs.Process.{periodic};
 ghost use Rattle.machine.specs.declared.Change.TheVariants.{Nothing, Last};
 ghost use Rattle.machine.specs.Decisions.{dormant};
 ghost use Rattle.machine.specs.declared.Partition.{Partition as PartitionT};
 ghost use Rattle.decisions.specs.Views.{Shows};
-ghost use Rattle.machine.specs.Scheduling.{setMode, processNamed, isMultiple, above, isPriority, admissible, createProcess, reaches, start, stop, stopSelf, suspend, suspendSelf, timedWait, periodicWait, resume, setPriority, status, getStatus, lockPreemption, unlockPreemption, getTicksLeft};
+ghost use Rattle.machine.specs.Scheduling.{set_mode, process_named, is_multiple, above, is_priority, admissible, create_process, reaches, start, stop, stop_self, suspend, suspend_self, timed_wait, periodic_wait, resume, set_priority, status, get_status, lock_preemption, unlock_preemption, get_ticks_left};
 
 use decisions::View;
 use machine::{
@@ -27,7 +27,7 @@ fn is_warm_from_cold(mode: u8, a: Field) -> bool
 
 // 1 SET_PARTITION_MODE; the messages are erased with the module.
 pub fn set_mode(v: View, c: Context, a: Field) -> Decision
-    ensures { (p : PartitionT) (id who : ℕ) → Shows v id who p → result ≡ setMode c a p }
+    ensures { (p : PartitionT) (id who : ℕ) → Shows v id who p → result ≡ set_mode c a p }
 {
     if !fields::is_between(a, 0, Module::MODE) {
         return Decision::Refused(3);
@@ -50,7 +50,7 @@ pub fn set_mode(v: View, c: Context, a: Field) -> Decision
 
 // Whether a process of the partition has this name.
 pub fn is_process_named(p: Partition, name: Field) -> bool
-    ensures { result ≡ processNamed name (take p.processCount p.processes) }
+    ensures { result ≡ process_named name (take p.processCount p.processes) }
 {
     let mut i: usize = 0;
     while i < Module::PROCESSES {
@@ -65,7 +65,7 @@ pub fn is_process_named(p: Partition, name: Field) -> bool
 }
 
 pub fn is_multiple(f: Field, frame: u16) -> bool
-    ensures { result ≡ isMultiple frame f }
+    ensures { result ≡ is_multiple frame f }
 {
     if !fields::is_between(f, 1, Module::DURATION) {
         return false;
@@ -90,13 +90,13 @@ pub fn is_above(capacity: Field, period: Field) -> bool
 }
 
 pub fn is_priority(f: Field) -> bool
-    ensures { result ≡ isPriority f }
+    ensures { result ≡ is_priority f }
 {
     fields::is_between(f, 1, Module::PRIORITY)
 }
 
 fn is_period(f: Field, frame: u16) -> bool
-    ensures { result ≡ isMinusOne f || isMultiple frame f }
+    ensures { result ≡ is_minus_one f || is_multiple frame f }
 {
     if fields::is_minus_one(f) {
         return true;
@@ -105,7 +105,7 @@ fn is_period(f: Field, frame: u16) -> bool
 }
 
 fn is_capacity(f: Field) -> bool
-    ensures { result ≡ isMinusOne f || between 1 durationLimit f }
+    ensures { result ≡ is_minus_one f || between 1 duration_limit f }
 {
     if fields::is_minus_one(f) {
         return true;
@@ -138,7 +138,7 @@ pub fn is_admissible(r: Request, c: Context) -> bool
 
 // 2 CREATE_PROCESS.
 pub fn create_process(v: View, c: Context, r: Request) -> Decision
-    ensures { (p : PartitionT) (id who : ℕ) → Shows v id who p → v.taken ≡ processNamed r.a (take p.processCount p.processes) → result ≡ createProcess c r p }
+    ensures { (p : PartitionT) (id who : ℕ) → Shows v id who p → v.taken ≡ process_named r.a (take p.processCount p.processes) → result ≡ create_process c r p }
 {
     let n = v.count as u32;
     let name = r.a;
@@ -167,7 +167,7 @@ pub fn create_process(v: View, c: Context, r: Request) -> Decision
 
 // Whether a delay is none of D, or not below the process's period.
 fn is_delay_refused(x: Process, delay: Field) -> bool
-    ensures { result ≡ not (isDuration delay) || reaches x.given.period (number_of delay) }
+    ensures { result ≡ not (is_duration delay) || reaches x.given.period (number_of delay) }
 {
     let given = x.given;
     let period = given.period;
@@ -218,7 +218,7 @@ pub fn stop_process(v: View, c: Context, id: u32) -> Decision
 
 // 6 STOP_SELF; it ends a preemption lock.
 pub fn stop_self(v: View, c: Context) -> Decision
-    ensures { (p : PartitionT) (id : ℕ) → Shows v id c.caller p → result ≡ stopSelf c p }
+    ensures { (p : PartitionT) (id : ℕ) → Shows v id c.caller p → result ≡ stop_self c p }
 {
     if v.mode != 3 {
         return Decision::Refused(5);
@@ -264,7 +264,7 @@ pub fn suspend_process(v: View, c: Context, id: u32) -> Decision
 
 // 8 SUSPEND_SELF.
 pub fn suspend_self(v: View, c: Context, a: Field) -> Decision
-    ensures { (p : PartitionT) (id : ℕ) → Shows v id c.caller p → result ≡ suspendSelf c a p }
+    ensures { (p : PartitionT) (id : ℕ) → Shows v id c.caller p → result ≡ suspend_self c a p }
 {
     if v.mode != 3 {
         return Decision::Refused(5);
@@ -289,7 +289,7 @@ pub fn suspend_self(v: View, c: Context, a: Field) -> Decision
 
 // 9 TIMED_WAIT.
 pub fn timed_wait(v: View, c: Context, a: Field) -> Decision
-    ensures { (p : PartitionT) (id : ℕ) → Shows v id c.caller p → result ≡ timedWait c a p }
+    ensures { (p : PartitionT) (id : ℕ) → Shows v id c.caller p → result ≡ timed_wait c a p }
 {
     if v.mode != 3 {
         return Decision::Refused(5);
@@ -315,7 +315,7 @@ pub fn timed_wait(v: View, c: Context, a: Field) -> Decision
 
 // 10 PERIODIC_WAIT.
 pub fn periodic_wait(v: View, c: Context) -> Decision
-    ensures { (p : PartitionT) (id : ℕ) → Shows v id c.caller p → result ≡ periodicWait c p }
+    ensures { (p : PartitionT) (id : ℕ) → Shows v id c.caller p → result ≡ periodic_wait c p }
 {
     if v.mode != 3 {
         return Decision::Refused(5);
@@ -367,7 +367,7 @@ fn last_if(ready: bool, id: u8) -> Change
 
 // 12 SET_PRIORITY.
 pub fn set_priority(v: View, id: u32, a: Field) -> Decision
-    ensures { (p : PartitionT) → Shows v id id p → result ≡ setPriority id a p }
+    ensures { (p : PartitionT) → Shows v id id p → result ≡ set_priority id a p }
 {
     if decisions::is_unknown(id, v.count) {
         return Decision::Refused(3);
@@ -406,7 +406,7 @@ pub fn status_of(x: Process, c: Context, id: u32) -> u32
 
 // 13 GET_PROCESS_STATUS.
 pub fn get_status(v: View, c: Context, id: u32) -> Decision
-    ensures { (p : PartitionT) → Shows v id id p → result ≡ getStatus c id p }
+    ensures { (p : PartitionT) → Shows v id id p → result ≡ get_status c id p }
 {
     if decisions::is_unknown(id, v.count) {
         return Decision::Refused(3);
@@ -419,7 +419,7 @@ pub fn get_status(v: View, c: Context, id: u32) -> Decision
 
 // 32 LOCK_PREEMPTION. The process that raises the level from 0 is the holder.
 pub fn lock_preemption(v: View, c: Context) -> Decision
-    ensures { (p : PartitionT) (id who : ℕ) → Shows v id who p → result ≡ lockPreemption c p }
+    ensures { (p : PartitionT) (id who : ℕ) → Shows v id who p → result ≡ lock_preemption c p }
 {
     if v.mode != 3 {
         return Decision::Refused(1);
@@ -436,7 +436,7 @@ pub fn lock_preemption(v: View, c: Context) -> Decision
 
 // 33 UNLOCK_PREEMPTION. At level 0 there is no holder.
 pub fn unlock_preemption(v: View) -> Decision
-    ensures { (p : PartitionT) (id who : ℕ) → Shows v id who p → result ≡ unlockPreemption p }
+    ensures { (p : PartitionT) (id who : ℕ) → Shows v id who p → result ≡ unlock_preemption p }
 {
     if v.mode != 3 {
         return Decision::Refused(1);
@@ -453,7 +453,7 @@ pub fn unlock_preemption(v: View) -> Decision
 
 // 34 GET_TICKS_LEFT.
 pub fn get_ticks_left(c: Context) -> Decision
-    ensures { result ≡ getTicksLeft c }
+    ensures { result ≡ get_ticks_left c }
 {
     Decision::Unchanged(c.left, Time::At(0))
 }

@@ -1,11 +1,11 @@
 // Semaphores and events of a partition: calls 14 to 20.
 ghost use Rattle.std.specs.Prelude.{◌≡◌, ℕ, ◌-◌, ◌&&◌, take};
-ghost use Rattle.machine.specs.Limits.{valueLimit};
-ghost use Rattle.machine.specs.Fields.{isName, between, number_of};
+ghost use Rattle.machine.specs.Limits.{value_limit};
+ghost use Rattle.machine.specs.Fields.{is_name, between, number_of};
 ghost use Rattle.machine.specs.declared.Decision.TheVariants.{Refused};
 ghost use Rattle.machine.specs.declared.Change.TheVariants.{StoredSemaphore, StoredEvent};
-ghost use Rattle.machine.specs.Partition.{semaphore, event, noSemaphore, noEvent, waiters, firstWaiter};
-ghost use Rattle.machine.specs.Semaphores.{semaphoreNamed, eventNamed, createSemaphore, createEvent, waitSemaphore, waitEvent, oneMore, signalled, signal, setEvent, resetEvent};
+ghost use Rattle.machine.specs.Partition.{semaphore, event, no_semaphore, no_event, waiters, first_waiter};
+ghost use Rattle.machine.specs.Semaphores.{semaphore_named, event_named, create_semaphore, create_event, wait_semaphore, wait_event, one_more, signalled, signal, set_event, reset_event};
 ghost use Rattle.machine.specs.declared.Partition.{Partition as PartitionT};
 ghost use Rattle.machine.specs.Process.{object};
 ghost use Rattle.machine.specs.declared.Wait.TheVariants.{Semaphore as SemaphoreW};
@@ -17,7 +17,7 @@ use machine::{
 };
 
 pub fn no_semaphore() -> Semaphore
-    ensures { result ≡ noSemaphore }
+    ensures { result ≡ no_semaphore }
 {
     Semaphore {
         name: 0,
@@ -27,7 +27,7 @@ pub fn no_semaphore() -> Semaphore
 }
 
 pub fn no_event() -> EventState
-    ensures { result ≡ noEvent }
+    ensures { result ≡ no_event }
 {
     EventState { name: 0, up: false }
 }
@@ -66,7 +66,7 @@ fn with_up(k: u32, e: EventState, up: bool) -> Change
 }
 
 pub fn is_semaphore_named(p: Partition, name: Field) -> bool
-    ensures { result ≡ semaphoreNamed name (take p.semaphoreCount p.semaphores) }
+    ensures { result ≡ semaphore_named name (take p.semaphoreCount p.semaphores) }
 {
     let mut i: usize = 0;
     while i < Module::SEMAPHORES {
@@ -80,7 +80,7 @@ pub fn is_semaphore_named(p: Partition, name: Field) -> bool
 }
 
 pub fn is_event_named(p: Partition, name: Field) -> bool
-    ensures { result ≡ eventNamed name (take p.eventCount p.events) }
+    ensures { result ≡ event_named name (take p.eventCount p.events) }
 {
     let mut i: usize = 0;
     while i < Module::EVENTS {
@@ -95,7 +95,7 @@ pub fn is_event_named(p: Partition, name: Field) -> bool
 
 // What CREATE_SEMAPHORE admits.
 fn is_semaphore_admitted(r: Request) -> bool
-    ensures { result ≡ isName r.a && (between 1 valueLimit r.c && between 0 (number_of r.c) r.b) }
+    ensures { result ≡ is_name r.a && (between 1 value_limit r.c && between 0 (number_of r.c) r.b) }
 {
     let name = r.a;
     let start = r.b;
@@ -111,7 +111,7 @@ fn is_semaphore_admitted(r: Request) -> bool
 
 // 14 CREATE_SEMAPHORE
 pub fn create_semaphore(v: View, r: Request) -> Decision
-    ensures { (p : PartitionT) (id who : ℕ) → Shows v id who p → v.taken ≡ semaphoreNamed r.a (take p.semaphoreCount p.semaphores) → result ≡ createSemaphore r p }
+    ensures { (p : PartitionT) (id who : ℕ) → Shows v id who p → v.taken ≡ semaphore_named r.a (take p.semaphoreCount p.semaphores) → result ≡ create_semaphore r p }
 {
     let n = v.semaphores as u32;
     let name = r.a;
@@ -137,7 +137,7 @@ pub fn create_semaphore(v: View, r: Request) -> Decision
 
 // 17 CREATE_EVENT
 pub fn create_event(v: View, name: Field) -> Decision
-    ensures { (p : PartitionT) (id who : ℕ) → Shows v id who p → v.taken ≡ eventNamed name (take p.eventCount p.events) → result ≡ createEvent name p }
+    ensures { (p : PartitionT) (id who : ℕ) → Shows v id who p → v.taken ≡ event_named name (take p.eventCount p.events) → result ≡ create_event name p }
 {
     let n = v.events as u32;
     let code = decisions::creation_code(
@@ -165,7 +165,7 @@ fn one_less(n: u16) -> u16
 
 // 15 WAIT_SEMAPHORE
 pub fn wait_semaphore(v: View, c: Context, k: u32, a: Field) -> Decision
-    ensures { (p : PartitionT) → Shows v k c.caller p → result ≡ waitSemaphore c k a p }
+    ensures { (p : PartitionT) → Shows v k c.caller p → result ≡ wait_semaphore c k a p }
 {
     let unknown = decisions::is_unknown(k, v.semaphores);
     let code = decisions::wait_code(unknown, v.mode != 3, fields::is_timeout(a));
@@ -184,7 +184,7 @@ pub fn wait_semaphore(v: View, c: Context, k: u32, a: Field) -> Decision
 
 // 20 WAIT_EVENT
 pub fn wait_event(v: View, c: Context, k: u32, a: Field) -> Decision
-    ensures { (p : PartitionT) → Shows v k c.caller p → result ≡ waitEvent c k a p }
+    ensures { (p : PartitionT) → Shows v k c.caller p → result ≡ wait_event c k a p }
 {
     let unknown = decisions::is_unknown(k, v.events);
     let code = decisions::wait_code(unknown, v.mode != 3, fields::is_timeout(a));
@@ -202,14 +202,14 @@ pub fn wait_event(v: View, c: Context, k: u32, a: Field) -> Decision
 }
 
 fn one_more(n: u16) -> u16
-    ensures { result ≡ oneMore n }
+    ensures { result ≡ one_more n }
 {
     if n < Module::GREATEST { n + 1 } else { n }
 }
 
 // The first waiter's wait on an object ends; none: the value rises by one.
 fn signal_change(v: View, k: u32) -> Change
-    ensures { (p : PartitionT) (o : ℕ) → Shows v k v.waiter p → v.waiter ≡ firstWaiter o p → (o ≡ 0 → ⊥) → result ≡ signalled (waiters o p) k p }
+    ensures { (p : PartitionT) (o : ℕ) → Shows v k v.waiter p → v.waiter ≡ first_waiter o p → (o ≡ 0 → ⊥) → result ≡ signalled (waiters o p) k p }
 {
     let id = decisions::waiter_in(v);
     if id == 0 {
@@ -222,7 +222,7 @@ fn signal_change(v: View, k: u32) -> Change
 
 // 16 SIGNAL
 pub fn signal_semaphore(v: View, k: u32) -> Decision
-    ensures { (p : PartitionT) → Shows v k v.waiter p → v.waiter ≡ firstWaiter (object (SemaphoreW k)) p → result ≡ signal k p }
+    ensures { (p : PartitionT) → Shows v k v.waiter p → v.waiter ≡ first_waiter (object (SemaphoreW k)) p → result ≡ signal k p }
 {
     if decisions::is_unknown(k, v.semaphores) {
         return Decision::Refused(3);
@@ -236,7 +236,7 @@ pub fn signal_semaphore(v: View, k: u32) -> Decision
 
 // 18 SET_EVENT
 pub fn set_event(v: View, k: u32) -> Decision
-    ensures { (p : PartitionT) (who : ℕ) → Shows v k who p → result ≡ setEvent k p }
+    ensures { (p : PartitionT) (who : ℕ) → Shows v k who p → result ≡ set_event k p }
 {
     if decisions::is_unknown(k, v.events) {
         return Decision::Refused(3);
@@ -248,7 +248,7 @@ pub fn set_event(v: View, k: u32) -> Decision
 
 // 19 RESET_EVENT
 pub fn reset_event(v: View, k: u32) -> Decision
-    ensures { (p : PartitionT) (who : ℕ) → Shows v k who p → result ≡ resetEvent k p }
+    ensures { (p : PartitionT) (who : ℕ) → Shows v k who p → result ≡ reset_event k p }
 {
     if decisions::is_unknown(k, v.events) {
         return Decision::Refused(3);

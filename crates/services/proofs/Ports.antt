@@ -13,13 +13,13 @@ use Rattle.machine.specs.declared.Port.{Port}
 use Rattle.machine.specs.declared.Field.{Field}
 use Rattle.machine.specs.declared.Request.{Request}
 use Rattle.machine.specs.declared.Traffic.{Traffic}
-use Rattle.machine.specs.Channels.{channelChecks, write, read}
+use Rattle.machine.specs.Channels.{channel_checks, write, read}
 use Rattle.machine.specs.Queuing.{send, receive}
 use Rattle.machine.specs.Decisions.{awaiting}
-use Rattle.machine.specs.Services.{Service, noService, services, callDecision}
+use Rattle.machine.specs.Services.{Service, no_service, services, call_decision}
 use Rattle.machine.proofs.Either.{either}
-use Rattle.machine.proofs.Tests.{by-test}
-use Rattle.services.specs.Looked.{namesChannel, asksWaiter}
+use Rattle.machine.proofs.Tests.{by_test}
+use Rattle.services.specs.Looked.{names_channel, asks_waiter}
 
 -- whichever port a call is given, it decides the same
 abbrev Blind : Service → Type 0
@@ -30,9 +30,9 @@ infixr 20 ◌⊙◌ ◌⊗◌
 data Each : ℕ → List Service → Type 0 where
   end : {k : ℕ} → Each k []
   ◌⊙◌ : {k : ℕ} {s : Service} {l : List Service} → Blind s → Each (suc k) l → Each k (s ∷ l)
-  ◌⊗◌ : {k : ℕ} {s : Service} {l : List Service} → namesChannel k ≡ true → Each (suc k) l → Each k (s ∷ l)
+  ◌⊗◌ : {k : ℕ} {s : Service} {l : List Service} → names_channel k ≡ true → Each (suc k) l → Each k (s ∷ l)
 
-at_place : (l : List Service) (k : ℕ) → Each k l → (i n : ℕ) → n ≡ k + i → namesChannel n ≡ false → Blind (get_or l i noService)
+at_place : (l : List Service) (k : ℕ) → Each k l → (i n : ℕ) → n ≡ k + i → names_channel n ≡ false → Blind (get_or l i no_service)
 at_place [] k f i n e h = λ c x y r p. refl
 at_place (s ∷ l) k (b ⊙ f) zero n e h = b
 at_place (s ∷ l) k (t ⊗ f) zero n e h = let z : n ≡ k = omega arith in absurd (true≢false (sym t ∙ (rw z at h)))
@@ -78,35 +78,35 @@ every =
     (λ c x y r p. refl) ⊙
     end
 
-pub port-unseen : (n : ℕ) → namesChannel n ≡ false → (c : Context) (x y : Port) (r : Request) (p : Partition) → callDecision c x n r p ≡ callDecision c y n r p
-unfolding callDecision
-port-unseen n h = by-test Blind (eqb n 0)
+pub port_unseen : (n : ℕ) → names_channel n ≡ false → (c : Context) (x y : Port) (r : Request) (p : Partition) → call_decision c x n r p ≡ call_decision c y n r p
+unfolding call_decision
+port_unseen n h = by_test Blind (eqb n 0)
     (λ z c x y r p. refl)
     (λ z. let some = eqb-false n 0 z in at_place services 1 every (n - 1) n (omega arith) h)
 
 -- ---------------------------------------------------------------- who waits at the other end
-abbrev pub withTraffic : Port → Traffic → Port
-withTraffic x t = record { own = x.own; place = x.place; exists = x.exists; channel = x.channel; message = x.message; traffic = t }
+abbrev pub with_traffic : Port → Traffic → Port
+with_traffic x t = record { own = x.own; place = x.place; exists = x.exists; channel = x.channel; message = x.message; traffic = t }
 
 module _ (c : Context) (x : Port) (t : Traffic) (same : t.len ≡ x.traffic.len) where
-  send-unasked : (m a : Field) (p : Partition) → ltb x.traffic.len x.channel.size ≡ false → send c x m a p ≡ send c (withTraffic x t) m a p
-  unfolding send awaiting channelChecks
-  send-unasked m a p h = rw (same, h)
+  send_unasked : (m a : Field) (p : Partition) → ltb x.traffic.len x.channel.size ≡ false → send c x m a p ≡ send c (with_traffic x t) m a p
+  unfolding send awaiting channel_checks
+  send_unasked m a p h = rw (same, h)
 
-  receive-unasked : (a : Field) (p : Partition) → ltb 0 x.traffic.len ≡ false → receive c x a p ≡ receive c (withTraffic x t) a p
-  unfolding receive awaiting channelChecks
-  receive-unasked a p h = rw (same, h)
+  receive_unasked : (a : Field) (p : Partition) → ltb 0 x.traffic.len ≡ false → receive c x a p ≡ receive c (with_traffic x t) a p
+  unfolding receive awaiting channel_checks
+  receive_unasked a p h = rw (same, h)
 
-  pub waiter-unseen : (n : ℕ) → asksWaiter n x.channel.size x.traffic.len ≡ false → (r : Request) (p : Partition) → callDecision c x n r p ≡ callDecision c (withTraffic x t) n r p
-  unfolding callDecision services write read channelChecks
-  waiter-unseen n h r p =
+  pub waiter_unseen : (n : ℕ) → asks_waiter n x.channel.size x.traffic.len ≡ false → (r : Request) (p : Partition) → call_decision c x n r p ≡ call_decision c (with_traffic x t) n r p
+  unfolding call_decision services write read channel_checks
+  waiter_unseen n h r p =
       either (eqb n 30)
-      (λ e. let z : n ≡ 30 = eqb-true n 30 e in rw z (send-unasked r.b r.c p (rw z at h)))
+      (λ e. let z : n ≡ 30 = eqb-true n 30 e in rw z (send_unasked r.b r.c p (rw z at h)))
       (λ f.
       either (eqb n 31)
-      (λ e. let z : n ≡ 31 = eqb-true n 31 e in rw z (receive-unasked r.b p (rw z at h)))
+      (λ e. let z : n ≡ 31 = eqb-true n 31 e in rw z (receive_unasked r.b p (rw z at h)))
       (λ g.
       either (eqb n 21)
       (λ e. let z : n ≡ 21 = eqb-true n 21 e in rw z)
       (λ i.
-      either (eqb n 22) (λ e. let z : n ≡ 22 = eqb-true n 22 e in rw z) (λ j. port-unseen n (rw (i, j, f, g)) c x (withTraffic x t) r p))))
+      either (eqb n 22) (λ e. let z : n ≡ 22 = eqb-true n 22 e in rw z) (λ j. port_unseen n (rw (i, j, f, g)) c x (with_traffic x t) r p))))

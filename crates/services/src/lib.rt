@@ -4,7 +4,7 @@ ghost use Rattle.machine.specs.Fields.{number_of};
 ghost use Rattle.machine.specs.Services.{called};
 ghost use Rattle.machine.specs.declared.Partition.{Partition as PartitionT};
 ghost use Rattle.decisions.specs.Views.{Shows};
-ghost use Rattle.services.specs.Looked.{takenFor, waiterFor, creates, objectFor, subjectFor, namesChannel, asksWaiter};
+ghost use Rattle.services.specs.Looked.{taken_for, waiter_for, creates, object_for, subject_for, names_channel, asks_waiter};
 
 use decisions::View;
 use machine::{Context, Decision, Field, Partition, Port, Request};
@@ -26,7 +26,7 @@ pub fn does_create(n: u32) -> bool
 
 // Whether one of the kind that call n creates has this name.
 pub fn is_taken(p: Partition, n: u32, name: Field) -> bool
-    ensures { result ≡ takenFor n name p }
+    ensures { result ≡ taken_for n name p }
 {
     match n {
         2 => scheduling::is_process_named(p, name),
@@ -40,7 +40,7 @@ pub fn is_taken(p: Partition, n: u32, name: Field) -> bool
 
 // The object whose first waiter call n looks at, as a number; 0 for none.
 pub fn object_for(n: u32, id: u32) -> u64
-    ensures { result ≡ objectFor n id }
+    ensures { result ≡ object_for n id }
 {
     match n {
         16 => 256 + id as u64,
@@ -52,7 +52,7 @@ pub fn object_for(n: u32, id: u32) -> u64
 
 // The process that call n is about: the one that its field a names, the first waiter, or the caller.
 pub fn subject_for(n: u32, id: u32, caller: u8, waiter: u8) -> u32
-    ensures { result ≡ subjectFor n id caller waiter }
+    ensures { result ≡ subject_for n id caller waiter }
 {
     match n {
         3 => id,
@@ -69,7 +69,7 @@ pub fn subject_for(n: u32, id: u32, caller: u8, waiter: u8) -> u32
 
 // Whether a call names a channel: 21 WRITE, 22 READ, 30 SEND, 31 RECEIVE.
 pub fn names_channel(call: u32) -> bool
-    ensures { result ≡ namesChannel call }
+    ensures { result ≡ names_channel call }
 {
     match call {
         21 => true,
@@ -82,7 +82,7 @@ pub fn names_channel(call: u32) -> bool
 
 // Whether a call looks at who waits at the other end of its channel: 30 SEND where there is room, 31 RECEIVE where there is a message.
 fn asks_waiter(call: u32, size: u8, len: u8) -> bool
-    ensures { result ≡ asksWaiter call size len }
+    ensures { result ≡ asks_waiter call size len }
 {
     match call {
         30 => len < size,
@@ -93,7 +93,7 @@ fn asks_waiter(call: u32, size: u8, len: u8) -> bool
 
 // Whether the partition at the other end need not be looked at: nobody waits there, or the call does not ask who does.
 pub fn is_unasked(call: u32, size: u8, len: u8, waiting: u8) -> bool
-    ensures { result ≡ (eqb waiting 0 || not (asksWaiter call size len)) }
+    ensures { result ≡ (eqb waiting 0 || not (asks_waiter call size len)) }
 {
     if waiting == 0 {
         return true;
@@ -103,7 +103,7 @@ pub fn is_unasked(call: u32, size: u8, len: u8, waiting: u8) -> bool
 
 // 9, then what call n decides of its partition's record; another number decides nothing.
 pub fn call(v: View, c: Context, x: Port, n: u32, r: Request) -> Decision
-    ensures { (p : PartitionT) → Shows v (number_of r.a) (subjectFor n (number_of r.a) c.caller v.waiter) p → v.taken ≡ takenFor n r.a p → v.waiter ≡ waiterFor n (number_of r.a) p → result ≡ called c x n r p }
+    ensures { (p : PartitionT) → Shows v (number_of r.a) (subject_for n (number_of r.a) c.caller v.waiter) p → v.taken ≡ taken_for n r.a p → v.waiter ≡ waiter_for n (number_of r.a) p → result ≡ called c x n r p }
 {
     if decisions::has_no_caller(v.mode, c.caller) {
         return Decision::Refused(9);

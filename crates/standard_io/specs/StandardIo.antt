@@ -1,9 +1,9 @@
 -- What the system gives is free: what a read answers, the bytes that it leaves in the buffer, whether a write succeeds. The rest is settled by it.
 use Rattle.std.specs.Prelude.{ℕ, suc, ◌+◌, ◌-◌, ◌<◌, min, ◌≡◌, Bool, true, false, cond, not, ◌&&◌, List, length, take, eqb, ℤ, pos, negsuc}
 use Rattle.machine.specs.declared.Module.{Module}
-use Rattle.machine.specs.Replay.{replayedRecord}
+use Rattle.machine.specs.Replay.{replayed_record}
 use Rattle.stream.specs.declared.Stream.{Stream}
-use Rattle.stream.specs.Stream.{begun, isEnded, closed, fedAll}
+use Rattle.stream.specs.Stream.{begun, is_ended, closed, fed_all}
 use Rattle.standard_io.specs.declared.Got.{Got}
 use Rattle.standard_io.specs.declared.Got.TheVariants.{Bytes, Nothing, Failure}
 use Rattle.standard_io.specs.declared.End.{End}
@@ -14,9 +14,9 @@ use Rattle.standard_io.specs.declared.Replayed.{Replayed}
 use Rattle.standard_io.specs.declared.Whole.{Whole}
 
 -- what the answer of a read means: so many bytes at the front of a buffer of this length, at 0 the input's end, below 0 a failure
-abbrev pub gotOf : ℤ → ℕ → Got
-gotOf (pos n) most = cond (eqb n 0) Nothing (Bytes (min n most))
-gotOf (negsuc n) most = Failure
+abbrev pub got_of : ℤ → ℕ → Got
+got_of (pos n) most = cond (eqb n 0) Nothing (Bytes (min n most))
+got_of (negsuc n) most = Failure
 
 abbrev pub byte_count : Got → ℕ
 byte_count (Bytes n) = n
@@ -28,28 +28,28 @@ abbrev pub Quiet : Bool → Bool → Type 0
 Quiet prints written = prints ≡ false → written ≡ true
 
 -- after a chunk reading goes on, unless a write failed or the table is refused
-abbrev pub endAfter : Bool → Bool → End
-endAfter written refused = cond written (cond refused Table Going) Unwritten
+abbrev pub end_after : Bool → Bool → End
+end_after written refused = cond written (cond refused Table Going) Unwritten
 
-abbrev pub afterShown : Shown → Turn
-afterShown p = record { stream = p.stream; end = endAfter p.written (isEnded p.stream.progress.stage) }
+abbrev pub after_shown : Shown → Turn
+after_shown p = record { stream = p.stream; end = end_after p.written (is_ended p.stream.progress.stage) }
 
 -- the stream and why reading ended, if it did, after a read that left these bytes in the buffer, and writes that succeeded or not
-abbrev pub afterRead : Stream → Got → List ℕ → Bool → Turn
-afterRead s (Bytes n) bytes written = afterShown (record { stream = (fedAll s (take n bytes)).stream; written = written })
-afterRead s Nothing bytes written = record { stream = s; end = Input }
-afterRead s Failure bytes written = record { stream = s; end = Unread }
+abbrev pub after_read : Stream → Got → List ℕ → Bool → Turn
+after_read s (Bytes n) bytes written = after_shown (record { stream = (fed_all s (take n bytes)).stream; written = written })
+after_read s Nothing bytes written = record { stream = s; end = Input }
+after_read s Failure bytes written = record { stream = s; end = Unread }
 
 -- what a read gave was taken; whether the writes succeeded is free, if there were any
 pub record TookRead (prints : Bool) (s : Stream) (got : Got) (bytes : List ℕ) (r : Turn) : Type 0 where
   pub written : Bool
   pub quiet : Quiet prints written
-  pub is : r ≡ afterRead s got bytes written
+  pub is : r ≡ after_read s got bytes written
 
 -- what a read into so many bytes gave; its answer is free
 pub record GotFrom (most : ℕ) (got : Got) : Type 0 where
   pub answer : ℤ
-  pub is : got ≡ gotOf answer most
+  pub is : got ≡ got_of answer most
 
 -- one read; the bytes that it leaves in the buffer are free too
 pub record ReadOnce (prints : Bool) (s : Stream) (r : Turn) : Type 0 where
@@ -58,30 +58,30 @@ pub record ReadOnce (prints : Bool) (s : Stream) (r : Turn) : Type 0 where
   pub from : GotFrom (length bytes) got
   pub took : TookRead prints s got bytes r
 
-abbrev pub isGoing : End → Bool
-isGoing Going = true
-isGoing Input = false
-isGoing Table = false
-isGoing Unread = false
-isGoing Unwritten = false
+abbrev pub is_going : End → Bool
+is_going Going = true
+is_going Input = false
+is_going Table = false
+is_going Unread = false
+is_going Unwritten = false
 
-abbrev pub isFailure : End → Bool
-isFailure Going = false
-isFailure Input = false
-isFailure Table = false
-isFailure Unread = true
-isFailure Unwritten = true
+abbrev pub is_failure : End → Bool
+is_failure Going = false
+is_failure Input = false
+is_failure Table = false
+is_failure Unread = true
+is_failure Unwritten = true
 
 -- so many reads, one after another as long as reading goes on
 pub data Reads (prints : Bool) : ℕ → Turn → Type 0 where
   before : Reads prints 0 (record { stream = begun; end = Going })
-  next : (n : ℕ) (t u : Turn) → Reads prints n t → isGoing t.end ≡ true → ReadOnce prints t.stream u → Reads prints (suc n) u
+  next : (n : ℕ) (t u : Turn) → Reads prints n t → is_going t.end ≡ true → ReadOnce prints t.stream u → Reads prints (suc n) u
 
 -- reading goes on until it ends; more than 2^64 − 1 reads are not made
 pub record ReadToEnd (prints : Bool) (r : Turn) : Type 0 where
   pub count : ℕ
   pub reads : Reads prints count r
-  pub all : isGoing r.end ≡ true → count ≡ 18446744073709551615
+  pub all : is_going r.end ≡ true → count ≡ 18446744073709551615
 
 -- at the input's end the bytes after the last LF are a line; a line that a failure cut is none
 abbrev pub last_of : End → Stream → Stream
@@ -92,18 +92,18 @@ last_of Unread s = s
 last_of Unwritten s = s
 
 -- at the input's end: a last line that cannot be written is a failed write too
-abbrev pub inputEnd : Bool → End
-inputEnd written = cond written Input Unwritten
+abbrev pub input_end : Bool → End
+input_end written = cond written Input Unwritten
 
 abbrev pub last_end : End → Bool → End
 last_end Going written = Going
-last_end Input written = inputEnd written
+last_end Input written = input_end written
 last_end Table written = Table
 last_end Unread written = Unread
 last_end Unwritten written = Unwritten
 
-abbrev pub afterLast : Shown → Turn
-afterLast p = record { stream = p.stream; end = inputEnd p.written }
+abbrev pub after_last : Shown → Turn
+after_last p = record { stream = p.stream; end = input_end p.written }
 
 -- the last line was taken, where there is one; whether it could be written is free, if it is printed
 pub record LastTurn (prints : Bool) (t r : Turn) : Type 0 where
@@ -113,12 +113,12 @@ pub record LastTurn (prints : Bool) (t r : Turn) : Type 0 where
 
 -- the record after the bytes read: at the input's end and after a refused table that of the whole input; else that of the lines that are
 -- complete, since a line that a failure cut is no line of the input
-abbrev pub recordAfter : End → List ℕ → Module
-recordAfter Going read = (fedAll begun read).stream.progress.executive.inner
-recordAfter Input read = replayedRecord read
-recordAfter Table read = replayedRecord read
-recordAfter Unread read = (fedAll begun read).stream.progress.executive.inner
-recordAfter Unwritten read = (fedAll begun read).stream.progress.executive.inner
+abbrev pub record_after : End → List ℕ → Module
+record_after Going read = (fed_all begun read).stream.progress.executive.inner
+record_after Input read = replayed_record read
+record_after Table read = replayed_record read
+record_after Unread read = (fed_all begun read).stream.progress.executive.inner
+record_after Unwritten read = (fed_all begun read).stream.progress.executive.inner
 
 -- a replay of the bytes read. Free are the reads up to where reading ended, with what was read, and whether the last line could be written;
 -- why the replay ended and the record are settled by them
@@ -126,12 +126,12 @@ pub record AfterInput (prints : Bool) (r : Replayed) : Type 0 where
   pub turn : Turn
   pub reads : ReadToEnd prints turn
   pub read : List ℕ
-  pub fed : turn.stream ≡ (fedAll begun read).stream
+  pub fed : turn.stream ≡ (fed_all begun read).stream
   pub written : Bool
   pub wrote : Quiet prints written
   pub ends : r.end ≡ last_end turn.end written
   pub quiet : prints ≡ false → r.end ≡ Unwritten → ⊥
-  pub is : r.executive.inner ≡ recordAfter turn.end read
+  pub is : r.executive.inner ≡ record_after turn.end read
 
 -- ---------------------------------------------------------------- whole inputs
 -- reads one after another, each into what is left of a buffer, gave so many bytes

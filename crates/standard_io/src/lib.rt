@@ -1,10 +1,10 @@
 // Standard input and standard output: a replay in constant memory, and an input that is held whole. No contract can say which bytes are read
 // or written, or whether the system fails; what is done with what a read gives is settled. A failed read or write is told on standard error.
 ghost use Rattle.std.specs.Prelude.{◌≡◌, ◌-◌, ◌≤◌, length};
-ghost use Rattle.machine.specs.Limits.{lineLength};
-ghost use Rattle.stream.specs.Stream.{fedAll, closed};
+ghost use Rattle.machine.specs.Limits.{line_length};
+ghost use Rattle.stream.specs.Stream.{fed_all, closed};
 ghost use Rattle.io.specs.Counts.{IsPrefixLen};
-ghost use Rattle.standard_io.specs.StandardIo.{gotOf, Quiet, endAfter, afterShown, byte_count, TookRead, ReadOnce, isGoing, isFailure, ReadToEnd, inputEnd, afterLast, LastTurn, AfterInput, GotFrom, ReadWhole, Wrote};
+ghost use Rattle.standard_io.specs.StandardIo.{got_of, Quiet, end_after, after_shown, byte_count, TookRead, ReadOnce, is_going, is_failure, ReadToEnd, input_end, after_last, LastTurn, AfterInput, GotFrom, ReadWhole, Wrote};
 
 use executive::Executive;
 use libc::{STDERR_FILENO, STDIN_FILENO, STDOUT_FILENO};
@@ -71,8 +71,8 @@ fn print(prints: bool, out: &[u8], n: usize) -> bool
 
 // The stream after a chunk, printed piece by piece through an output.
 fn print_chunk(s: Stream, chunk: &[u8], out: &mut [u8], prints: bool) -> Shown
-    requires { lineLength ≤ length out.old }
-    ensures { (result.stream ≡ (fedAll s chunk.now).stream) × Quiet prints result.written }
+    requires { line_length ≤ length out.old }
+    ensures { (result.stream ≡ (fed_all s chunk.now).stream) × Quiet prints result.written }
 {
     let mut stream = s;
     let mut written = true;
@@ -92,7 +92,7 @@ fn print_chunk(s: Stream, chunk: &[u8], out: &mut [u8], prints: bool) -> Shown
 // ---------------------------------------------------------------- input
 // What the answer of a read into a buffer means.
 fn got_of(answer: isize, buf: &[u8]) -> Got
-    ensures { result ≡ gotOf answer (length buf.now) }
+    ensures { result ≡ got_of answer (length buf.now) }
 {
     if answer < 0 {
         return Got::Failure;
@@ -105,7 +105,7 @@ fn got_of(answer: isize, buf: &[u8]) -> Got
 
 // Why reading ended after a chunk: not where it was written and the table, if it was read, is accepted.
 fn end_after(written: bool, refused: bool) -> End
-    ensures { result ≡ endAfter written refused }
+    ensures { result ≡ end_after written refused }
 {
     if !written {
         return End::Unwritten;
@@ -114,7 +114,7 @@ fn end_after(written: bool, refused: bool) -> End
 }
 
 fn after_shown(p: Shown) -> Turn
-    ensures { result ≡ afterShown p }
+    ensures { result ≡ after_shown p }
 {
     let stream = p.stream;
     let end = end_after(p.written, stream.is_ended());
@@ -123,7 +123,7 @@ fn after_shown(p: Shown) -> Turn
 
 // Takes what a read gave.
 fn take_read(s: Stream, got: Got, input: &[u8], out: &mut [u8], prints: bool) -> Turn
-    requires { (lineLength ≤ length out.old) × (byte_count got ≤ length input.now) }
+    requires { (line_length ≤ length out.old) × (byte_count got ≤ length input.now) }
     ensures { TookRead prints s got input.now result }
 {
     match got {
@@ -141,7 +141,7 @@ fn take_read(s: Stream, got: Got, input: &[u8], out: &mut [u8], prints: bool) ->
 
 // Reads once, into a buffer that is lent, as the one printed into is: a buffer made here would be cleared each time.
 fn read_once(s: Stream, prints: bool, input: &mut [u8], out: &mut [u8]) -> Turn
-    requires { lineLength ≤ length out.old }
+    requires { line_length ≤ length out.old }
     ensures { ReadOnce prints s result }
 {
     let answer = libc::read(STDIN_FILENO, input);
@@ -149,7 +149,7 @@ fn read_once(s: Stream, prints: bool, input: &mut [u8], out: &mut [u8]) -> Turn
 }
 
 fn is_going(end: End) -> bool
-    ensures { result ≡ isGoing end }
+    ensures { result ≡ is_going end }
 {
     match end {
         End::Going => true,
@@ -207,13 +207,13 @@ fn print_last(s: Stream, prints: bool) -> Shown
 
 // Why the replay ended where the last line was printed.
 fn input_end(written: bool) -> End
-    ensures { result ≡ inputEnd written }
+    ensures { result ≡ input_end written }
 {
     if written { End::Input } else { End::Unwritten }
 }
 
 fn after_last(p: Shown) -> Turn
-    ensures { result ≡ afterLast p }
+    ensures { result ≡ after_last p }
 {
     let stream = p.stream;
     let end = input_end(p.written);
@@ -237,7 +237,7 @@ fn last_turn(t: Turn, prints: bool) -> Turn
 
 // Says on standard error that a read or a write failed, and gives whether one did.
 pub fn report(end: End) -> bool
-    ensures { result ≡ isFailure end }
+    ensures { result ≡ is_failure end }
 {
     match end {
         End::Unread => {

@@ -2,13 +2,13 @@
 use Rattle.std.specs.Prelude.{ℕ, suc, ◌+◌, ◌-◌, ◌*◌, Bool, true, false, cond, not, ◌&&◌, ◌||◌, List, [], ◌∷◌, ◌++◌, length, take, set, replicate, eqb, leb, ltb}
 use Rattle.machine.specs.declared.Module.{Module}
 use Rattle.machine.specs.declared.Numbers.{Numbers}
-use Rattle.machine.specs.Limits.{windowLimit, channelLimit, lineLength}
-use Rattle.machine.specs.Line.{lineFeed, numberList, numbersOf, readLine, lineRefusal}
-use Rattle.machine.specs.Module.{emptyModule}
-use Rattle.machine.specs.Table.{readTable}
-use Rattle.machine.specs.Replay.{lineAnswer, lineNext, refusalNumbers}
+use Rattle.machine.specs.Limits.{window_limit, channel_limit, line_length}
+use Rattle.machine.specs.Line.{line_feed, number_list, numbers_of, read_line, line_refusal}
+use Rattle.machine.specs.Module.{empty_module}
+use Rattle.machine.specs.Table.{read_table}
+use Rattle.machine.specs.Replay.{line_answer, line_next, refusal_numbers}
 use Rattle.executive.specs.declared.Executive.{Executive}
-use Rattle.event_lines.specs.Blocks.{printedLine}
+use Rattle.event_lines.specs.Blocks.{printed_line}
 use Rattle.stream.specs.declared.Stage.{Stage}
 use Rattle.stream.specs.declared.Stage.TheVariants.{Table, Events, Ended}
 use Rattle.stream.specs.declared.Progress.{Progress}
@@ -17,14 +17,14 @@ use Rattle.stream.specs.declared.Stream.{Stream}
 use Rattle.stream.specs.declared.Advance.{Advance}
 
 -- the bytes of the longest table: line 1, its windows, its channels
-abbrev pub heldLimit : ℕ
-heldLimit = (1 + windowLimit + channelLimit) * lineLength
+abbrev pub held_limit : ℕ
+held_limit = (1 + window_limit + channel_limit) * line_length
 
 -- before the first byte: no table yet, so the empty record
 abbrev pub begun : Stream
 begun = record {
-  progress = record { stage = Table; executive = record { inner = emptyModule }; count = 0 };
-  held = replicate heldLimit 0;
+  progress = record { stage = Table; executive = record { inner = empty_module }; count = 0 };
+  held = replicate held_limit 0;
 }
 
 -- ---------------------------------------------------------------- a line is complete
@@ -32,46 +32,46 @@ abbrev pub at : Stage → Executive → ℕ → Progress
 at s e n = record { stage = s; executive = e; count = n }
 
 -- nothing is printed
-abbrev pub nothingPrinted : Progress → Printout
-nothingPrinted x = record { progress = x; prints = false; numbers = numbersOf [] }
+abbrev pub nothing_printed : Progress → Printout
+nothing_printed x = record { progress = x; prints = false; numbers = numbers_of [] }
 
 -- A bad table prints one line: code, line number, four 0, and ends there.
 abbrev pub refusal : Progress → ℕ → ℕ → Printout
-refusal x code value = record { progress = at Ended x.executive 0; prints = true; numbers = numbersOf (refusalNumbers code value) }
+refusal x code value = record { progress = at Ended x.executive 0; prints = true; numbers = numbers_of (refusal_numbers code value) }
 
 -- so many bytes are good lines, and the table's next line is missing
 abbrev pub missing : ℕ → ℕ → ℕ → Bool
-missing code value n = eqb code lineRefusal && eqb (value * lineLength) (n + lineLength)
+missing code value n = eqb code line_refusal && eqb (value * line_length) (n + line_length)
 
 abbrev pub accepted : Executive → Printout
-accepted e = nothingPrinted (at Events e 0)
+accepted e = nothing_printed (at Events e 0)
 
 -- the table so far is accepted, or goes on, or is refused; at the input's end it does not go on
-abbrev pub tableTurn : Bool → Progress → List ℕ → Printout
-tableTurn ended x text =
-    let r = readTable text in
+abbrev pub table_turn : Bool → Progress → List ℕ → Printout
+table_turn ended x text =
+    let r = read_table text in
     cond (eqb r.code 0) (accepted (record { inner = r.state }))
-    (cond (not ended && missing r.code r.value (length text)) (nothingPrinted x) (refusal x r.code r.value))
+    (cond (not ended && missing r.code r.value (length text)) (nothing_printed x) (refusal x r.code r.value))
 
 -- one answer line per event, 11 too
-abbrev pub eventTurn : Progress → List ℕ → Printout
-eventTurn x text =
+abbrev pub event_turn : Progress → List ℕ → Printout
+event_turn x text =
     let m = x.executive.inner in
-    let l = readLine text in
-    record { progress = at Events (record { inner = lineNext m l }) 0; prints = true; numbers = numbersOf (lineAnswer m l) }
+    let l = read_line text in
+    record { progress = at Events (record { inner = line_next m l }) 0; prints = true; numbers = numbers_of (line_answer m l) }
 
 -- bytes after the last LF are a line; nothing after it is none
-abbrev pub eventsTurn : Bool → Progress → List ℕ → Printout
-eventsTurn ended x text = cond (ended && eqb (length text) 0) (nothingPrinted x) (eventTurn x text)
+abbrev pub events_turn : Bool → Progress → List ℕ → Printout
+events_turn ended x text = cond (ended && eqb (length text) 0) (nothing_printed x) (event_turn x text)
 
 -- a line is complete, or the input has ended
-abbrev pub turnIn : Bool → Stage → Progress → List ℕ → Printout
-turnIn ended Table x text = tableTurn ended x text
-turnIn ended Events x text = eventsTurn ended x text
-turnIn ended Ended x text = nothingPrinted (at Ended x.executive 0)
+abbrev pub turn_in : Bool → Stage → Progress → List ℕ → Printout
+turn_in ended Table x text = table_turn ended x text
+turn_in ended Events x text = events_turn ended x text
+turn_in ended Ended x text = nothing_printed (at Ended x.executive 0)
 
 abbrev pub turn : Bool → Progress → List ℕ → Printout
-turn ended x text = turnIn ended x.stage x text
+turn ended x text = turn_in ended x.stage x text
 
 -- ---------------------------------------------------------------- one byte
 -- a stream, and what it prints
@@ -81,38 +81,38 @@ pub record Fed : Type 0 where
 
 -- what is printed
 abbrev pub text_of : Bool → Numbers → List ℕ
-text_of prints n = cond prints (printedLine (numberList n)) []
+text_of prints n = cond prints (printed_line (number_list n)) []
 
 abbrev pub said : Stream → Printout → Fed
 said s y = record { stream = record { progress = y.progress; held = s.held }; text = text_of y.prints y.numbers }
 
 -- the byte is held; past the limit none is
-abbrev pub oneMore : ℕ → ℕ
-oneMore n = cond (ltb n heldLimit) (n + 1) n
+abbrev pub one_more : ℕ → ℕ
+one_more n = cond (ltb n held_limit) (n + 1) n
 
 abbrev pub put : Stream → ℕ → Stream
-put s b = record { progress = at s.progress.stage s.progress.executive (oneMore s.progress.count); held = set s.held s.progress.count b }
+put s b = record { progress = at s.progress.stage s.progress.executive (one_more s.progress.count); held = set s.held s.progress.count b }
 
-abbrev pub isTable : Stage → Bool
-isTable Table = true
-isTable Events = false
-isTable Ended = false
+abbrev pub is_table : Stage → Bool
+is_table Table = true
+is_table Events = false
+is_table Ended = false
 
 -- at the events, and nothing is held
-abbrev pub isBetween : Stage → ℕ → Bool
-isBetween Table n = false
-isBetween Events n = eqb n 0
-isBetween Ended n = false
+abbrev pub is_between : Stage → ℕ → Bool
+is_between Table n = false
+is_between Events n = eqb n 0
+is_between Ended n = false
 
 -- A bad table ends the replay.
-abbrev pub isEnded : Stage → Bool
-isEnded Table = false
-isEnded Events = false
-isEnded Ended = true
+abbrev pub is_ended : Stage → Bool
+is_ended Table = false
+is_ended Events = false
+is_ended Ended = true
 
 -- a line ends at its LF; no table is longer than the limit
 abbrev pub due : Stage → ℕ → ℕ → Bool
-due stage n b = eqb b lineFeed || (isTable stage && leb heldLimit n)
+due stage n b = eqb b line_feed || (is_table stage && leb held_limit n)
 
 unfoldable pub feed : Stream → ℕ → Fed
 feed s b =
@@ -131,18 +131,18 @@ run s room [] = record { stream = s; taken = 0; text = [] }
 run s room (b ∷ bs) =
     let f = feed s b in
     let r = run f.stream (room - length f.text) bs in
-    cond (leb lineLength room) (record { stream = r.stream; taken = suc r.taken; text = f.text ++ r.text }) (record { stream = s; taken = 0; text = [] })
+    cond (leb line_length room) (record { stream = r.stream; taken = suc r.taken; text = f.text ++ r.text }) (record { stream = s; taken = 0; text = [] })
 
 -- 11 where something is left for which there is no room
-abbrev pub leftCode : Bool → ℕ
-leftCode left = cond left lineRefusal 0
+abbrev pub left_code : Bool → ℕ
+left_code left = cond left line_refusal 0
 
-abbrev pub advanceOf : Run → Bool → Advance
-advanceOf r left = record { stream = r.stream; taken = r.taken; printed = length r.text; code = leftCode left }
+abbrev pub advance_of : Run → Bool → Advance
+advance_of r left = record { stream = r.stream; taken = r.taken; printed = length r.text; code = left_code left }
 
 -- what is left of a chunk are its last bytes
 abbrev pub advanced : Stream → ℕ → List ℕ → Advance
-advanced s room chunk = let r = run s room chunk in advanceOf r (ltb r.taken (length chunk))
+advanced s room chunk = let r = run s room chunk in advance_of r (ltb r.taken (length chunk))
 
 -- the last line
 abbrev pub last : Stream → Printout
@@ -152,31 +152,31 @@ unfoldable pub closed : Stream → Fed
 closed s = said s (last s)
 
 -- it is to be printed, and there is no room for a line
-abbrev pub isStuck : Bool → ℕ → Bool
-isStuck prints room = prints && ltb room lineLength
+abbrev pub is_stuck : Bool → ℕ → Bool
+is_stuck prints room = prints && ltb room line_length
 
 -- nothing is done then
 unfoldable pub finished : Stream → ℕ → Run
-finished s room = cond (isStuck (last s).prints room) (record { stream = s; taken = 0; text = [] }) (record { stream = (closed s).stream; taken = 0; text = (closed s).text })
+finished s room = cond (is_stuck (last s).prints room) (record { stream = s; taken = 0; text = [] }) (record { stream = (closed s).stream; taken = 0; text = (closed s).text })
 
-abbrev pub finishedOf : Stream → ℕ → Advance
-finishedOf s room = advanceOf (finished s room) (isStuck (last s).prints room)
+abbrev pub finished_of : Stream → ℕ → Advance
+finished_of s room = advance_of (finished s room) (is_stuck (last s).prints room)
 
 -- ---------------------------------------------------------------- a whole input
 -- all its bytes
-unfoldable pub fedAll : Stream → List ℕ → Fed
-fedAll s [] = record { stream = s; text = [] }
-fedAll s (b ∷ bs) =
+unfoldable pub fed_all : Stream → List ℕ → Fed
+fed_all s [] = record { stream = s; text = [] }
+fed_all s (b ∷ bs) =
     let f = feed s b in
-    let g = fedAll f.stream bs in
+    let g = fed_all f.stream bs in
     record { stream = g.stream; text = f.text ++ g.text }
 
 -- what is printed, and the record at the end
 abbrev pub streamed : Stream → List ℕ → List ℕ
-streamed s input = (fedAll s input).text ++ (closed (fedAll s input).stream).text
+streamed s input = (fed_all s input).text ++ (closed (fed_all s input).stream).text
 
-abbrev pub streamEnd : Stream → List ℕ → Module
-streamEnd s input = (closed (fedAll s input).stream).stream.progress.executive.inner
+abbrev pub stream_end : Stream → List ℕ → Module
+stream_end s input = (closed (fed_all s input).stream).stream.progress.executive.inner
 
 -- An input in pieces: a chunk each, with room for output. What is taken of all of them, and what is printed for it.
 pub record Piece : Type 0 where

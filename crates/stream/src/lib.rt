@@ -1,9 +1,9 @@
 // Replay of an input that comes in chunks of any size, in constant memory.
 ghost use Rattle.std.specs.Prelude.{◌≡◌, true, cond, not, ◌&&◌, [], ◌++◌, ◌+◌, ◌-◌, ◌≤◌, min, length, take, drop, set, ltb};
 ghost use Rattle.machine.specs.declared.Numbers.{Numbers};
-ghost use Rattle.machine.specs.Limits.{lineLength};
-ghost use Rattle.machine.specs.Line.{numbersOf};
-ghost use Rattle.stream.specs.Stream.{heldLimit, begun, nothingPrinted, refusal, missing, accepted, tableTurn, eventTurn, eventsTurn, turn, text_of, oneMore, due, isBetween, isEnded, leftCode, isStuck, run, advanced, finished, finishedOf};
+ghost use Rattle.machine.specs.Limits.{line_length};
+ghost use Rattle.machine.specs.Line.{numbers_of};
+ghost use Rattle.stream.specs.Stream.{held_limit, begun, nothing_printed, refusal, missing, accepted, table_turn, event_turn, events_turn, turn, text_of, one_more, due, is_between, is_ended, left_code, is_stuck, run, advanced, finished, finished_of};
 ghost use Rattle.event_lines.specs.Blocks.{over};
 
 use executive::{Executive, Opening};
@@ -56,7 +56,7 @@ struct Printout {
 }
 
 fn no_numbers() -> Numbers
-    ensures { result ≡ numbersOf [] }
+    ensures { result ≡ numbers_of [] }
 {
     Numbers {
         n1: 0,
@@ -69,7 +69,7 @@ fn no_numbers() -> Numbers
 }
 
 fn print_nothing(progress: Progress) -> Printout
-    ensures { result ≡ nothingPrinted progress }
+    ensures { result ≡ nothing_printed progress }
 {
     Printout {
         progress,
@@ -107,7 +107,7 @@ fn refuse(x: Progress, code: u8, value: u32) -> Printout
 
 // Whether n bytes are good lines, and the next line is missing.
 fn is_missing(code: u8, value: u32, n: usize) -> bool
-    requires { n ≤ heldLimit }
+    requires { n ≤ held_limit }
     ensures { result ≡ missing code value n }
 {
     code == REFUSED && value as usize * Module::LINE == n + Module::LINE
@@ -115,7 +115,7 @@ fn is_missing(code: u8, value: u32, n: usize) -> bool
 
 // The same before the input's end.
 fn is_awaited(ended: bool, code: u8, value: u32, n: usize) -> bool
-    requires { n ≤ heldLimit }
+    requires { n ≤ held_limit }
     ensures { result ≡ (not ended && missing code value n) }
 {
     if ended {
@@ -126,8 +126,8 @@ fn is_awaited(ended: bool, code: u8, value: u32, n: usize) -> bool
 
 // The table so far.
 fn table_turn(ended: bool, x: Progress, text: &[u8]) -> Printout
-    requires { length text.now ≤ heldLimit }
-    ensures { result ≡ tableTurn ended x text.now }
+    requires { length text.now ≤ held_limit }
+    ensures { result ≡ table_turn ended x text.now }
 {
     let r = Executive::open(text);
     if r.code == 0 {
@@ -142,7 +142,7 @@ fn table_turn(ended: bool, x: Progress, text: &[u8]) -> Printout
 
 // ---------------------------------------------------------------- events
 fn event_turn(x: Progress, text: &[u8]) -> Printout
-    ensures { result ≡ eventTurn x text.now }
+    ensures { result ≡ event_turn x text.now }
 {
     let e = x.executive;
     let h = event_lines::step_line(e, line::read(text));
@@ -161,7 +161,7 @@ fn event_turn(x: Progress, text: &[u8]) -> Printout
 
 // Bytes after the last LF are a line; nothing after it is none.
 fn events_turn(ended: bool, x: Progress, text: &[u8]) -> Printout
-    ensures { result ≡ eventsTurn ended x text.now }
+    ensures { result ≡ events_turn ended x text.now }
 {
     if ended && text.len() == 0 {
         return print_nothing(x);
@@ -172,7 +172,7 @@ fn events_turn(ended: bool, x: Progress, text: &[u8]) -> Printout
 // ---------------------------------------------------------------- by stage
 // A line is complete, or the input has ended.
 fn turn_of(ended: bool, x: Progress, text: &[u8]) -> Printout
-    requires { length text.now ≤ heldLimit }
+    requires { length text.now ≤ held_limit }
     ensures { result ≡ turn ended x text.now }
 {
     let stage = x.stage;
@@ -199,14 +199,14 @@ fn is_due(stage: Stage, n: usize, b: u8) -> bool
 
 // How many bytes are held.
 fn held_count(n: usize) -> usize
-    ensures { result ≡ min n heldLimit }
+    ensures { result ≡ min n held_limit }
 {
     if n < HELD { n } else { HELD }
 }
 
 // Holds a byte, where there is a place for it: how many are held.
 fn hold(held: &mut [u8; HELD], n: usize, b: u8) -> usize
-    ensures { (result ≡ oneMore n) × (held.new ≡ cond (ltb n heldLimit) (set held.old n b) held.old) }
+    ensures { (result ≡ one_more n) × (held.new ≡ cond (ltb n held_limit) (set held.old n b) held.old) }
 {
     if n < HELD {
         held[n] = b;
@@ -217,7 +217,7 @@ fn hold(held: &mut [u8; HELD], n: usize, b: u8) -> usize
 
 // Whether the stream is at the events, and holds nothing.
 fn is_between(stage: Stage, n: usize) -> bool
-    ensures { result ≡ isBetween stage n }
+    ensures { result ≡ is_between stage n }
 {
     match stage {
         Stage::Table => false,
@@ -228,8 +228,8 @@ fn is_between(stage: Stage, n: usize) -> bool
 
 // Holds the bytes of the line that ends at a position, as if they had come one by one.
 fn hold_line(held: &mut [u8; HELD], chunk: &[u8], end: usize)
-    requires { (length held.old ≡ heldLimit) × (lineLength ≤ end) × (end ≤ length chunk.now) }
-    ensures { held.new ≡ over (take lineLength (drop (end - lineLength) chunk.now)) held.old }
+    requires { (length held.old ≡ held_limit) × (line_length ≤ end) × (end ≤ length chunk.now) }
+    ensures { held.new ≡ over (take line_length (drop (end - line_length) chunk.now)) held.old }
 {
     let from = end - Module::LINE;
     let mut i: usize = 0;
@@ -242,7 +242,7 @@ fn hold_line(held: &mut [u8; HELD], chunk: &[u8], end: usize)
 // ---------------------------------------------------------------- output
 // Prints a line at a position of the output: how many bytes it has.
 fn print(out: &mut [u8], to: usize, prints: bool, numbers: Numbers) -> usize
-    requires { prints ≡ true → to + lineLength ≤ length out.old }
+    requires { prints ≡ true → to + line_length ≤ length out.old }
     ensures { (result ≡ length (text_of prints numbers)) × (out.new ≡ take to out.old ++ over (text_of prints numbers) (drop to out.old)) }
 {
     if !prints {
@@ -253,14 +253,14 @@ fn print(out: &mut [u8], to: usize, prints: bool, numbers: Numbers) -> usize
 
 // 11 where something is left for which there is no room.
 fn left_code(left: bool) -> u8
-    ensures { result ≡ leftCode left }
+    ensures { result ≡ left_code left }
 {
     if left { REFUSED } else { 0 }
 }
 
 // Whether a line is to be printed, and there is no room for one.
 fn is_stuck(prints: bool, room: usize) -> bool
-    ensures { result ≡ isStuck prints room }
+    ensures { result ≡ is_stuck prints room }
 {
     prints && room < Module::LINE
 }
@@ -329,7 +329,7 @@ impl Stream {
 
     // The input has ended: prints the last line; 11, and nothing is done, where one is to be printed and the output has no room for it.
     pub fn finish(self, out: &mut [u8]) -> Advance
-        ensures { (result ≡ finishedOf self (length out.old)) × (out.new ≡ over (finished self (length out.old)).text out.old) }
+        ensures { (result ≡ finished_of self (length out.old)) × (out.new ≡ over (finished self (length out.old)).text out.old) }
     {
         let x = self.progress;
         let held = self.held;
@@ -356,7 +356,7 @@ impl Stream {
 
     // Whether nothing more is read: after a refused table.
     pub fn is_ended(self) -> bool
-        ensures { result ≡ isEnded self.progress.stage }
+        ensures { result ≡ is_ended self.progress.stage }
     {
         let x = self.progress;
         let stage = x.stage;

@@ -1,10 +1,10 @@
 // Reading a table from a whole input, line by line.
 ghost use Rattle.std.specs.Prelude.{◌≡◌, true, cond, ◌&&◌, map, ◌+◌, ◌≤◌, ◌<◌, leb, length, drop};
-ghost use Rattle.machine.specs.Limits.{lineLength, windowLimit, channelLimit, sizeLimit};
+ghost use Rattle.machine.specs.Limits.{line_length, window_limit, channel_limit, size_limit};
 ghost use Rattle.machine.specs.Fields.{is_number, between, number_of};
-ghost use Rattle.machine.specs.Line.{readLine, lines};
+ghost use Rattle.machine.specs.Line.{read_line, lines};
 ghost use Rattle.machine.specs.Windows.{windows};
-ghost use Rattle.machine.specs.Table.{lastTwoZero, headGood, headDraft, windowGood, withWindow, channelGood, withChannel, windowNext, rowGood, with_row, flaggedFrom, refusedTable, checkedTable, tableHead, readTable};
+ghost use Rattle.machine.specs.Table.{last_two_zero, head_good, head_draft, window_good, with_window, channel_good, with_channel, window_next, row_good, with_row, flagged_from, refused_table, checked_table, table_head, read_table};
 ghost use Rattle.table.specs.Room.{Room};
 
 use machine::{Channel, Draft, Field, Line, Module, Reading, Row, Table, Window};
@@ -17,7 +17,7 @@ const BAD_TABLE: u8 = 12;
 
 // ---------------------------------------------------------------- line 1
 fn is_last_two_zero(r: Row) -> bool
-    ensures { result ≡ lastTwoZero r }
+    ensures { result ≡ last_two_zero r }
 {
     let f5 = r.f5;
     let f6 = r.f6;
@@ -25,7 +25,7 @@ fn is_last_two_zero(r: Row) -> bool
 }
 
 fn is_head_good(r: Row) -> bool
-    ensures { result ≡ headGood r }
+    ensures { result ≡ head_good r }
 {
     let f1 = r.f1;
     let f2 = r.f2;
@@ -39,8 +39,8 @@ fn is_head_good(r: Row) -> bool
 
 // The table that line 1 begins.
 fn head_draft(r: Row) -> Draft
-    requires { headGood r ≡ true }
-    ensures { result ≡ headDraft r }
+    requires { head_good r ≡ true }
+    ensures { result ≡ head_draft r }
 {
     let f1 = r.f1;
     let f2 = r.f2;
@@ -74,7 +74,7 @@ fn ends_within(start: Field, duration: Field, frame: u16) -> bool
 }
 
 fn is_window_good(d: Draft, r: Row) -> bool
-    ensures { result ≡ windowGood d r }
+    ensures { result ≡ window_good d r }
 {
     let t = d.table;
     let frame = t.frame;
@@ -90,8 +90,8 @@ fn is_window_good(d: Draft, r: Row) -> bool
 }
 
 fn with_window(d: Draft, r: Row) -> Draft
-    requires { (windowGood d r ≡ true) × (d.table.windowCount < windowLimit) }
-    ensures { result ≡ withWindow d r }
+    requires { (window_good d r ≡ true) × (d.table.windowCount < window_limit) }
+    ensures { result ≡ with_window d r }
 {
     let f1 = r.f1;
     let f2 = r.f2;
@@ -120,7 +120,7 @@ fn with_window(d: Draft, r: Row) -> Draft
 // ---------------------------------------------------------------- channels
 // The kind in the fourth field, and how many messages the fifth allows: 0 sampling, with none; 1 queuing.
 fn is_kind_good(kind: Field, limit: Field) -> bool
-    ensures { result ≡ cond (is_number 1 kind) (between 1 sizeLimit limit) (is_number 0 kind && is_number 0 limit) }
+    ensures { result ≡ cond (is_number 1 kind) (between 1 size_limit limit) (is_number 0 kind && is_number 0 limit) }
 {
     if fields::is_number(kind, 1) {
         return fields::is_between(limit, 1, Module::SIZE);
@@ -129,7 +129,7 @@ fn is_kind_good(kind: Field, limit: Field) -> bool
 }
 
 fn is_channel_good(d: Draft, r: Row) -> bool
-    ensures { result ≡ channelGood d r }
+    ensures { result ≡ channel_good d r }
 {
     let t = d.table;
     let size = t.size as u32;
@@ -147,8 +147,8 @@ fn is_channel_good(d: Draft, r: Row) -> bool
 }
 
 fn with_channel(d: Draft, r: Row) -> Draft
-    requires { (channelGood d r ≡ true) × (d.table.channelCount < channelLimit) }
-    ensures { result ≡ withChannel d r }
+    requires { (channel_good d r ≡ true) × (d.table.channelCount < channel_limit) }
+    ensures { result ≡ with_channel d r }
 {
     let f1 = r.f1;
     let f2 = r.f2;
@@ -172,14 +172,14 @@ fn with_channel(d: Draft, r: Row) -> Draft
 
 // ---------------------------------------------------------------- a line after line 1: windows come first
 fn is_window_next(d: Draft) -> bool
-    ensures { result ≡ windowNext d }
+    ensures { result ≡ window_next d }
 {
     let t = d.table;
     t.windowCount < d.windows
 }
 
 fn is_row_good(d: Draft, r: Row) -> bool
-    ensures { result ≡ rowGood d r }
+    ensures { result ≡ row_good d r }
 {
     if is_window_next(d) {
         is_window_good(d, r)
@@ -189,7 +189,7 @@ fn is_row_good(d: Draft, r: Row) -> bool
 }
 
 fn with_row(d: Draft, r: Row) -> Draft
-    requires { (rowGood d r ≡ true) × Room d }
+    requires { (row_good d r ≡ true) × Room d }
     ensures { result ≡ with_row d r }
 {
     if is_window_next(d) {
@@ -202,7 +202,7 @@ fn with_row(d: Draft, r: Row) -> Draft
 // ---------------------------------------------------------------- the final check
 // Every partition has a window with flag 1.
 fn all_flagged(t: Table) -> bool
-    ensures { result ≡ flaggedFrom t.size 1 (windows t) }
+    ensures { result ≡ flagged_from t.size 1 (windows t) }
 {
     let size = t.size as u32;
     let n = windows::count(t);
@@ -220,7 +220,7 @@ fn all_flagged(t: Table) -> bool
 
 // ---------------------------------------------------------------- the whole table
 fn refused(code: u8, value: u32) -> Reading
-    ensures { result ≡ refusedTable code value }
+    ensures { result ≡ refused_table code value }
 {
     let m = Module::empty();
     Reading {
@@ -232,7 +232,7 @@ fn refused(code: u8, value: u32) -> Reading
 }
 
 fn checked(t: Table, lines: u32) -> Reading
-    ensures { result ≡ checkedTable t lines }
+    ensures { result ≡ checked_table t lines }
 {
     if !all_flagged(t) {
         return refused(BAD_TABLE, 0);
@@ -248,8 +248,8 @@ fn checked(t: Table, lines: u32) -> Reading
 
 // The lines after line 1.
 fn rest(input: &[u8], head: Row) -> Reading
-    requires { (headGood head ≡ true) × (lineLength ≤ length input.now) }
-    ensures { result ≡ tableHead head (map readLine (lines (drop lineLength input.now))) }
+    requires { (head_good head ≡ true) × (line_length ≤ length input.now) }
+    ensures { result ≡ table_head head (map read_line (lines (drop line_length input.now))) }
 {
     let mut d = head_draft(head);
     let total = 1 + d.windows as u32 + d.channels as u32;
@@ -277,7 +277,7 @@ fn rest(input: &[u8], head: Row) -> Reading
 
 // What a table at the front of an input gives.
 pub fn read(input: &[u8]) -> Reading
-    ensures { result ≡ readTable input.now }
+    ensures { result ≡ read_table input.now }
 {
     if input.len() < Module::LINE {
         return refused(BAD_LINE, 1);

@@ -1,8 +1,8 @@
 // Waiting times from standard input: a table, then a line of t, partition and four 0 for each question; one line of code, n and four 0 for
 // each to standard output. An input that is too long prints one line: 11 and five 0.
 ghost use Rattle.std.specs.Prelude.{◌≡◌, length};
-ghost use Rattle.machine.specs.Replay.{textInto};
-ghost use Rattle.whole_input.specs.WholeInput.{printedText, heldPrinted, heldInto};
+ghost use Rattle.machine.specs.Replay.{text_into};
+ghost use Rattle.whole_input.specs.WholeInput.{printed_text, held_printed, held_into};
 ghost use Rattle.whole_input.specs.WaitingTimes.{asked};
 
 use whole_input::Printed;
@@ -15,7 +15,7 @@ const OUTPUT: usize = 131072;
 
 // What is printed for an input that was read; one that fills what the program holds is too long.
 fn result(input: &[u8], out: &mut [u8]) -> Printed
-    ensures { (result ≡ heldPrinted (length input.now) (printedText (asked input.now) (length out.old))) × (out.new ≡ heldInto (length input.now) (textInto (asked input.now) out.old) out.old) }
+    ensures { (result ≡ held_printed (length input.now) (printed_text (asked input.now) (length out.old))) × (out.new ≡ held_into (length input.now) (text_into (asked input.now) out.old) out.old) }
 {
     if input.len() < INPUT {
         return whole_input::waiting_times(input, out);

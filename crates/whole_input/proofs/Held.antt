@@ -4,10 +4,10 @@ use mathlib.Core.Path.{◌≡◌, refl}
 use mathlib.Core.List.{List}
 use borrow.Author.Tests.{lt-ltb, le-ltb}
 use Rattle.whole_input.specs.declared.Printed.{Printed}
-use Rattle.whole_input.specs.WholeInput.{noRoom, wholeLimit, heldPrinted, heldInto}
+use Rattle.whole_input.specs.WholeInput.{no_room, whole_limit, held_printed, held_into}
 
-pub held : (n : ℕ) → n < wholeLimit → (r p : Printed) (out text out' : List ℕ) → (r ≡ p) × (out' ≡ text) → (r ≡ heldPrinted n p) × (out' ≡ heldInto n text out)
-held n h r p out text out' e = rw (lt-ltb n wholeLimit h) e
+pub held : (n : ℕ) → n < whole_limit → (r p : Printed) (out text out' : List ℕ) → (r ≡ p) × (out' ≡ text) → (r ≡ held_printed n p) × (out' ≡ held_into n text out)
+held n h r p out text out' e = rw (lt-ltb n whole_limit h) e
 
-pub too_long : (n : ℕ) → wholeLimit ≤ n → (r p : Printed) (out text : List ℕ) → r ≡ noRoom → (r ≡ heldPrinted n p) × (out ≡ heldInto n text out)
-too_long n h r p out text e = rw (le-ltb n wholeLimit h) (e, refl)
+pub too_long_holds : (n : ℕ) → whole_limit ≤ n → (r p : Printed) (out text : List ℕ) → r ≡ no_room → (r ≡ held_printed n p) × (out ≡ held_into n text out)
+too_long_holds n h r p out text e = rw (le-ltb n whole_limit h) (e, refl)

@@ -1,10 +1,10 @@
 // Whole inputs, into a lent output: what the replay program prints, and the waiting times that lines ask for.
 ghost use Rattle.std.specs.Prelude.{◌≡◌, ◌/◌, length, drop, ltb};
-ghost use Rattle.machine.specs.Limits.{lineLength};
-ghost use Rattle.machine.specs.Line.{lines, readAt, written, writtenAt};
-ghost use Rattle.machine.specs.Replay.{lineNext, lineAnswer, refusalNumbers, textInto, replayedInto};
-ghost use Rattle.whole_input.specs.WholeInput.{done, noRoom, refusalPrinted, Counts, shownLength, shownInto, printedText, printed};
-ghost use Rattle.whole_input.specs.WaitingTimes.{isQuestion, gets, lineWaiting, asked};
+ghost use Rattle.machine.specs.Limits.{line_length};
+ghost use Rattle.machine.specs.Line.{lines, read_at, written, written_at};
+ghost use Rattle.machine.specs.Replay.{line_next, line_answer, refusal_numbers, text_into, replayed_into};
+ghost use Rattle.whole_input.specs.WholeInput.{done, no_room, refusal_printed, Counts, shown_length, shown_into, printed_text, printed};
+ghost use Rattle.whole_input.specs.WaitingTimes.{is_question, gets, line_waiting, asked};
 
 use executive::Executive;
 use machine::{Line, Module, Row, Waiting};
@@ -34,7 +34,7 @@ fn done(length: usize) -> Printed
 }
 
 pub fn no_room() -> Printed
-    ensures { result ≡ noRoom }
+    ensures { result ≡ no_room }
 {
     Printed {
         code: REFUSED,
@@ -45,7 +45,7 @@ pub fn no_room() -> Printed
 
 // A bad table prints one line: code, line number, four 0.
 fn print_refusal(out: &mut [u8], code: u8, value: u32) -> Printed
-    ensures { (result ≡ refusalPrinted (length out.old) code value) × (out.new ≡ written out.old (refusalNumbers code value)) }
+    ensures { (result ≡ refusal_printed (length out.old) code value) × (out.new ≡ written out.old (refusal_numbers code value)) }
 {
     if line::write(out, event_lines::refusal(code, value)) == 0 {
         return done(Module::LINE);
@@ -55,7 +55,7 @@ fn print_refusal(out: &mut [u8], code: u8, value: u32) -> Printed
 
 // What a program prints of a result: how many bytes of the output, in which the line of its code stands where it is refused.
 pub fn shown(out: &mut [u8], r: Printed) -> usize
-    ensures value { (result ≡ shownLength (length out.old) r) × (out.new ≡ shownInto out.old r) }
+    ensures value { (result ≡ shown_length (length out.old) r) × (out.new ≡ shown_into out.old r) }
     ensures counts { Counts result out.new }
 {
     if r.code != 0 {
@@ -83,7 +83,7 @@ fn count_lines(input: &[u8], from: usize) -> usize
 
 // Whether an output has no room for an answer to each line of an input from a position on.
 fn is_short(room: usize, input: &[u8], at: usize) -> bool
-    ensures { result ≡ ltb (room / lineLength) (length (lines (drop at input.now))) }
+    ensures { result ≡ ltb (room / line_length) (length (lines (drop at input.now))) }
 {
     room / Module::LINE < count_lines(input, at)
 }
@@ -91,7 +91,7 @@ fn is_short(room: usize, input: &[u8], at: usize) -> bool
 // The answer to the line at a position of the input, written at a position of the output; gives the executive after it. The code of
 // the line writer is not looked at: where there is room, every answer of a replay can be written.
 fn answer_line(e: Executive, input: &[u8], at: usize, out: &mut [u8], to: usize) -> Executive
-    ensures { (result.inner ≡ lineNext e.inner (readAt input.now at)) × (out.new ≡ writtenAt to out.old (lineAnswer e.inner (readAt input.now at))) }
+    ensures { (result.inner ≡ line_next e.inner (read_at input.now at)) × (out.new ≡ written_at to out.old (line_answer e.inner (read_at input.now at))) }
 {
     let h = event_lines::step_line(e, line::read_at(input, at));
     let answer = h.answer;
@@ -102,7 +102,7 @@ fn answer_line(e: Executive, input: &[u8], at: usize, out: &mut [u8], to: usize)
 // Reads a table, then event lines, and prints one answer line for each, 11 too; or the one line of a bad table. Where the output is too
 // short for all of it, nothing is written.
 pub fn replay(input: &[u8], out: &mut [u8]) -> Printed
-    ensures { (result ≡ printed input.now (length out.old)) × (out.new ≡ replayedInto input.now out.old) }
+    ensures { (result ≡ printed input.now (length out.old)) × (out.new ≡ replayed_into input.now out.old) }
 {
     let o = Executive::open(input);
     if o.code != 0 {
@@ -133,7 +133,7 @@ pub fn replay(input: &[u8], out: &mut [u8]) -> Printed
 // ---------------------------------------------------------------- waiting times
 // A question is t, a partition and four 0.
 fn is_question(r: Row) -> bool
-    ensures { result ≡ isQuestion r }
+    ensures { result ≡ is_question r }
 {
     let f3 = r.f3;
     let f4 = r.f4;
@@ -166,7 +166,7 @@ fn waiting_of(e: Executive, l: Line) -> Waiting
 
 // The answer to the line at a position of the input, written at a position of the output: code, n, four 0.
 fn ask_line(e: Executive, input: &[u8], at: usize, out: &mut [u8], to: usize)
-    ensures { out.new ≡ writtenAt to out.old (lineWaiting e.inner.table (readAt input.now at)) }
+    ensures { out.new ≡ written_at to out.old (line_waiting e.inner.table (read_at input.now at)) }
 {
     let w = waiting_of(e, line::read_at(input, at));
     line::write_at(out, to, event_lines::refusal(w.code, w.n));
@@ -175,7 +175,7 @@ fn ask_line(e: Executive, input: &[u8], at: usize, out: &mut [u8], to: usize)
 // Reads a table, then a question a line, and prints one answer line for each; or the one line of a bad table. Where the output is too
 // short for all of it, nothing is written.
 pub fn waiting_times(input: &[u8], out: &mut [u8]) -> Printed
-    ensures { (result ≡ printedText (asked input.now) (length out.old)) × (out.new ≡ textInto (asked input.now) out.old) }
+    ensures { (result ≡ printed_text (asked input.now) (length out.old)) × (out.new ≡ text_into (asked input.now) out.old) }
 {
     let o = Executive::open(input);
     if o.code != 0 {

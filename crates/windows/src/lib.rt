@@ -1,7 +1,7 @@
 // The windows of a table: the next start of a window, the current partition with the ticks left, the release point and the waiting time.
 ghost use Rattle.std.specs.Prelude.{◌≡◌, ◌≤◌, length};
-ghost use Rattle.machine.specs.Limits.{windowLimit};
-ghost use Rattle.machine.specs.Windows.{windows, covers, flaggedFor, nextStart, lookup, releasePoint, waitingOf};
+ghost use Rattle.machine.specs.Limits.{window_limit};
+ghost use Rattle.machine.specs.Windows.{windows, covers, flagged_for, next_start, lookup, release_point, waiting_of};
 ghost use Rattle.windows.specs.Sought.{sought};
 
 use machine::{Lookup, Module, Table, Waiting, Window};
@@ -16,7 +16,7 @@ pub enum Sought {
 
 // How many windows a table has, the array's length at most.
 pub fn count(table: Table) -> usize
-    ensures { (result ≡ length (windows table)) × (result ≤ windowLimit) }
+    ensures { (result ≡ length (windows table)) × (result ≤ window_limit) }
 {
     let n = table.windowCount as usize;
     if n < Module::WINDOWS {
@@ -40,7 +40,7 @@ fn does_cover(w: Window, x: u32) -> bool
 
 // Whether the window has flag 1 and is the partition's.
 pub fn is_flagged(w: Window, k: u32) -> bool
-    ensures { result ≡ flaggedFor k w }
+    ensures { result ≡ flagged_for k w }
 {
     if w.flag {
         w.partition as u32 == k
@@ -62,7 +62,7 @@ fn is_sought(w: Window, which: Sought) -> bool
 
 // The next start after t of a window that the search goes by, as a number of ticks: the first in this frame, else the first in the next one.
 pub fn next_start(table: Table, t: u32, which: Sought) -> u32
-    ensures { result ≡ nextStart table t (sought which) }
+    ensures { result ≡ next_start table t (sought which) }
 {
     let frame = table.frame as u32;
     if frame == 0 {
@@ -123,7 +123,7 @@ pub fn lookup_at(table: Table, t: u32) -> Lookup
 
 // The release point of partition k at t: the next start of a window with flag 1.
 pub fn release_point(table: Table, t: u32, k: u32) -> u32
-    ensures { result ≡ releasePoint table t k }
+    ensures { result ≡ release_point table t k }
 {
     let ahead = next_start(table, t, Sought::FlaggedFor(k));
     process::capped_time(t as u64 + ahead as u64)
@@ -131,7 +131,7 @@ pub fn release_point(table: Table, t: u32, k: u32) -> u32
 
 // The waiting time: 13 where t or the partition is out of range.
 pub fn waiting_time(table: Table, t: i64, k: i64) -> Waiting
-    ensures { result ≡ waitingOf table t k }
+    ensures { result ≡ waiting_of table t k }
 {
     let at = fields::field_of(t);
     let own = fields::field_of(k);

@@ -4,18 +4,18 @@ use native.Mathlib.Omega.{arith}
 use Rattle.bench.proofs.run_often.Statement.{statement}
 use Rattle.bench.proofs.run_often.Tie as tie
 
-abbrev invariant-loop : tie.invariant-loop
-invariant-loop s rounds l₀ i₀ l i = Unit {0}
+abbrev invariant_loop : tie.invariant-loop
+invariant_loop s rounds l₀ i₀ l i = Unit {0}
 
-abbrev decreases-loop : tie.decreases-loop
-decreases-loop s rounds l₀ i₀ l i = rounds - i
+abbrev decreases_loop : tie.decreases-loop
+decreases_loop s rounds l₀ i₀ l i = rounds - i
 
 pub run-often-spec : {M : Type 1} → statement M
 run-often-spec =
     tie.close
     (tie.spec
-    invariant-loop
-    decreases-loop
+    invariant_loop
+    decreases_loop
     (λ c. tt)
     (λ _ _. tt)
     (λ _ _. tt)

@@ -1,15 +1,15 @@
 use mathlib.Core.Path.{◌∙◌}
-use Rattle.machine.specs.Limits.{blackboardLimit}
-use Rattle.partition.proofs.Laws.{named-at, named_past}
+use Rattle.machine.specs.Limits.{blackboard_limit}
+use Rattle.partition.proofs.Laws.{named_at, named_past}
 use borrow.Author.Rules.{rules}
 use Rattle.blackboards.proofs.blackboard_at.Statement.{statement}
 use Rattle.blackboards.proofs.blackboard_at.Tie as tie
 
 returns : tie.Need-returns
-returns c = c.empty-blackboard.ensures ∙ named_past blackboardLimit c.before.before.before.args.k _ c.before.before.slot.ensures _ _ c.before.if1.true
+returns c = c.empty-blackboard.ensures ∙ named_past blackboard_limit c.before.before.before.args.k _ c.before.before.slot.ensures _ _ c.before.if1.true
 
-returns-2 : tie.Need-returns-2
-returns-2 c = named-at blackboardLimit c.before.before.before.args.k _ c.before.before.slot.ensures _ _ c.before.if1.false
+returns_2 : tie.Need-returns-2
+returns_2 c = named_at blackboard_limit c.before.before.before.args.k _ c.before.before.slot.ensures _ _ c.before.if1.false
 
 pub blackboard-at-spec : {M : Type 1} → statement M
 blackboard-at-spec =
@@ -20,4 +20,4 @@ blackboard-at-spec =
     returns
     (λ c. search rules)
     (λ c. search rules)
-    returns-2)
+    returns_2)

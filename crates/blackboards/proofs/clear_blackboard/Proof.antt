@@ -7,9 +7,9 @@ returns : tie.Need-returns
 unfolding checked clear
 returns c p k s = rw (← s.blackboards, ← s.blackboard, ← c.before.is-unknown.ensures, c.if1.true)
 
-returns-2 : tie.Need-returns-2
+returns_2 : tie.Need-returns-2
 unfolding checked clear
-returns-2 c p k s = rw (← s.blackboards, ← s.blackboard, c.changed.ensures, c.before.empty-blackboard.ensures, c.before.before.blackboard-in.ensures, ← c.before.before.before.before.is-unknown.ensures, c.before.before.before.if1.false)
+returns_2 c p k s = rw (← s.blackboards, ← s.blackboard, c.changed.ensures, c.before.empty-blackboard.ensures, c.before.before.blackboard-in.ensures, ← c.before.before.before.before.is-unknown.ensures, c.before.before.before.if1.false)
 
 pub clear-blackboard-spec : {M : Type 1} → statement M
 clear-blackboard-spec =
@@ -20,4 +20,4 @@ clear-blackboard-spec =
     (λ _ _. tt)
     (λ _ _. tt)
     (λ _ _. tt)
-    returns-2)
+    returns_2)

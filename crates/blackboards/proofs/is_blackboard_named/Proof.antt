@@ -4,32 +4,32 @@ use native.Mathlib.Omega.{arith}
 use lib.ListN.{length}
 use borrow.Author.Rules.{rules}
 use Rattle.machine.specs.declared.Blackboard.{Blackboard}
-use Rattle.machine.specs.Limits.{blackboardLimit}
-use Rattle.machine.specs.Partition.{noBlackboard}
-use Rattle.machine.proofs.Taken.{length-mapped}
-use Rattle.decisions.proofs.Names.{NotBefore, name-here, name-later, name-nowhere}
+use Rattle.machine.specs.Limits.{blackboard_limit}
+use Rattle.machine.specs.Partition.{no_blackboard}
+use Rattle.machine.proofs.Taken.{length_mapped}
+use Rattle.decisions.proofs.Names.{NotBefore, name_here, name_later, name_nowhere}
 use Rattle.blackboards.proofs.is_blackboard_named.Statement.{statement}
 use Rattle.blackboards.proofs.is_blackboard_named.Tie as tie
 
-abbrev invariant-loop : tie.invariant-loop
-invariant-loop name p i₀ i = NotBefore (λ (x : Blackboard). x.name) name p.blackboards p.blackboardCount i
+abbrev invariant_loop : tie.invariant-loop
+invariant_loop name p i₀ i = NotBefore (λ (x : Blackboard). x.name) name p.blackboards p.blackboardCount i
 
-abbrev decreases-loop : tie.decreases-loop
-decreases-loop name p i₀ i = blackboardLimit - i
+abbrev decreases_loop : tie.decreases-loop
+decreases_loop name p i₀ i = blackboard_limit - i
 
-long : (c : tie.Start invariant-loop decreases-loop) → length c.args.t1.blackboards ≡ blackboardLimit
-long c = search (rules, length-mapped)
+long : (c : tie.Start invariant_loop decreases_loop) → length c.args.t1.blackboards ≡ blackboard_limit
+long c = search (rules, length_mapped)
 
-returns : tie.Need-returns invariant-loop decreases-loop
-returns c = name-here _ c.before.before.before.before.loop.invariant _ c.before.is-named-at.ensures (omega (arith, long c.before.before.before.before.before)) c.if1.true
+returns : tie.Need-returns invariant_loop decreases_loop
+returns c = name_here _ c.before.before.before.before.loop.invariant _ c.before.is-named-at.ensures (omega (arith, long c.before.before.before.before.before)) c.if1.true
 
-loop-again : tie.Need-loop-preserved invariant-loop decreases-loop
-loop-again c = name-later _ c.before.before.before.before.loop.invariant _ c.before.is-named-at.ensures c.if1.false
+loop_again : tie.Need-loop-preserved invariant_loop decreases_loop
+loop_again c = name_later _ c.before.before.before.before.loop.invariant _ c.before.is-named-at.ensures c.if1.false
 
-returns-2 : tie.Need-returns-2 invariant-loop decreases-loop
-returns-2 c = name-nowhere noBlackboard c.before.loop.invariant (omega (arith, long c.before.before))
+returns_2 : tie.Need-returns-2 invariant_loop decreases_loop
+returns_2 c = name_nowhere no_blackboard c.before.loop.invariant (omega (arith, long c.before.before))
 
 pub is-blackboard-named-spec : {M : Type 1} → statement M
 is-blackboard-named-spec =
     tie.close
-    (tie.spec invariant-loop decreases-loop (λ c. record { rest = refl }) (λ c. search rules) (λ c. search rules) (λ _ _. tt) returns (λ c. omega arith) (λ c. omega arith) loop-again returns-2)
+    (tie.spec invariant_loop decreases_loop (λ c. record { rest = refl }) (λ c. search rules) (λ c. search rules) (λ _ _. tt) returns (λ c. omega arith) (λ c. omega arith) loop_again returns_2)

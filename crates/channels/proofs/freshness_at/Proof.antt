@@ -7,11 +7,11 @@ use Rattle.channels.proofs.freshness_at.Tie as tie
 returns : tie.Need-returns
 returns c = rw (le-leb (c.before.args.t - c.before.args.written) c.before.args.refresh (omega arith))
 
-returns-2 : tie.Need-returns-2
-returns-2 c = rw (le-leb _ _ c.if2.true)
+returns_2 : tie.Need-returns-2
+returns_2 c = rw (le-leb _ _ c.if2.true)
 
-returns-3 : tie.Need-returns-3
-returns-3 c = rw (lt-leb _ _ c.if2.false)
+returns_3 : tie.Need-returns-3
+returns_3 c = rw (lt-leb _ _ c.if2.false)
 
 pub freshness-at-spec : {M : Type 1} → statement M
-freshness-at-spec = tie.close (tie.spec returns returns-2 returns-3)
+freshness-at-spec = tie.close (tie.spec returns returns_2 returns_3)

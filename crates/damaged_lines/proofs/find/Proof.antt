@@ -4,42 +4,42 @@ use mathlib.Core.Path.{◌≡◌, refl}
 use native.Mathlib.Omega.{arith}
 use lib.ListN.{length}
 use Rattle.damaged_lines.specs.Container.{place_of}
-use Rattle.damaged_lines.proofs.Laws.{place_here, place-later, place_none}
+use Rattle.damaged_lines.proofs.Laws.{place_here, place_later, place_none}
 use Rattle.damaged_lines.proofs.find.Statement.{statement}
 use Rattle.damaged_lines.proofs.find.Tie as tie
 
-abbrev invariant-loop : tie.invariant-loop
-invariant-loop s at b i₀ i = place_of b s i ≡ place_of b s at
+abbrev invariant_loop : tie.invariant-loop
+invariant_loop s at b i₀ i = place_of b s i ≡ place_of b s at
 
-abbrev decreases-loop : tie.decreases-loop
-decreases-loop s at b i₀ i = length s - i
+abbrev decreases_loop : tie.decreases-loop
+decreases_loop s at b i₀ i = length s - i
 
-loop-holds : tie.Need-loop-init invariant-loop decreases-loop
-loop-holds c = refl
+loop_holds : tie.Need-loop-init invariant_loop decreases_loop
+loop_holds c = refl
 
-shared-slice-read-if1 : tie.Need-shared-slice-read-if1 invariant-loop decreases-loop
-shared-slice-read-if1 c = omega arith
+shared_slice_read_if1 : tie.Need-shared-slice-read-if1 invariant_loop decreases_loop
+shared_slice_read_if1 c = omega arith
 
-returns : tie.Need-returns invariant-loop decreases-loop
+returns : tie.Need-returns invariant_loop decreases_loop
 returns c =
     let start = c.before.before.before.before in
     let loop = c.before.before.before.loop in
     place_here start.args.s.now _ _ _ loop.invariant c.before.before.loop-test.true c.if1.true
 
-add-i : tie.Need-overflow-add-i invariant-loop decreases-loop
-add-i c = omega arith
+add_i : tie.Need-overflow-add-i invariant_loop decreases_loop
+add_i c = omega arith
 
-loop-less : tie.Need-loop-smaller invariant-loop decreases-loop
-loop-less c = omega arith
+loop_less : tie.Need-loop-smaller invariant_loop decreases_loop
+loop_less c = omega arith
 
-loop-again : tie.Need-loop-preserved invariant-loop decreases-loop
-loop-again c =
+loop_again : tie.Need-loop-preserved invariant_loop decreases_loop
+loop_again c =
     let start = c.before.before.before.before in
     let loop = c.before.before.before.loop in
-    place-later start.args.s.now _ _ _ loop.invariant c.before.before.loop-test.true c.if1.false
+    place_later start.args.s.now _ _ _ loop.invariant c.before.before.loop-test.true c.if1.false
 
-returns-2 : tie.Need-returns-2 invariant-loop decreases-loop
-returns-2 c =
+returns_2 : tie.Need-returns-2 invariant_loop decreases_loop
+returns_2 c =
     let start = c.before.before in
     place_none start.args.s.now start.args.b _ _ c.before.loop.invariant c.loop-test.false
 
@@ -47,12 +47,12 @@ pub find_spec : {M : Type 1} → statement M
 find_spec =
     tie.close
     (tie.spec
-    invariant-loop
-    decreases-loop
-    loop-holds
-    shared-slice-read-if1
+    invariant_loop
+    decreases_loop
+    loop_holds
+    shared_slice_read_if1
     returns
-    add-i
-    loop-less
-    loop-again
-    returns-2)
+    add_i
+    loop_less
+    loop_again
+    returns_2)

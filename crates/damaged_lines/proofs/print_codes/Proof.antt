@@ -7,14 +7,14 @@ use Rattle.machine.proofs.TextInput.{line_at}
 use Rattle.damaged_lines.proofs.print_codes.Statement.{statement}
 use Rattle.damaged_lines.proofs.print_codes.Tie as tie
 
-abbrev invariant-loop : tie.invariant-loop
-invariant-loop input start at₀ at = Unit {0}
+abbrev invariant_loop : tie.invariant-loop
+invariant_loop input start at₀ at = Unit {0}
 
-abbrev decreases-loop : tie.decreases-loop
-decreases-loop input start at₀ at = length input - at
+abbrev decreases_loop : tie.decreases-loop
+decreases_loop input start at₀ at = length input - at
 
-loop-less : tie.Need-loop-smaller invariant-loop decreases-loop
-loop-less c =
+loop_less : tie.Need-loop-smaller invariant_loop decreases_loop
+loop_less c =
     let start = c.before.before.before.before.before.before.before in
     let loop = c.before.before.before.before.before.loop in
     let loop-test = c.before.before.before.before.loop-test in
@@ -25,14 +25,14 @@ pub print-codes-spec : {M : Type 1} → statement M
 print-codes-spec =
     tie.close
     (tie.spec
-    invariant-loop
-    decreases-loop
+    invariant_loop
+    decreases_loop
     (λ c. tt)
     (λ c κs. search rules)
     (λ c κs. search rules)
     (λ c. search rules)
     (λ c κs. search rules)
     (λ c κs. search rules)
-    loop-less
+    loop_less
     (λ c. tt)
     (λ c. tt))

@@ -8,13 +8,13 @@ returns : tie.Need-returns
 unfolding checked blocked
 returns c = rw (lt-ltb 0 c.before.args.level (omega (arith, c.if1.true)))
 
-returns-2 : tie.Need-returns-2
+returns_2 : tie.Need-returns-2
 unfolding checked blocked
-returns-2 c = rw (le-ltb 0 c.before.args.level (omega (arith, c.if1.false)))
+returns_2 c = rw (le-ltb 0 c.before.args.level (omega (arith, c.if1.false)))
 
 pub block_spec : {M : Type 1} → statement M
 block_spec =
     tie.close
     (tie.spec
     returns
-    returns-2)
+    returns_2)

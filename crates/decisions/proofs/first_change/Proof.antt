@@ -2,11 +2,11 @@ use borrow.Author.Rules.{rules}
 use Rattle.decisions.proofs.first_change.Statement.{statement}
 use Rattle.decisions.proofs.first_change.Tie as tie
 
-returns-4 : tie.Need-returns-4
-returns-4 c = rw c.before.d.given.1
+returns_4 : tie.Need-returns-4
+returns_4 c = rw c.before.d.given.1
 
-returns-5 : tie.Need-returns-5
-returns-5 c = rw c.before.d2.given.1
+returns_5 : tie.Need-returns-5
+returns_5 c = rw c.before.d2.given.1
 
 pub first-change-spec : {M : Type 1} → statement M
 first-change-spec =
@@ -24,8 +24,8 @@ first-change-spec =
     (λ c. search rules)
     (λ c. search rules)
     (λ c. search rules)
-    returns-4
-    returns-5
+    returns_4
+    returns_5
     (λ c. search rules)
     (λ c. search rules)
     (λ c. search rules))

@@ -2,8 +2,8 @@ use borrow.Author.Rules.{rules}
 use Rattle.decisions.proofs.message_of.Statement.{statement}
 use Rattle.decisions.proofs.message_of.Tie as tie
 
-returns-7 : tie.Need-returns-7
-returns-7 c = rw c.before.d.given.1
+returns_7 : tie.Need-returns-7
+returns_7 c = rw c.before.d.given.1
 
 pub message-of-spec : {M : Type 1} → statement M
 message-of-spec =
@@ -30,5 +30,5 @@ message-of-spec =
     (λ c. search rules)
     (λ c. search rules)
     (λ c. search rules)
-    returns-7
+    returns_7
     (λ c. search rules))

@@ -6,8 +6,8 @@ use Rattle.decisions.proofs.short_id.Tie as tie
 returns : tie.Need-returns
 returns c = rw (le-leb _ _ c.if1.true)
 
-returns-2 : tie.Need-returns-2
-returns-2 c = rw (lt-leb _ _ c.if1.false)
+returns_2 : tie.Need-returns-2
+returns_2 c = rw (lt-leb _ _ c.if1.false)
 
 pub short-id-spec : {M : Type 1} → statement M
-short-id-spec = tie.close (tie.spec (λ c. search rules) returns returns-2)
+short-id-spec = tie.close (tie.spec (λ c. search rules) returns returns_2)

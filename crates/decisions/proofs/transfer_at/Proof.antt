@@ -2,8 +2,8 @@ use borrow.Author.Rules.{rules}
 use Rattle.decisions.proofs.transfer_at.Statement.{statement}
 use Rattle.decisions.proofs.transfer_at.Tie as tie
 
-returns-8 : tie.Need-returns-8
-returns-8 c = rw c.before.d.given.1
+returns_8 : tie.Need-returns-8
+returns_8 c = rw c.before.d.given.1
 
 pub transfer-at-spec : {M : Type 1} → statement M
 transfer-at-spec =
@@ -25,4 +25,4 @@ transfer-at-spec =
     (λ c. search rules)
     (λ c. search rules)
     (λ c. search rules)
-    returns-8)
+    returns_8)

@@ -4,11 +4,11 @@ use borrow.Author.Rules.{rules}
 use Rattle.decisions.proofs.turns_of.Statement.{statement}
 use Rattle.decisions.proofs.turns_of.Tie as tie
 
-returns-2 : tie.Need-returns-2
-returns-2 c = rw (c.before.before.before.before.before.if1.false, sym c.before.before.before.before.does-change.ensures ∙ c.before.before.before.if2.true, sym (c.before.is-nothing.ensures ∙ ap nothing c.before.before.second-change.ensures) ∙ c.if3.true)
+returns_2 : tie.Need-returns-2
+returns_2 c = rw (c.before.before.before.before.before.if1.false, sym c.before.before.before.before.does-change.ensures ∙ c.before.before.before.if2.true, sym (c.before.is-nothing.ensures ∙ ap nothing c.before.before.second-change.ensures) ∙ c.if3.true)
 
-returns-3 : tie.Need-returns-3
-returns-3 c = rw (c.before.before.before.before.before.if1.false, sym c.before.before.before.before.does-change.ensures ∙ c.before.before.before.if2.true, sym (c.before.is-nothing.ensures ∙ ap nothing c.before.before.second-change.ensures) ∙ c.if3.false)
+returns_3 : tie.Need-returns-3
+returns_3 c = rw (c.before.before.before.before.before.if1.false, sym c.before.before.before.before.does-change.ensures ∙ c.before.before.before.if2.true, sym (c.before.is-nothing.ensures ∙ ap nothing c.before.before.second-change.ensures) ∙ c.if3.false)
 
 pub turns-of-spec : {M : Type 1} → statement M
 turns-of-spec =
@@ -18,6 +18,6 @@ turns-of-spec =
     (λ _ _. tt)
     (λ _ _. tt)
     (λ _ _. tt)
-    returns-2
-    returns-3
+    returns_2
+    returns_3
     (λ c. search rules))

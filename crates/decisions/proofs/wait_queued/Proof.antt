@@ -6,9 +6,9 @@ returns : tie.Need-returns
 unfolding checked queued
 returns c p id s = rw (← s.level, ← s.subject, ← c.before.is_number.ensures, c.if1.true)
 
-returns-2 : tie.Need-returns-2
+returns_2 : tie.Need-returns-2
 unfolding checked queued
-returns-2 c p id s = rw (← s.level, ← s.subject, c.block.ensures, c.before.waiting-for.ensures, c.before.before.later-time.ensures, c.before.before.before.time-of.ensures, c.before.before.before.before.subject-in.ensures, ← c.before.before.before.before.before.before.is_number.ensures, c.before.before.before.before.before.if1.false)
+returns_2 c p id s = rw (← s.level, ← s.subject, c.block.ensures, c.before.waiting-for.ensures, c.before.before.later-time.ensures, c.before.before.before.time-of.ensures, c.before.before.before.before.subject-in.ensures, ← c.before.before.before.before.before.before.is_number.ensures, c.before.before.before.before.before.if1.false)
 
 pub wait-queued-spec : {M : Type 1} → statement M
 wait-queued-spec =
@@ -21,4 +21,4 @@ wait-queued-spec =
     (λ _ _. tt)
     (λ _ _. tt)
     (λ _ _. tt)
-    returns-2)
+    returns_2)

@@ -1,6 +1,6 @@
 use native.Mathlib.Omega.{arith}
 use borrow.Author.Rules.{rules}
-use Rattle.event_lines.proofs.Blocks.{Listed, listed, listed-few, listed-long, listed-size, listed-none, run_long, run-size, run_room, run-done}
+use Rattle.event_lines.proofs.Blocks.{Listed, listed, listed_few, listed_long, listed_size, listed_none, run_long, run_size, run_room, run_done}
 use Rattle.event_lines.proofs.run_lines.Statement.{statement}
 use Rattle.event_lines.proofs.run_lines.Tie as tie
 use Rattle.event_lines.proofs.run_lines.Reads as reads
@@ -21,32 +21,32 @@ read : (c : Read) → Listed (start c).args.text.now (start c).args.out.now (sta
 read c = listed (start c).args.text.now (start c).args.out.now (start c).args.from (start c).args.to _ _ _ c.before.before.before.line-count.ensures c.before.read-lines.ensures
 
 returns : tie.Need-returns
-returns c = listed-none _ _ _ _ _ _ (read c.before) _ c.if1.true
+returns c = listed_none _ _ _ _ _ _ (read c.before) _ c.if1.true
 
-mul-used : tie.Need-overflow-mul-used
-mul-used c = omega (arith, listed-few _ _ _ _ _ _ (read c.before))
+mul_used : tie.Need-overflow-mul-used
+mul_used c = omega (arith, listed_few _ _ _ _ _ _ (read c.before))
 
-array-borrow-prefix-list : tie.Need-array-borrow-prefix-list
-array-borrow-prefix-list c = listed-long _ _ _ _ _ _ (read c.before)
+array_borrow_prefix_list : tie.Need-array-borrow-prefix-list
+array_borrow_prefix_list c = listed_long _ _ _ _ _ _ (read c.before)
 
-slice-aggregate-run : tie.Need-slice-aggregate-run
-slice-aggregate-run c = listed-size _ _ _ _ _ _ (read c.before.before)
+slice_aggregate_run : tie.Need-slice-aggregate-run
+slice_aggregate_run c = listed_size _ _ _ _ _ _ (read c.before.before)
 
-array-share-prefix-list : tie.Need-array-share-prefix-list
-array-share-prefix-list c = let d = c.before.before.before.before.before in run_long _ _ _ _ _ _ (read d) (start d).args.e _ _ c.before.before.run.ensures
+array_share_prefix_list : tie.Need-array-share-prefix-list
+array_share_prefix_list c = let d = c.before.before.before.before.before in run_long _ _ _ _ _ _ (read d) (start d).args.e _ _ c.before.before.run.ensures
 
-slice-aggregate-print-lines : tie.Need-slice-aggregate-print-lines
-slice-aggregate-print-lines c = let d = c.before.before.before.before.before.before in run-size _ _ _ _ _ _ (read d) (start d).args.e _ _ c.before.before.before.run.ensures
+slice_aggregate_print_lines : tie.Need-slice-aggregate-print-lines
+slice_aggregate_print_lines c = let d = c.before.before.before.before.before.before in run_size _ _ _ _ _ _ (read d) (start d).args.e _ _ c.before.before.before.run.ensures
 
-print-lines-requires : tie.Need-print-lines-requires
-print-lines-requires c κs =
+print_lines_requires : tie.Need-print-lines-requires
+print_lines_requires c κs =
     let d = c.before.before.before.before.before.before in
     run_room _ _ _ _ _ _ (read d) (start d).args.e _ _ c.before.before.before.run.ensures c.before.before.before.before.before.if1.false
 
-returns-2 : tie.Need-returns-2
-returns-2 c =
+returns_2 : tie.Need-returns-2
+returns_2 c =
     let d = c.before.before.before.before.before.before.before.before.before in
-    run-done _ _ _ _ _ _ (read d) (start d).args.e _ _ c.before.before.before.before.before.before.run.ensures _ _ c.before.before.print-lines.ensures
+    run_done _ _ _ _ _ _ (read d) (start d).args.e _ _ c.before.before.before.before.before.before.run.ensures _ _ c.before.before.print-lines.ensures
 
 pub run-lines-spec : {M : Type 1} → statement M
 run-lines-spec =
@@ -56,12 +56,12 @@ run-lines-spec =
     (λ c. search rules)
     (λ c κs. search rules)
     returns
-    mul-used
-    array-borrow-prefix-list
-    slice-aggregate-run
+    mul_used
+    array_borrow_prefix_list
+    slice_aggregate_run
     (λ c κs. search rules)
-    array-share-prefix-list
-    slice-aggregate-print-lines
-    print-lines-requires
+    array_share_prefix_list
+    slice_aggregate_print_lines
+    print_lines_requires
     (λ c. search rules)
-    returns-2)
+    returns_2)

@@ -5,8 +5,8 @@ use Rattle.event_lines.proofs.step_line.Tie as tie
 returns : tie.Need-returns
 returns c = rw (c.before.before.before.l.given.1, ← c.before.event-of.ensures) c.step.ensures
 
-returns-2 : tie.Need-returns-2
-returns-2 c = rw (c.before.enum_told.given.1, c.unread.ensures)
+returns_2 : tie.Need-returns-2
+returns_2 c = rw (c.before.enum_told.given.1, c.unread.ensures)
 
 pub step-line-spec : {M : Type 1} → statement M
 step-line-spec =
@@ -18,4 +18,4 @@ step-line-spec =
     (λ c. search rules)
     (λ c κs. search rules)
     returns
-    returns-2)
+    returns_2)

@@ -6,8 +6,8 @@ use Rattle.events.proofs.call_slot.Tie as tie
 returns : tie.Need-returns
 returns c = rw (ne_eqb _ _ c.if1.true)
 
-returns-2 : tie.Need-returns-2
-returns-2 c = rw (eq-eqb _ _ c.before.if1.false, c.slot_of.ensures)
+returns_2 : tie.Need-returns-2
+returns_2 c = rw (eq-eqb _ _ c.before.if1.false, c.slot_of.ensures)
 
 pub call-slot-spec : {M : Type 1} → statement M
-call-slot-spec = tie.close (tie.spec returns (λ c κs. search rules) returns-2)
+call-slot-spec = tie.close (tie.spec returns (λ c κs. search rules) returns_2)

@@ -3,8 +3,8 @@ use native.Mathlib.Omega.{arith}
 use lib.ListN.{take, drop}
 use Prim.Native.Nat.{ℕ, ◌+◌, ◌-◌}
 use mathlib.Core.Path.{◌≡◌, ap, ◌∙◌}
-use Rattle.machine.specs.Line.{fieldWidth, readField}
-use Rattle.line.specs.Found.{foundOf}
+use Rattle.machine.specs.Line.{field_width, read_field}
+use Rattle.line.specs.Found.{found_of}
 use borrow.Author.Rules.{rules}
 use Rattle.line.proofs.field_at.Statement.{statement}
 use Rattle.line.proofs.field_at.Tie as tie
@@ -12,8 +12,8 @@ use Rattle.line.proofs.field_at.Tie as tie
 returns : tie.Need-returns
 returns c =
     let start = c.before.before.before in
-    let e : start.args.at + fieldWidth - start.args.at ≡ fieldWidth = omega arith in c.field.ensures ∙ ap
-    (λ (k : ℕ). foundOf (readField (take k (drop start.args.at start.args.s.now)))) e
+    let e : start.args.at + field_width - start.args.at ≡ field_width = omega arith in c.field.ensures ∙ ap
+    (λ (k : ℕ). found_of (read_field (take k (drop start.args.at start.args.s.now)))) e
 
 pub field-at-spec : {M : Type 1} → statement M
 field-at-spec =

@@ -3,9 +3,9 @@ use mathlib.Core.Path.{refl, ◌∙◌}
 use native.Mathlib.Omega.{arith}
 use borrow.Author.Rules.{rules}
 use lib.ListN.{length-set}
-use Rattle.machine.specs.Line.{fieldCount, numberList, lineText}
-use Rattle.machine.proofs.TextLine.{six-length}
-use Rattle.line.proofs.Writing.{feed-stored}
+use Rattle.machine.specs.Line.{field_count, number_list, line_text}
+use Rattle.machine.proofs.TextLine.{six_length}
+use Rattle.line.proofs.Writing.{feed_stored}
 use Rattle.line.proofs.put_line.Statement.{statement}
 use Rattle.line.proofs.put_line.Tie as tie
 
@@ -15,8 +15,8 @@ same_length c = simp length-set (c.before.before.put-next6.ensures.0 ∙ c.befor
 returns : tie.Need-returns
 returns c =
     let n = c.before.before.before.before.before.before.before.before.before.before.before.before.before.before.before.before.before.before.before.before.before.before.before.before.before.before.before.before.before.args.n in
-    feed-stored (numberList n) fieldCount _ _ refl (c.before.before.put-next6.ensures.3 ∙ c.before.before.before.before.before.before.put-next5.ensures.3 ∙ c.before.before.before.before.before.before.before.before.before.before.put-next4.ensures.3 ∙ c.before.before.before.before.before.before.before.before.before.before.before.before.before.before.put-next3.ensures.3 ∙ c.before.before.before.before.before.before.before.before.before.before.before.before.before.before.before.before.before.before.put-next2.ensures.3 ∙ c.before.before.before.before.before.before.before.before.before.before.before.before.before.before.before.before.before.before.before.before.before.before.put_next.ensures.3)
-    ∙ c.before.before.before.before.before.before.before.before.before.before.before.before.before.before.before.before.before.before.before.before.before.before.before.before.before.before.put-spaces.ensures.2 (lineText (numberList n)) (omega (arith, six-length n))
+    feed_stored (number_list n) field_count _ _ refl (c.before.before.put-next6.ensures.3 ∙ c.before.before.before.before.before.before.put-next5.ensures.3 ∙ c.before.before.before.before.before.before.before.before.before.before.put-next4.ensures.3 ∙ c.before.before.before.before.before.before.before.before.before.before.before.before.before.before.put-next3.ensures.3 ∙ c.before.before.before.before.before.before.before.before.before.before.before.before.before.before.before.before.before.before.put-next2.ensures.3 ∙ c.before.before.before.before.before.before.before.before.before.before.before.before.before.before.before.before.before.before.before.before.before.before.put_next.ensures.3)
+    ∙ c.before.before.before.before.before.before.before.before.before.before.before.before.before.before.before.before.before.before.before.before.before.before.before.before.before.before.put-spaces.ensures.2 (line_text (number_list n)) (omega (arith, six_length n))
 
 pub put-line-spec : {M : Type 1} → statement M
 put-line-spec =

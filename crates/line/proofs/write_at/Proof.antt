@@ -1,6 +1,6 @@
 -- `write_at` meets its contract.
 use native.Mathlib.Omega.{arith}
-use Rattle.line.proofs.Writing.{past-refused, tail_written}
+use Rattle.line.proofs.Writing.{past_refused, tail_written}
 use borrow.Author.Rules.{rules}
 use Rattle.line.proofs.write_at.Statement.{statement}
 use Rattle.line.proofs.write_at.Tie as tie
@@ -8,10 +8,10 @@ use Rattle.line.proofs.write_at.Tie as tie
 returns : tie.Need-returns
 returns c =
     let start = c.before.before in
-    past-refused start.args.out.now start.args.at start.args.n (omega arith)
+    past_refused start.args.out.now start.args.at start.args.n (omega arith)
 
-returns-2 : tie.Need-returns-2
-returns-2 c =
+returns_2 : tie.Need-returns-2
+returns_2 c =
     let start = c.before.before.before.before.before.before in
     tail_written start.args.out.now start.args.at start.args.n _ _ c.before.before.write.ensures
 
@@ -25,4 +25,4 @@ write-at-spec =
     (λ c. search rules)
     (λ c κs. search rules)
     (λ c. search rules)
-    returns-2)
+    returns_2)

@@ -7,19 +7,19 @@ use Rattle.machine.specs.declared.Event.{Event as EventT}
 use Rattle.machine.specs.declared.Module.{Module}
 use Rattle.machine.specs.declared.Wait.{Wait}
 use Rattle.machine.specs.declared.Wait.TheVariants.{None, Normal, Delay, Timed, Period, Semaphore, Event, Sending, Receiving, Blackboard, Source, Destination}
-use Rattle.machine.specs.Process.{blankProcess}
+use Rattle.machine.specs.Process.{blank_process}
 use Rattle.machine.specs.Partition.{process, running}
 use Rattle.machine.specs.Module.{channel}
 use Rattle.machine.specs.Step.{step}
-use Rattle.machine.specs.Theorems.Valid.{Between, Reached, plainLater}
-use Rattle.machine.specs.Theorems.Plain.{at_tick, waitOver}
-use Rattle.machine.specs.Theorems.Events.{own, newProcess}
-use Rattle.machine.specs.Theorems.EachCall.{id_of, periodicAt, nowDormant, with, withPriority}
+use Rattle.machine.specs.Theorems.Valid.{Between, Reached, plain_later}
+use Rattle.machine.specs.Theorems.Plain.{at_tick, wait_over}
+use Rattle.machine.specs.Theorems.Events.{own, new_process}
+use Rattle.machine.specs.Theorems.EachCall.{id_of, periodic_at, now_dormant, with, with_priority}
 
 -- ---------------------------------------------------------------- which calls begin and end waits
 -- the wait that call n begins, by its fields a and b (10 PERIODIC_WAIT has none); none for another
-abbrev pub waitOf : ℕ → ℕ → ℕ → Wait
-waitOf n a b =
+abbrev pub wait_of : ℕ → ℕ → ℕ → Wait
+wait_of n a b =
     cond (eqb n 9) Timed
     (cond (eqb n 10) Period
     (cond (eqb n 15) (Semaphore a)
@@ -31,8 +31,8 @@ waitOf n a b =
     (cond (eqb n 31) (Destination a) None))))))))
 
 -- the wait of a process of its own partition that call n serves, by its field a; who waits to send waits with a message; none for another
-abbrev pub servedBy : ℕ → ℕ → ℕ → Wait
-servedBy n a message =
+abbrev pub served_by : ℕ → ℕ → ℕ → Wait
+served_by n a message =
     cond (eqb n 16) (Semaphore a)
     (cond (eqb n 18) (Event a)
     (cond (eqb n 24) (Receiving a)
@@ -41,18 +41,18 @@ servedBy n a message =
 
 -- ---------------------------------------------------------------- an event and a process
 -- started, with these times, this current priority, this mark and this wait; marks but this one and wake code cleared
-abbrev pub begunWith : Times → ℕ → Bool → Wait → Process → Process
-begunWith s n mark w x = record { given = x.given; times = s; current = n; suspended = mark; missed = false; code = 0; message = x.message; started = true; wait = w }
+abbrev pub begun_with : Times → ℕ → Bool → Wait → Process → Process
+begun_with s n mark w x = record { given = x.given; times = s; current = n; suspended = mark; missed = false; code = 0; message = x.message; started = true; wait = w }
 
 -- it waits for its next release: r rises by the period, w = r, d = r + capacity, or −1
-abbrev pub releasedNext : Process → Process
-releasedNext x =
-    let r = plainLater x.times.release x.given.period in
-    record { given = x.given; times = record { release = r; deadline = plainLater r x.given.capacity; wake = r; delay = x.times.delay }; current = x.current; suspended = x.suspended; missed = x.missed; code = x.code; message = x.message; started = x.started; wait = Period }
+abbrev pub released_next : Process → Process
+released_next x =
+    let r = plain_later x.times.release x.given.period in
+    record { given = x.given; times = record { release = r; deadline = plain_later r x.given.capacity; wake = r; delay = x.times.delay }; current = x.current; suspended = x.suspended; missed = x.missed; code = x.code; message = x.message; started = x.started; wait = Period }
 
 -- the wait that the start rule gives: a periodic process waits for its release, another for nothing or for its delay
 abbrev pub StartWait : Process → Wait → Type 0
-StartWait x w = cond (periodicAt x.given.period) (w ≡ Period) ((w ≡ None) ⊎ (w ≡ Delay))
+StartWait x w = cond (periodic_at x.given.period) (w ≡ Period) ((w ≡ None) ⊎ (w ≡ Delay))
 
 -- an event that answers code, and process id of partition k
 module _ (m : Module) (e : EventT) (code k id : ℕ) where
@@ -98,7 +98,7 @@ module _ (m : Module) (e : EventT) (code k id : ℕ) where
   -- its wait is served: by a call of its partition; by SEND or RECEIVE of the partition at the other end of channel number i + 1; by a restart of the
   -- destination of a channel at whose source it waits
   pub data Service : Type 0 where
-    here : (n message : ℕ) → Call n 0 → was.wait ≡ servedBy n (id_of e.a) message → (was.wait ≡ None → ⊥) → Service
+    here : (n message : ℕ) → Call n 0 → was.wait ≡ served_by n (id_of e.a) message → (was.wait ≡ None → ⊥) → Service
     sent : (i : ℕ) → i < m.table.channelCount → e.partition ≡ pos (channel m.table i).source → e.call ≡ pos 30 → e.a ≡ pos (i + 1) → code ≡ 0
         → k ≡ (channel m.table i).destination → was.wait ≡ Destination (i + 1) → Service
     taken : (i message : ℕ) → i < m.table.channelCount → e.partition ≡ pos (channel m.table i).destination → e.call ≡ pos 31 → e.a ≡ pos (i + 1) → code ≡ 0
@@ -125,30 +125,30 @@ module _ (m : Module) (e : EventT) (code k id : ℕ) where
     -- a tick: w, then d
     ticked : Tick → y ≡ at_tick (m.t + 1) was → Becomes y
     -- 2 CREATE_PROCESS: the next process
-    created : Call 2 0 → was ≡ blankProcess → y ≡ newProcess y.given → Becomes y
+    created : Call 2 0 → was ≡ blank_process → y ≡ new_process y.given → Becomes y
     -- 3 START, 4 DELAYED_START (the times: `EachCall`, `ReleasesAt`)
-    started : StartOf → was.started ≡ false → y ≡ begunWith y.times was.given.base false y.wait was
+    started : StartOf → was.started ≡ false → y ≡ begun_with y.times was.given.base false y.wait was
         → ((own m k).mode ≡ 3 → StartWait was y.wait) → (((own m k).mode ≡ 3 → ⊥) → y.wait ≡ Normal) → Becomes y
     -- 5 STOP, 6 STOP_SELF
-    stopped : StopOf → y ≡ nowDormant was → Becomes y
+    stopped : StopOf → y ≡ now_dormant was → Becomes y
     -- 7 SUSPEND, 8 SUSPEND_SELF: the wait stays
     suspended : CallOf 7 → was.started ≡ true → was.suspended ≡ false → y ≡ with true was.times.wake was.code was.wait was → Becomes y
-    suspendedSelf : CallBy 8 7 → was.wait ≡ None → y ≡ with true y.times.wake was.code None was → Becomes y
+    suspended_self : CallBy 8 7 → was.wait ≡ None → y ≡ with true y.times.wake was.code None was → Becomes y
     -- it waits by its own call n: 9 TIMED_WAIT, or one that waits on an object
-    waiting : (n message : ℕ) → CallBy n 7 → (n ≡ 10 → ⊥) → was.wait ≡ None → (waitOf n (id_of e.a) message ≡ None → ⊥)
-        → y ≡ with was.suspended y.times.wake was.code (waitOf n (id_of e.a) message) was → Becomes y
+    waiting : (n message : ℕ) → CallBy n 7 → (n ≡ 10 → ⊥) → was.wait ≡ None → (wait_of n (id_of e.a) message ≡ None → ⊥)
+        → y ≡ with was.suspended y.times.wake was.code (wait_of n (id_of e.a) message) was → Becomes y
     -- 10 PERIODIC_WAIT
-    released : CallBy 10 7 → was.wait ≡ None → y ≡ releasedNext was → Becomes y
+    released : CallBy 10 7 → was.wait ≡ None → y ≡ released_next was → Becomes y
     -- 11 RESUME: the wait stays
     resumed : CallOf 11 → was.started ≡ true → was.suspended ≡ true → y ≡ with false y.times.wake y.code was.wait was → Becomes y
     -- 12 SET_PRIORITY
-    prioritised : CallOf 12 → was.started ≡ true → y ≡ withPriority (id_of e.b) was → Becomes y
+    prioritised : CallOf 12 → was.started ≡ true → y ≡ with_priority (id_of e.b) was → Becomes y
     -- its wait ends with wake code 0; a message may be handed over
-    served : Service → y ≡ waitOver 0 y.message was → Becomes y
+    served : Service → y ≡ wait_over 0 y.message was → Becomes y
     -- the start rule on entering NORMAL
-    entered : Entry → y ≡ begunWith y.times was.current was.suspended y.wait was → StartWait was y.wait → Becomes y
+    entered : Entry → y ≡ begun_with y.times was.current was.suspended y.wait was → StartWait was y.wait → Becomes y
     -- modes 0, 1, 2: there is no such process any more
-    erased : Erasure → y ≡ blankProcess → Becomes y
+    erased : Erasure → y ≡ blank_process → Becomes y
 
 -- ---------------------------------------------------------------- the whole
 -- every event of every reached record, and each process of each partition

@@ -10,9 +10,9 @@ use Rattle.machine.specs.Process.{ready}
 use Rattle.machine.specs.Partition.{process}
 use Rattle.machine.specs.Step.{step}
 use Rattle.machine.specs.Theorems.Valid.{Between}
-use Rattle.machine.specs.Theorems.Plain.{idsFrom}
+use Rattle.machine.specs.Theorems.Plain.{ids_from}
 use Rattle.machine.specs.Theorems.Events.{own, call_by}
-use Rattle.machine.specs.Theorems.EachCall.{startedAt}
+use Rattle.machine.specs.Theorems.EachCall.{started_at}
 
 abbrev pub enter : ℕ → EventT
 enter k = call_by k 1 (pos 3) (pos 0) (pos 0) (pos 0)
@@ -24,9 +24,9 @@ pub record Enters (m : Module) (k : ℕ) : Type 0 where
   -- an aperiodic one that waits for NORMAL takes the start rule with its delay, keeping its suspended mark and current priority: d = t + delay + capacity, or −1
   pub aperiodic : (id : ℕ) → let x = process id (own m k) in
       let y = process id (own (step m (enter k)).state k) in
-      Between 1 (own m k).processCount id → x.wait ≡ Normal → x.given.period ≡ Never → y ≡ startedAt m.t x.times.delay x.current x.suspended x
+      Between 1 (own m k).processCount id → x.wait ≡ Normal → x.given.period ≡ Never → y ≡ started_at m.t x.times.delay x.current x.suspended x
   -- it is READY where its delay is 0 and it is not suspended
-  pub readyAt : (id : ℕ) → let x = process id (own m k) in
+  pub ready_at : (id : ℕ) → let x = process id (own m k) in
       let y = process id (own (step m (enter k)).state k) in
       Between 1 (own m k).processCount id → x.wait ≡ Normal → x.given.period ≡ Never → ready y ≡ (not x.suspended && eqb x.times.delay 0)
   -- who does not wait for NORMAL stays
@@ -35,4 +35,4 @@ pub record Enters (m : Module) (k : ℕ) : Type 0 where
       Between 1 (own m k).processCount id → (x.wait ≡ Normal → ⊥) → y ≡ x
   -- the arrival list holds the READY ones by ascending id
   pub arrival : let q = own (step m (enter k)).state k in
-      members q.arrival ≡ kept (λ id. ready (process id q)) (idsFrom (own m k).processCount 1)
+      members q.arrival ≡ kept (λ id. ready (process id q)) (ids_from (own m k).processCount 1)

@@ -9,14 +9,14 @@ use Rattle.machine.specs.declared.Module.{Module}
 use Rattle.machine.specs.declared.Wait.TheVariants.{None}
 use Rattle.machine.specs.declared.Time.{Time}
 use Rattle.machine.specs.declared.Time.TheVariants.{Never, At}
-use Rattle.machine.specs.Limits.{durationLimit}
+use Rattle.machine.specs.Limits.{duration_limit}
 use Rattle.machine.specs.Ids.{members, ids_of, kept, other}
-use Rattle.machine.specs.Partition.{semaphore, running, withProcesses, withSemaphores, withEvents, withBuffers, withBlackboards}
-use Rattle.machine.specs.Messages.{queueOf}
-use Rattle.machine.specs.Module.{part, current, withPart}
+use Rattle.machine.specs.Partition.{semaphore, running, with_processes, with_semaphores, with_events, with_buffers, with_blackboards}
+use Rattle.machine.specs.Messages.{queue_of}
+use Rattle.machine.specs.Module.{part, current, with_part}
 use Rattle.machine.specs.Step.{step}
 use Rattle.machine.specs.Theorems.Valid.{Reached}
-use Rattle.machine.specs.Theorems.Plain.{plainBetween, plainMinusOne}
+use Rattle.machine.specs.Theorems.Plain.{plain_between, plain_minus_one}
 
 -- ---------------------------------------------------------------- events, and what they give
 -- partition k's record
@@ -33,9 +33,9 @@ tick = call_by 0 0 (pos 0) (pos 0) (pos 0) (pos 0)
 
 -- the answer begins with these three numbers, and this is the record after the event
 pub record Gives (m : Module) (e : EventT) (code value : ℕ) (extra : Time) (q : Module) : Type 0 where
-  pub codeIs : (step m e).answer.code ≡ code
-  pub valueIs : (step m e).answer.value ≡ value
-  pub extraIs : (step m e).answer.extra ≡ extra
+  pub code_is : (step m e).answer.code ≡ code
+  pub value_is : (step m e).answer.value ≡ value
+  pub extra_is : (step m e).answer.extra ≡ extra
   pub state : (step m e).state ≡ q
 
 -- refused with this code; the whole record stays
@@ -44,11 +44,11 @@ Refuses m e code = Gives m e code 0 (At 0) m
 
 -- a time-out: −1, or 0..9,999,999
 abbrev pub TimeOut : ℤ → Type 0
-TimeOut a = (plainMinusOne a || plainBetween 0 durationLimit a) ≡ true
+TimeOut a = (plain_minus_one a || plain_between 0 duration_limit a) ≡ true
 
 -- partition k has the record p from now on, and nothing else changes
 abbrev pub Puts : Module → EventT → ℕ → ℕ → ℕ → Partition → Type 0
-Puts m e code value k p = Gives m e code value (At 0) (withPart (k - 1) p m)
+Puts m e code value k p = Gives m e code value (At 0) (with_part (k - 1) p m)
 
 -- a call of partition k comes to its body: the record is reached, the partition is current and not IDLE, and in NORMAL a process runs
 pub record Calling (m : Module) (k : ℕ) : Type 0 where
@@ -60,37 +60,37 @@ pub record Calling (m : Module) (k : ℕ) : Type 0 where
 
 -- ---------------------------------------------------------------- the record after
 -- process id, which waits on nothing before and after, has the record x; the arrival list is this one
-abbrev pub withProcess : ℕ → Process → Ids → Partition → Partition
-withProcess id x arrival p = withProcesses (set p.processes (id - 1) x) p.processCount arrival p.waiting p
+abbrev pub with_process : ℕ → Process → Ids → Partition → Partition
+with_process id x arrival p = with_processes (set p.processes (id - 1) x) p.processCount arrival p.waiting p
 
 -- the arrival list without an id, and with it at its end
 abbrev pub without : ℕ → Ids → Ids
 without id q = ids_of (kept (other id) (members q))
 
-abbrev pub atEnd : ℕ → Ids → Ids
-atEnd id q = ids_of (kept (other id) (members q) ++ (id ∷ []))
+abbrev pub at_end : ℕ → Ids → Ids
+at_end id q = ids_of (kept (other id) (members q) ++ (id ∷ []))
 
 -- one more process. Created, it is DORMANT: four fields as given, no wait, r, d, w −1, the rest (current priority too) 0.
-abbrev pub newProcess : Given → Process
-newProcess g = record { given = g; times = record { release = Never; deadline = Never; wake = Never; delay = 0 }; current = 0; suspended = false; missed = false; code = 0; message = 0; started = false; wait = None }
+abbrev pub new_process : Given → Process
+new_process g = record { given = g; times = record { release = Never; deadline = Never; wake = Never; delay = 0 }; current = 0; suspended = false; missed = false; code = 0; message = 0; started = false; wait = None }
 
-abbrev pub withNew : Given → Partition → Partition
-withNew g p = withProcesses (set p.processes p.processCount (newProcess g)) (p.processCount + 1) p.arrival p.waiting p
+abbrev pub with_new : Given → Partition → Partition
+with_new g p = with_processes (set p.processes p.processCount (new_process g)) (p.processCount + 1) p.arrival p.waiting p
 
 -- one more semaphore, one more event (DOWN)
-abbrev pub withNewSemaphore : ℕ → ℕ → ℕ → Partition → Partition
-withNewSemaphore name start max p = withSemaphores (set p.semaphores p.semaphoreCount (record { name = name; value = start; max = max })) (p.semaphoreCount + 1) p
+abbrev pub with_new_semaphore : ℕ → ℕ → ℕ → Partition → Partition
+with_new_semaphore name start max p = with_semaphores (set p.semaphores p.semaphoreCount (record { name = name; value = start; max = max })) (p.semaphoreCount + 1) p
 
-abbrev pub withNewEvent : ℕ → Partition → Partition
-withNewEvent name p = withEvents (set p.events p.eventCount (record { name = name; up = false })) (p.eventCount + 1) p
+abbrev pub with_new_event : ℕ → Partition → Partition
+with_new_event name p = with_events (set p.events p.eventCount (record { name = name; up = false })) (p.eventCount + 1) p
 
 -- one more buffer, one more blackboard, with nothing in them
-abbrev pub withNewBuffer : ℕ → ℕ → Partition → Partition
-withNewBuffer name limit p = withBuffers (set p.buffers p.bufferCount (record { name = name; limit = limit; queue = queueOf [] })) (p.bufferCount + 1) p
+abbrev pub with_new_buffer : ℕ → ℕ → Partition → Partition
+with_new_buffer name limit p = with_buffers (set p.buffers p.bufferCount (record { name = name; limit = limit; queue = queue_of [] })) (p.bufferCount + 1) p
 
-abbrev pub withNewBlackboard : ℕ → Partition → Partition
-withNewBlackboard name p = withBlackboards (set p.blackboards p.blackboardCount (record { name = name; shown = false; message = 0 })) (p.blackboardCount + 1) p
+abbrev pub with_new_blackboard : ℕ → Partition → Partition
+with_new_blackboard name p = with_blackboards (set p.blackboards p.blackboardCount (record { name = name; shown = false; message = 0 })) (p.blackboardCount + 1) p
 
 -- semaphore j has this value
-abbrev pub withSemaphoreAt : ℕ → ℕ → Partition → Partition
-withSemaphoreAt j n p = withSemaphores (set p.semaphores (j - 1) (record { name = (semaphore j p).name; value = n; max = (semaphore j p).max })) p.semaphoreCount p
+abbrev pub with_semaphore_at : ℕ → ℕ → Partition → Partition
+with_semaphore_at j n p = with_semaphores (set p.semaphores (j - 1) (record { name = (semaphore j p).name; value = n; max = (semaphore j p).max })) p.semaphoreCount p

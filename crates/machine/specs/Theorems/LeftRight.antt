@@ -7,29 +7,29 @@ use Rattle.machine.specs.declared.EventRecord.{EventRecord}
 use Rattle.machine.specs.declared.Wait.TheVariants.{Source, Destination}
 use Rattle.machine.specs.Process.{object, carried}
 use Rattle.machine.specs.Partition.{process, waiters}
-use Rattle.machine.specs.Module.{current, runningIn, part, message, queue, channel}
+use Rattle.machine.specs.Module.{current, running_in, part, message, queue, channel}
 use Rattle.machine.specs.Channels.{queuing}
 use Rattle.machine.specs.Runs.{keep, after, answers}
 
 -- no number below 0 is in S
-abbrev pub memberOf : (ℕ → Bool) → ℤ → Bool
-memberOf S (pos k) = S k
-memberOf S (negsuc k) = false
+abbrev pub member_of : (ℕ → Bool) → ℤ → Bool
+member_of S (pos k) = S k
+member_of S (negsuc k) = false
 
 abbrev pub is_zero : ℤ → Bool
-is_zero z = memberOf (λ k. eqb k 0) z
+is_zero z = member_of (λ k. eqb k 0) z
 
-abbrev pub isTick : Event → Bool
-isTick e = is_zero e.partition && is_zero e.call
+abbrev pub is_tick : Event → Bool
+is_tick e = is_zero e.partition && is_zero e.call
 
 -- Common and free, document 01's terms: an event is common if it is a tick or its partition is in S, refused or not. Every other
 -- event is free, also one that gets 13.
 abbrev pub common : (ℕ → Bool) → Event → Bool
-common S e = isTick e || memberOf S e.partition
+common S e = is_tick e || member_of S e.partition
 
 -- only where the event's partition is 0 and the current partition after it is outside S is the running process left out
-abbrev pub leftOut : (ℕ → Bool) → EventRecord → Bool
-leftOut S r = is_zero r.event.partition && not (S r.answer.current)
+abbrev pub left_out : (ℕ → Bool) → EventRecord → Bool
+left_out S r = is_zero r.event.partition && not (S r.answer.current)
 
 abbrev pub shown : (ℕ → Bool) → EventRecord → EventRecord
 shown S r = record {
@@ -40,13 +40,13 @@ shown S r = record {
     extra = r.answer.extra;
     t = r.answer.t;
     current = r.answer.current;
-    running = cond (leftOut S r) 0 r.answer.running;
+    running = cond (left_out S r) 0 r.answer.running;
   };
 }
 
 -- the answers to the common events, in order
-abbrev pub commonAnswers : (ℕ → Bool) → Module → List Event → List EventRecord
-commonAnswers S m es = map (shown S) (keep (λ (r : EventRecord). common S r.event) (answers m es))
+abbrev pub common_answers : (ℕ → Bool) → Module → List Event → List EventRecord
+common_answers S m es = map (shown S) (keep (λ (r : EventRecord). common S r.event) (answers m es))
 
 -- a set of the numbers 1..P, none or all of them too
 abbrev pub Within : Table → (ℕ → Bool) → Type 0
@@ -62,13 +62,13 @@ Closed T S =
     (S (channel T i).destination ≡ true → S (channel T i).source ≡ true)
 
 -- the waiters at both ends of channel number i + 1, with the messages of the senders
-abbrev pub sendersAt : ℕ → Module → List (ℕ × ℕ)
-sendersAt i m =
+abbrev pub senders_at : ℕ → Module → List (ℕ × ℕ)
+senders_at i m =
     let p = part m ((channel m.table i).source - 1) in
     map (λ id. (id, carried (process id p))) (waiters (object (Source (i + 1) 0)) p)
 
-abbrev pub receiversAt : ℕ → Module → List ℕ
-receiversAt i m = waiters (object (Destination (i + 1))) (part m ((channel m.table i).destination - 1))
+abbrev pub receivers_at : ℕ → Module → List ℕ
+receivers_at i m = waiters (object (Destination (i + 1))) (part m ((channel m.table i).destination - 1))
 
 -- At the end these are equal: t, the current partition, the whole record of each partition in S, on each channel into S the message and
 -- its time, or none, of each queuing channel of S the queue and the waiters at both ends, and the running process where the current partition
@@ -79,9 +79,9 @@ pub record EqualIn (T : Table) (S : ℕ → Bool) (m n : Module) : Type 0 where
   pub records : (k : ℕ) → S k ≡ true → part m (k - 1) ≡ part n (k - 1)
   pub messages : (i : ℕ) → i < T.channelCount → S (channel T i).destination ≡ true → message m i ≡ message n i
   pub queues : (i : ℕ) → i < T.channelCount → queuing (channel T i) ≡ true → S (channel T i).destination ≡ true → queue m i ≡ queue n i
-  pub senders : (i : ℕ) → i < T.channelCount → queuing (channel T i) ≡ true → S (channel T i).destination ≡ true → sendersAt i m ≡ sendersAt i n
-  pub receivers : (i : ℕ) → i < T.channelCount → queuing (channel T i) ≡ true → S (channel T i).destination ≡ true → receiversAt i m ≡ receiversAt i n
-  pub process : S (current m) ≡ true → runningIn (current m) m ≡ runningIn (current n) n
+  pub senders : (i : ℕ) → i < T.channelCount → queuing (channel T i) ≡ true → S (channel T i).destination ≡ true → senders_at i m ≡ senders_at i n
+  pub receivers : (i : ℕ) → i < T.channelCount → queuing (channel T i) ≡ true → S (channel T i).destination ≡ true → receivers_at i m ≡ receivers_at i n
+  pub process : S (current m) ≡ true → running_in (current m) m ≡ running_in (current n) n
 
 -- the claim for a record that both runs start from: without their free events both lists are equal; then the common answers are the
 -- same in order, all six numbers, but for the running process where it is left out, and what is equal at the end
@@ -89,4 +89,4 @@ abbrev pub LeftRight : Module → Type 0
 LeftRight m =
     (S : ℕ → Bool) → Within m.table S → Closed m.table S
     → (left right : List Event) → keep (common S) left ≡ keep (common S) right
-    → (commonAnswers S m left ≡ commonAnswers S m right) × EqualIn m.table S (after m left) (after m right)
+    → (common_answers S m left ≡ common_answers S m right) × EqualIn m.table S (after m left) (after m right)

@@ -5,10 +5,10 @@ use Rattle.std.specs.Prelude.{ℕ, ◌≤◌, ◌<◌, ◌≡◌, Bool, true, Li
 use Rattle.machine.specs.declared.Event.{Event as EventT}
 use Rattle.machine.specs.declared.Partition.{Partition}
 use Rattle.machine.specs.declared.Module.{Module}
-use Rattle.machine.specs.Limits.{levelLimit}
+use Rattle.machine.specs.Limits.{level_limit}
 use Rattle.machine.specs.Process.{ready}
 use Rattle.machine.specs.Partition.{process}
-use Rattle.machine.specs.Module.{current, runningIn}
+use Rattle.machine.specs.Module.{current, running_in}
 use Rattle.machine.specs.Step.{step}
 use Rattle.machine.specs.Runs.{keep, after}
 use Rattle.machine.specs.Theorems.LeftRight.{common, Within, Closed}
@@ -18,13 +18,13 @@ use Rattle.machine.specs.Theorems.Events.{own}
 -- ---------------------------------------------------------------- every reached record
 pub record LockHolds (m : Module) (k : ℕ) : Type 0 where
   -- a level 0..16
-  pub few : (own m k).level ≤ levelLimit
+  pub few : (own m k).level ≤ level_limit
   -- outside NORMAL the level is 0; at level 0 there is no holder
   pub outside : ((own m k).mode ≡ 3 → ⊥) → (own m k).level ≡ 0
   pub free : (own m k).level ≡ 0 → (own m k).holder ≡ 0
   -- a level above 0 has a READY holder, and it is the running process where its partition is current
   pub held : 0 < (own m k).level → ready (process (own m k).holder (own m k)) ≡ true
-  pub runs : 0 < (own m k).level → current m ≡ k → runningIn (current m) m ≡ (own m k).holder
+  pub runs : 0 < (own m k).level → current m ≡ k → running_in (current m) m ≡ (own m k).holder
 
 -- ---------------------------------------------------------------- what reaches a lock
 pub record SameLock (p q : Partition) : Type 0 where

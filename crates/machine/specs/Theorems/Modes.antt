@@ -10,27 +10,27 @@ use Rattle.machine.specs.Theorems.Events.{own, call_by, Calling}
 use Rattle.machine.specs.Theorems.Account.{is_call, code_at}
 
 -- the modes to which call 1 leads, by the mode before it: from IDLE none, from COLD_START 0, 1, 3, from WARM_START 0, 1, 2, 3, from NORMAL 0, 1, 2
-abbrev pub leadsTo : ℕ → List ℕ
-leadsTo mode = get_or ([] ∷ (0 ∷ 1 ∷ 3 ∷ []) ∷ (0 ∷ 1 ∷ 2 ∷ 3 ∷ []) ∷ (0 ∷ 1 ∷ 2 ∷ []) ∷ []) mode []
+abbrev pub leads_to : ℕ → List ℕ
+leads_to mode = get_or ([] ∷ (0 ∷ 1 ∷ 3 ∷ []) ∷ (0 ∷ 1 ∷ 2 ∷ 3 ∷ []) ∷ (0 ∷ 1 ∷ 2 ∷ []) ∷ []) mode []
 
 -- an accepted call 1 of partition k
-abbrev pub setsMode : ℕ → Module → EventT → Bool
-setsMode k m e = is_call k 1 e && eqb (code_at m e) 0
+abbrev pub sets_mode : ℕ → Module → EventT → Bool
+sets_mode k m e = is_call k 1 e && eqb (code_at m e) 0
 
 -- the mode of partition k after an event
 pub record ModeAfter (m : Module) (e : EventT) (k : ℕ) : Type 0 where
   -- an accepted call 1 sets the mode that it names, one of these, and NORMAL only where a process has been created
   pub set : let p = own m k in
       let q = own (step m e).state k in
-      setsMode k m e ≡ true → (e.a ≡ pos q.mode) × (contains q.mode (leadsTo p.mode) ≡ true) × (q.mode ≡ 3 → 1 ≤ p.processCount)
+      sets_mode k m e ≡ true → (e.a ≡ pos q.mode) × (contains q.mode (leads_to p.mode) ≡ true) × (q.mode ≡ 3 → 1 ≤ p.processCount)
   -- every other event leaves the mode
-  pub kept : setsMode k m e ≡ false → (own (step m e).state k).mode ≡ (own m k).mode
+  pub kept : sets_mode k m e ≡ false → (own (step m e).state k).mode ≡ (own m k).mode
 
 pub record Modes : Type 0 where
   -- every event of every reached record
   pub event : (m : Module) → Reached m → (e : EventT) (k : ℕ) → Between 1 m.table.size k → ModeAfter m e k
   -- each of these modes is set where the call comes to its body
-  pub accepted : (m : Module) (k : ℕ) → Calling m k → (mode : ℕ) → contains mode (leadsTo (own m k).mode) ≡ true → (mode ≡ 3 → 1 ≤ (own m k).processCount)
+  pub accepted : (m : Module) (k : ℕ) → Calling m k → (mode : ℕ) → contains mode (leads_to (own m k).mode) ≡ true → (mode ≡ 3 → 1 ≤ (own m k).processCount)
       → (step m (call_by k 1 (pos mode) (pos 0) (pos 0) (pos 0))).answer.code ≡ 0
   -- IDLE is final: over every list of events the whole record of the partition stays
   pub final : (m : Module) → Reached m → (k : ℕ) → Between 1 m.table.size k → (own m k).mode ≡ 0 → (es : List EventT) → own (after m es) k ≡ own m k

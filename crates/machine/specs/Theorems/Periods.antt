@@ -8,18 +8,18 @@ use Rattle.machine.specs.Partition.{process, running}
 use Rattle.machine.specs.Step.{step}
 use Rattle.machine.specs.Runs.{after}
 use Rattle.machine.specs.Theorems.Valid.{Between, Reached}
-use Rattle.machine.specs.Theorems.Plain.{plainNumber}
+use Rattle.machine.specs.Theorems.Plain.{plain_number}
 use Rattle.machine.specs.Theorems.Events.{own}
 use Rattle.machine.specs.Theorems.EachProcess.{StopOf, Erasure}
 
 -- an event is 10 PERIODIC_WAIT by process id of partition k, answered 7
-abbrev pub waitsPeriod : Module → EventT → ℕ → ℕ → Bool
-waitsPeriod m e k id = eqb (step m e).answer.code 7 && (plainNumber k e.partition && (plainNumber 10 e.call && eqb id (running (own m k))))
+abbrev pub waits_period : Module → EventT → ℕ → ℕ → Bool
+waits_period m e k id = eqb (step m e).answer.code 7 && (plain_number k e.partition && (plain_number 10 e.call && eqb id (running (own m k))))
 
 -- how many events of a list are
-unfoldable pub periodWaits : ℕ → ℕ → Module → List EventT → ℕ
-periodWaits k id m [] = 0
-periodWaits k id m (e ∷ es) = cond (waitsPeriod m e k id) 1 0 + periodWaits k id (step m e).state es
+unfoldable pub period_waits : ℕ → ℕ → Module → List EventT → ℕ
+period_waits k id m [] = 0
+period_waits k id m (e ∷ es) = cond (waits_period m e k id) 1 0 + period_waits k id (step m e).state es
 
 -- no event of a list stops the process or erases it
 unfoldable pub NeverStopped : ℕ → ℕ → Module → List EventT → Type 0
@@ -35,4 +35,4 @@ pub record Periods : Type 0 where
   -- r after = r before + period × its PERIODIC_WAITs answered 7
   pub strict : (m : Module) → Reached m → (es : List EventT) (k id n r : ℕ) → let x = process id (own m k) in
       Between 1 m.table.size k → (own m k).mode ≡ 3 → x.started ≡ true → x.given.period ≡ At n → x.times.release ≡ At r → NeverStopped k id m es
-      → (process id (own (after m es) k)).times.release ≡ At (r + n * periodWaits k id m es)
+      → (process id (own (after m es) k)).times.release ≡ At (r + n * period_waits k id m es)

@@ -15,7 +15,7 @@ use Rattle.machine.specs.Theorems.Valid.{Between, Reached, contains}
 use Rattle.machine.specs.Theorems.Plain.{come}
 use Rattle.machine.specs.Theorems.Events.{own, call_by}
 use Rattle.machine.specs.Theorems.EachCall.{id_of}
-use Rattle.machine.specs.Theorems.EachProcess.{waitOf, CallOf, CallBy, Tick, StartOf, StopOf, Erasure, Entry, Service}
+use Rattle.machine.specs.Theorems.EachProcess.{wait_of, CallOf, CallBy, Tick, StartOf, StopOf, Erasure, Entry, Service}
 
 -- ---------------------------------------------------------------- which changes there are
 -- the wait that a call by process id begins, which answers 7
@@ -23,7 +23,7 @@ pub record OwnWait (m : Module) (e : EventT) (code k id : ℕ) (w : Wait) : Type
   pub number : ℕ
   pub message : ℕ
   pub call : CallBy m e code k id number 7
-  pub is : w ≡ waitOf number (id_of e.a) message
+  pub is : w ≡ wait_of number (id_of e.a) message
 
 -- an event that answers code, and process id of partition k, whose record is x before it and y after it: what alone changes its state
 pub record StateChanges (m : Module) (e : EventT) (code k id : ℕ) (x y : Process) : Type 0 where

@@ -7,7 +7,7 @@ use Rattle.machine.specs.declared.Time.TheVariants.{At}
 use Rattle.machine.specs.Partition.{process}
 use Rattle.machine.specs.Step.{step}
 use Rattle.machine.specs.Theorems.Valid.{Between}
-use Rattle.machine.specs.Windows.{windows, noWindow, releasePoint}
+use Rattle.machine.specs.Windows.{windows, no_window, release_point}
 use Rattle.machine.specs.Theorems.Starts.{WindowAt, NextFlagged, Release}
 use Rattle.machine.specs.Theorems.Events.{own, call_by}
 use Rattle.machine.specs.Theorems.Starred.{ReleasesAt}
@@ -21,7 +21,7 @@ LastFlagged T k s = WindowAt T k true s × ((y : ℕ) → WindowAt T k true y �
 
 pub record Releases (m : Module) (k : ℕ) : Type 0 where
   -- there is an earliest start, which is the machine's release point, and one only
-  pub some : Release m.table k m.t (releasePoint m.table m.t k)
+  pub some : Release m.table k m.t (release_point m.table m.t k)
   pub one : (r s : ℕ) → Release m.table k m.t r → Release m.table k m.t s → r ≡ s
   -- it lies in this frame or in the next one, M ticks ahead at most
   pub near : (r : ℕ) → Release m.table k m.t r → r ≤ m.t + m.table.frame
@@ -31,7 +31,7 @@ pub record Releases (m : Module) (k : ℕ) : Type 0 where
       let x = m.t % T.frame in
       WindowAt T k true s → x ≡ s → NextFlagged T k x next → ReleasesAt m k (q * T.frame + next)
   -- and at or after the frame's last one, the first of the next frame
-  pub atLast : (s first : ℕ) → let T = m.table in
+  pub at_last : (s first : ℕ) → let T = m.table in
       let q = m.t / T.frame in
       let x = m.t % T.frame in
       LastFlagged T k s → s ≤ x → FirstFlagged T k first → ReleasesAt m k ((q + 1) * T.frame + first)
@@ -41,7 +41,7 @@ pub record Releases (m : Module) (k : ℕ) : Type 0 where
       let x = m.t % T.frame in
       WindowAt T k true s → ((y : ℕ) → WindowAt T k true y → y ≡ s) → s ≤ x → ReleasesAt m k ((q + 1) * T.frame + s)
   -- windows without the flag are passed over: one that starts before the next flagged one
-  pub passedOver : (u s : ℕ) → let T = m.table in
+  pub passed_over : (u s : ℕ) → let T = m.table in
       let q = m.t / T.frame in
       let x = m.t % T.frame in
       WindowAt T k false u → x < u → u < s → NextFlagged T k x s → ReleasesAt m k (q * T.frame + s)
@@ -50,5 +50,5 @@ pub record Releases (m : Module) (k : ℕ) : Type 0 where
       let p = own m k in
       let e = call_by k 3 (pos id) (pos 0) (pos 0) (pos 0) in
       p.mode ≡ 3 → Between 1 p.processCount id → (process id p).started ≡ false → (process id p).given.period ≡ At n
-      → (process id (own (step m e).state k)).times.release ≡ At r → i < length (windows T) → (get_or (windows T) i noWindow).start ≡ r % T.frame
-      → ((get_or (windows T) i noWindow).partition ≡ k) × ((get_or (windows T) i noWindow).flag ≡ true)
+      → (process id (own (step m e).state k)).times.release ≡ At r → i < length (windows T) → (get_or (windows T) i no_window).start ≡ r % T.frame
+      → ((get_or (windows T) i no_window).partition ≡ k) × ((get_or (windows T) i no_window).flag ≡ true)

@@ -7,13 +7,13 @@ use Rattle.machine.specs.declared.Table.{Table}
 use Rattle.machine.specs.declared.Module.{Module}
 use Rattle.machine.specs.declared.Wait.TheVariants.{Semaphore, Event, Sending, Receiving, Blackboard, Source, Destination}
 use Rattle.machine.specs.Process.{object}
-use Rattle.machine.specs.Partition.{waitsOn, waiters}
+use Rattle.machine.specs.Partition.{waits_on, waiters}
 use Rattle.machine.specs.Module.{channel}
 use Rattle.machine.specs.Step.{step}
 use Rattle.machine.specs.Runs.{keep, after, answers}
 use Rattle.machine.specs.Theorems.Valid.{Between, Reached}
 use Rattle.machine.specs.Theorems.Events.{own}
-use Rattle.machine.specs.Theorems.Account.{place_in, restartsBy}
+use Rattle.machine.specs.Theorems.Account.{place_in, restarts_by}
 use Rattle.machine.specs.Theorems.Latest.{done}
 
 -- ---------------------------------------------------------------- queues and their services
@@ -24,34 +24,34 @@ pub record ServedQueue : Type 0 where
   pub serves : EventRecord → Bool
 
 -- semaphore j: SIGNAL; event j: SET_EVENT; blackboard j: SHOW (the last two serve all)
-abbrev pub ofSemaphore : ℕ → ℕ → ServedQueue
-ofSemaphore k j = record { at = k; on = object (Semaphore j); serves = done k 16 j }
+abbrev pub of_semaphore : ℕ → ℕ → ServedQueue
+of_semaphore k j = record { at = k; on = object (Semaphore j); serves = done k 16 j }
 
-abbrev pub ofEvent : ℕ → ℕ → ServedQueue
-ofEvent k j = record { at = k; on = object (Event j); serves = done k 18 j }
+abbrev pub of_event : ℕ → ℕ → ServedQueue
+of_event k j = record { at = k; on = object (Event j); serves = done k 18 j }
 
-abbrev pub ofBoard : ℕ → ℕ → ServedQueue
-ofBoard k j = record { at = k; on = object (Blackboard j); serves = done k 27 j }
+abbrev pub of_board : ℕ → ℕ → ServedQueue
+of_board k j = record { at = k; on = object (Blackboard j); serves = done k 27 j }
 
 -- buffer j: receivers by SEND_BUFFER, senders by RECEIVE_BUFFER
-abbrev pub ofReceivers : ℕ → ℕ → ServedQueue
-ofReceivers k j = record { at = k; on = object (Receiving j); serves = done k 24 j }
+abbrev pub of_receivers : ℕ → ℕ → ServedQueue
+of_receivers k j = record { at = k; on = object (Receiving j); serves = done k 24 j }
 
-abbrev pub ofSenders : ℕ → ℕ → ServedQueue
-ofSenders k j = record { at = k; on = object (Sending j 0); serves = done k 25 j }
+abbrev pub of_senders : ℕ → ℕ → ServedQueue
+of_senders k j = record { at = k; on = object (Sending j 0); serves = done k 25 j }
 
 -- channel number i + 1: at its destination by SEND of its source, at its source by RECEIVE of its destination and by its restart, which lets them in
-abbrev pub atDestination : Table → ℕ → ServedQueue
-atDestination T i = let c = channel T i in record { at = c.destination; on = object (Destination (i + 1)); serves = done c.source 30 (i + 1) }
+abbrev pub at_destination : Table → ℕ → ServedQueue
+at_destination T i = let c = channel T i in record { at = c.destination; on = object (Destination (i + 1)); serves = done c.source 30 (i + 1) }
 
-abbrev pub atSource : Table → ℕ → ServedQueue
-atSource T i = let c = channel T i in record { at = c.source; on = object (Source (i + 1) 0); serves = λ r. done c.destination 31 (i + 1) r || restartsBy c.destination r.event r.answer.code }
+abbrev pub at_source : Table → ℕ → ServedQueue
+at_source T i = let c = channel T i in record { at = c.source; on = object (Source (i + 1) 0); serves = λ r. done c.destination 31 (i + 1) r || restarts_by c.destination r.event r.answer.code }
 
 -- ---------------------------------------------------------------- while a process waits
 -- process id of partition k waits on the object in the record, and after each event of the list
 unfoldable pub WaitsThroughout : ℕ → ℕ → ℕ → Module → List EventT → Type 0
-WaitsThroughout k o id m [] = waitsOn o (own m k) id ≡ true
-WaitsThroughout k o id m (e ∷ es) = (waitsOn o (own m k) id ≡ true) × WaitsThroughout k o id (step m e).state es
+WaitsThroughout k o id m [] = waits_on o (own m k) id ≡ true
+WaitsThroughout k o id m (e ∷ es) = (waits_on o (own m k) id ≡ true) × WaitsThroughout k o id (step m e).state es
 
 -- how many stand before it in the queue
 abbrev pub before : ServedQueue → ℕ → Module → ℕ
@@ -65,10 +65,10 @@ pub record ServedBefore : Type 0 where
   -- no event puts another before a process that goes on waiting, whatever the object
   pub order : (m : Module) → Reached m → (k : ℕ) → Between 1 m.table.size k → (o id : ℕ) → (o ≡ 0 → ⊥) → (es : List EventT) → WaitsThroughout k o id m es
       → place_in (waiters o (own (after m es) k)) id ≤ place_in (waiters o (own m k)) id
-  pub semaphore : (m : Module) → Reached m → (k : ℕ) → Between 1 m.table.size k → (j : ℕ) → Counts (ofSemaphore k j) m
-  pub event : (m : Module) → Reached m → (k : ℕ) → Between 1 m.table.size k → (j : ℕ) → Counts (ofEvent k j) m
-  pub board : (m : Module) → Reached m → (k : ℕ) → Between 1 m.table.size k → (j : ℕ) → Counts (ofBoard k j) m
-  pub receivers : (m : Module) → Reached m → (k : ℕ) → Between 1 m.table.size k → (j : ℕ) → Counts (ofReceivers k j) m
-  pub senders : (m : Module) → Reached m → (k : ℕ) → Between 1 m.table.size k → (j : ℕ) → Counts (ofSenders k j) m
-  pub destination : (m : Module) → Reached m → (i : ℕ) → i < m.table.channelCount → Counts (atDestination m.table i) m
-  pub source : (m : Module) → Reached m → (i : ℕ) → i < m.table.channelCount → ((channel m.table i).size ≡ 0 → ⊥) → Counts (atSource m.table i) m
+  pub semaphore : (m : Module) → Reached m → (k : ℕ) → Between 1 m.table.size k → (j : ℕ) → Counts (of_semaphore k j) m
+  pub event : (m : Module) → Reached m → (k : ℕ) → Between 1 m.table.size k → (j : ℕ) → Counts (of_event k j) m
+  pub board : (m : Module) → Reached m → (k : ℕ) → Between 1 m.table.size k → (j : ℕ) → Counts (of_board k j) m
+  pub receivers : (m : Module) → Reached m → (k : ℕ) → Between 1 m.table.size k → (j : ℕ) → Counts (of_receivers k j) m
+  pub senders : (m : Module) → Reached m → (k : ℕ) → Between 1 m.table.size k → (j : ℕ) → Counts (of_senders k j) m
+  pub destination : (m : Module) → Reached m → (i : ℕ) → i < m.table.channelCount → Counts (at_destination m.table i) m
+  pub source : (m : Module) → Reached m → (i : ℕ) → i < m.table.channelCount → ((channel m.table i).size ≡ 0 → ⊥) → Counts (at_source m.table i) m

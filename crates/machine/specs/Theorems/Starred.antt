@@ -11,46 +11,46 @@ use Rattle.machine.specs.declared.Module.{Module}
 use Rattle.machine.specs.declared.Wait.TheVariants.{None, Normal, Delay, Timed, Period, Semaphore, Event, Sending, Receiving, Blackboard, Source, Destination}
 use Rattle.machine.specs.declared.Time.{Time}
 use Rattle.machine.specs.declared.Time.TheVariants.{Never, At}
-use Rattle.machine.specs.Limits.{processLimit, semaphoreLimit, eventLimit, bufferLimit, messageLimit, blackboardLimit, nameLimit, priorityLimit, valueLimit, modeLimit, callLimit, levelLimit, durationLimit, timeLimit, frameLimit, partitionLimit, windowLimit, channelLimit, sizeLimit, numberLimit, lineLength}
+use Rattle.machine.specs.Limits.{process_limit, semaphore_limit, event_limit, buffer_limit, message_limit, blackboard_limit, name_limit, priority_limit, value_limit, mode_limit, call_limit, level_limit, duration_limit, time_limit, frame_limit, partition_limit, window_limit, channel_limit, size_limit, number_limit, line_length}
 use Rattle.machine.specs.Ids.{members}
-use Rattle.machine.specs.Process.{object, carried, ready, withCurrent}
-use Rattle.machine.specs.Partition.{process, semaphore, event, buffer, blackboard, waiters, running, nothingCreated, withProcesses}
+use Rattle.machine.specs.Process.{object, carried, ready, with_current}
+use Rattle.machine.specs.Partition.{process, semaphore, event, buffer, blackboard, waiters, running, nothing_created, with_processes}
 use Rattle.machine.specs.Messages.{held}
 use Rattle.machine.specs.Theorems.Starts.{Release, NextFlagged}
 use Rattle.machine.specs.Module.{part, message, queue, channel, current}
 use Rattle.machine.specs.Step.{step}
-use Rattle.machine.specs.Theorems.Valid.{Between, SoundPeriod, SoundCapacity, Reached, contains, plainLater}
+use Rattle.machine.specs.Theorems.Valid.{Between, SoundPeriod, SoundCapacity, Reached, contains, plain_later}
 use Rattle.machine.specs.Theorems.Plain.{let_go}
-use Rattle.machine.specs.Replay.{replayed, replayedRecord, timeNumber}
-use Rattle.machine.specs.Theorems.Examples.{text, table, events, printed, toFour, tickLine, printedAfter, twoWindows, startedInFirst, releasedInSecond, oneWindow, lockedUpdate, lockedAnswers, adjacentWindows, askedLeft, leftAnswers, twoQueues, restartedReader, letInByNumber, noEvent, noEventAnswers}
-use Rattle.machine.specs.Theorems.Events.{Calling, Gives, Puts, Refuses, atEnd, call_by, own, tick, withNew, withNewBlackboard, withNewBuffer, withNewEvent, withNewSemaphore, withProcess, withSemaphoreAt, without}
+use Rattle.machine.specs.Replay.{replayed, replayed_record, time_number}
+use Rattle.machine.specs.Theorems.Examples.{text, table, events, printed, to_four, tick_line, printed_after, two_windows, started_in_first, released_in_second, one_window, locked_update, locked_answers, adjacent_windows, asked_left, left_answers, two_queues, restarted_reader, let_in_by_number, no_event, no_event_answers}
+use Rattle.machine.specs.Theorems.Events.{Calling, Gives, Puts, Refuses, at_end, call_by, own, tick, with_new, with_new_blackboard, with_new_buffer, with_new_event, with_new_semaphore, with_process, with_semaphore_at, without}
 
 -- the worked example prints its six lines; continued, t = 4 runs 1, t = 5 sets missed, t = 6 current 2
 pub record Worked : Type 0 where
   pub example : replayed (text (table ++ events)) ≡ text printed
-  pub continued : replayed (text (table ++ (events ++ (toFour ++ (tickLine ++ tickLine))))) ≡ text (printed ++ printedAfter)
-  pub four : (process 1 (part (replayedRecord (text (table ++ (events ++ toFour)))) 0)).missed ≡ false
-  pub five : (process 1 (part (replayedRecord (text (table ++ (events ++ (toFour ++ tickLine))))) 0)).missed ≡ true
+  pub continued : replayed (text (table ++ (events ++ (to_four ++ (tick_line ++ tick_line))))) ≡ text (printed ++ printed_after)
+  pub four : (process 1 (part (replayed_record (text (table ++ (events ++ to_four)))) 0)).missed ≡ false
+  pub five : (process 1 (part (replayed_record (text (table ++ (events ++ (to_four ++ tick_line))))) 0)).missed ≡ true
   -- two flagged windows a frame: a process started in the first is released at the second, and t = 5 runs it
-  pub released : replayed (text (twoWindows ++ startedInFirst)) ≡ text releasedInSecond
+  pub released : replayed (text (two_windows ++ started_in_first)) ≡ text released_in_second
   -- preemption is locked: a process of greater priority becomes READY, and runs after the unlock
-  pub locked : replayed (text (oneWindow ++ lockedUpdate)) ≡ text lockedAnswers
+  pub locked : replayed (text (one_window ++ locked_update)) ≡ text locked_answers
   -- ticks left: adjacent windows of one partition are not joined
-  pub left : replayed (text (adjacentWindows ++ askedLeft)) ≡ text leftAnswers
+  pub left : replayed (text (adjacent_windows ++ asked_left)) ≡ text left_answers
   -- queuing channels: a restart of the destination lets waiting senders in, channels by ascending number
-  pub letIn : replayed (text (twoQueues ++ restartedReader)) ≡ text letInByNumber
+  pub let_in : replayed (text (two_queues ++ restarted_reader)) ≡ text let_in_by_number
   -- a line that is no event: 11, with t and the current partition
-  pub unread : replayed (text (table ++ (tickLine ++ noEvent))) ≡ text noEventAnswers
+  pub unread : replayed (text (table ++ (tick_line ++ no_event))) ≡ text no_event_answers
 
 -- ---------------------------------------------------------------- the numbers of documents 01 and 02
 -- every limit that the claims name
 pub record Numbers : Type 0 where
   -- a partition: 16 processes, 8 semaphores, 8 events, 8 buffers of 1..16 messages, 8 blackboards, modes 0..3, levels 0..16
-  pub partition : processLimit ∷ semaphoreLimit ∷ eventLimit ∷ bufferLimit ∷ messageLimit ∷ blackboardLimit ∷ modeLimit ∷ levelLimit ∷ [] ≡ 16 ∷ 8 ∷ 8 ∷ 8 ∷ 16 ∷ 8 ∷ 3 ∷ 16 ∷ []
+  pub partition : process_limit ∷ semaphore_limit ∷ event_limit ∷ buffer_limit ∷ message_limit ∷ blackboard_limit ∷ mode_limit ∷ level_limit ∷ [] ≡ 16 ∷ 8 ∷ 8 ∷ 8 ∷ 16 ∷ 8 ∷ 3 ∷ 16 ∷ []
   -- names 1..255, priorities 1..239, semaphores to 32,767, D and messages 0..9,999,999, calls 0..34, t to 99,999,999
-  pub fields : nameLimit ∷ priorityLimit ∷ valueLimit ∷ durationLimit ∷ callLimit ∷ timeLimit ∷ [] ≡ 255 ∷ 239 ∷ 32767 ∷ 9999999 ∷ 34 ∷ 99999999 ∷ []
+  pub fields : name_limit ∷ priority_limit ∷ value_limit ∷ duration_limit ∷ call_limit ∷ time_limit ∷ [] ≡ 255 ∷ 239 ∷ 32767 ∷ 9999999 ∷ 34 ∷ 99999999 ∷ []
   -- tables: M 1..10,000, P 1..8, windows 1..32, channels 0..16, queues of 1..8 messages; lines of 61 bytes, numbers to 999,999,999
-  pub table : frameLimit ∷ partitionLimit ∷ windowLimit ∷ channelLimit ∷ sizeLimit ∷ lineLength ∷ numberLimit ∷ [] ≡ 10000 ∷ 8 ∷ 32 ∷ 16 ∷ 8 ∷ 61 ∷ 999999999 ∷ []
+  pub table : frame_limit ∷ partition_limit ∷ window_limit ∷ channel_limit ∷ size_limit ∷ line_length ∷ number_limit ∷ [] ≡ 10000 ∷ 8 ∷ 32 ∷ 16 ∷ 8 ∷ 61 ∷ 999999999 ∷ []
 
 -- ---------------------------------------------------------------- creating
 -- neither 4 nor 5
@@ -75,18 +75,18 @@ abbrev pub NewBlackboard : Partition → ℕ → Type 0
 NewBlackboard p name = (j : ℕ) → Between 1 p.blackboardCount j → (blackboard j p).name ≡ name → ⊥
 
 -- CREATE_PROCESS name, priority, period, capacity
-abbrev pub createBy : ℕ → ℕ → ℕ → Time → Time → EventT
-createBy k name priority period capacity = call_by k 2 (pos name) (pos priority) (timeNumber period) (timeNumber capacity)
+abbrev pub create_by : ℕ → ℕ → ℕ → Time → Time → EventT
+create_by k name priority period capacity = call_by k 2 (pos name) (pos priority) (time_number period) (time_number capacity)
 
 abbrev pub given : ℕ → ℕ → Time → Time → Given
 given name base period capacity = record { name = name; base = base; period = period; capacity = capacity }
 
 -- ---------------------------------------------------------------- releases
 -- it waits for its release r: w = r, d = r + capacity, or −1, whatever t is; priority and marks as given
-abbrev pub awaitsRelease : ℕ → ℕ → ℕ → Bool → Bool → Process → Process
-awaitsRelease r delay n mark missed x = record {
+abbrev pub awaits_release : ℕ → ℕ → ℕ → Bool → Bool → Process → Process
+awaits_release r delay n mark missed x = record {
   given = x.given;
-  times = record { release = At r; deadline = plainLater (At r) x.given.capacity; wake = At r; delay = delay };
+  times = record { release = At r; deadline = plain_later (At r) x.given.capacity; wake = At r; delay = delay };
   current = n;
   suspended = mark;
   missed = missed;
@@ -97,10 +97,10 @@ awaitsRelease r delay n mark missed x = record {
 }
 
 -- it waits for its next release r, all else as it was
-abbrev pub awaitsNext : ℕ → Process → Process
-awaitsNext r x = record {
+abbrev pub awaits_next : ℕ → Process → Process
+awaits_next r x = record {
   given = x.given;
-  times = record { release = At r; deadline = plainLater (At r) x.given.capacity; wake = At r; delay = x.times.delay };
+  times = record { release = At r; deadline = plain_later (At r) x.given.capacity; wake = At r; delay = x.times.delay };
   current = x.current;
   suspended = x.suspended;
   missed = x.missed;
@@ -111,8 +111,8 @@ awaitsNext r x = record {
 }
 
 -- it waits for NORMAL with this delay
-abbrev pub awaitsNormal : ℕ → Process → Process
-awaitsNormal delay x = record {
+abbrev pub awaits_normal : ℕ → Process → Process
+awaits_normal delay x = record {
   given = x.given;
   times = record { release = x.times.release; deadline = x.times.deadline; wake = x.times.wake; delay = delay };
   current = x.given.base;
@@ -130,71 +130,71 @@ pub record ReleasesAt (m : Module) (k r : ℕ) : Type 0 where
   pub start : (id n : ℕ) → let p = own m k in
       let x = process id p in
       p.mode ≡ 3 → Between 1 p.processCount id → x.started ≡ false → x.given.period ≡ At n
-      → Puts m (call_by k 3 (pos id) (pos 0) (pos 0) (pos 0)) 0 0 k (withProcess id (awaitsRelease r x.times.delay x.given.base false false x) p.arrival p)
+      → Puts m (call_by k 3 (pos id) (pos 0) (pos 0) (pos 0)) 0 0 k (with_process id (awaits_release r x.times.delay x.given.base false false x) p.arrival p)
   pub delayed : (id n delay : ℕ) → let p = own m k in
       let x = process id p in
       p.mode ≡ 3 → Between 1 p.processCount id → x.started ≡ false → x.given.period ≡ At n → delay < n
-      → Puts m (call_by k 4 (pos id) (pos delay) (pos 0) (pos 0)) 0 0 k (withProcess id (awaitsRelease (r + delay) x.times.delay x.given.base false false x) p.arrival p)
+      → Puts m (call_by k 4 (pos id) (pos delay) (pos 0) (pos 0)) 0 0 k (with_process id (awaits_release (r + delay) x.times.delay x.given.base false false x) p.arrival p)
   -- and on entering NORMAL
   pub entered : (id n : ℕ) → let p = own m k in
       let x = process id p in
       let e = call_by k 1 (pos 3) (pos 0) (pos 0) (pos 0) in
       (p.mode ≡ 3 → ⊥) → Between 1 p.processCount id → x.wait ≡ Normal → x.given.period ≡ At n
       → ((step m e).answer.code ≡ 0) × ((own (step m e).state k).mode ≡ 3)
-      × (process id (own (step m e).state k) ≡ awaitsRelease (r + x.times.delay) x.times.delay x.current x.suspended false x)
+      × (process id (own (step m e).state k) ≡ awaits_release (r + x.times.delay) x.times.delay x.current x.suspended false x)
 
 -- ---------------------------------------------------------------- the corners
 pub record Corners (m : Module) (k : ℕ) : Type 0 where
   -- priority 239/240, in CREATE_PROCESS and in SET_PRIORITY
   pub priority : (name : ℕ) (period capacity : Time) → let p = own m k in
-      Room p p.processCount processLimit → NewProcess p name → Between 1 nameLimit name → SoundPeriod m.table.frame period → SoundCapacity period capacity
-      → Puts m (createBy k name priorityLimit period capacity) 0 (p.processCount + 1) k (withNew (given name priorityLimit period capacity) p)
-      × Refuses m (createBy k name (priorityLimit + 1) period capacity) 3
-  pub setPriority : (id : ℕ) → let p = own m k in
+      Room p p.processCount process_limit → NewProcess p name → Between 1 name_limit name → SoundPeriod m.table.frame period → SoundCapacity period capacity
+      → Puts m (create_by k name priority_limit period capacity) 0 (p.processCount + 1) k (with_new (given name priority_limit period capacity) p)
+      × Refuses m (create_by k name (priority_limit + 1) period capacity) 3
+  pub set_priority : (id : ℕ) → let p = own m k in
       Between 1 p.processCount id → (process id p).started ≡ true
-      → Puts m (call_by k 12 (pos id) (pos priorityLimit) (pos 0) (pos 0)) 0 0 k
-      (withProcess id (withCurrent priorityLimit (process id p)) (cond (ready (process id p)) (atEnd id p.arrival) p.arrival) p)
-      × Refuses m (call_by k 12 (pos id) (pos (priorityLimit + 1)) (pos 0) (pos 0)) 3
+      → Puts m (call_by k 12 (pos id) (pos priority_limit) (pos 0) (pos 0)) 0 0 k
+      (with_process id (with_current priority_limit (process id p)) (cond (ready (process id p)) (at_end id p.arrival) p.arrival) p)
+      × Refuses m (call_by k 12 (pos id) (pos (priority_limit + 1)) (pos 0) (pos 0)) 3
   -- name 255/256, of each kind
-  pub processName : (priority : ℕ) (period capacity : Time) → let p = own m k in
-      Room p p.processCount processLimit → NewProcess p nameLimit → Between 1 priorityLimit priority → SoundPeriod m.table.frame period → SoundCapacity period capacity
-      → Puts m (createBy k nameLimit priority period capacity) 0 (p.processCount + 1) k (withNew (given nameLimit priority period capacity) p)
-      × Refuses m (createBy k (nameLimit + 1) priority period capacity) 3
-  pub semaphoreName : (start max : ℕ) → let p = own m k in
-      Room p p.semaphoreCount semaphoreLimit → NewSemaphore p nameLimit → Between 1 valueLimit max → start ≤ max
-      → Puts m (call_by k 14 (pos nameLimit) (pos start) (pos max) (pos 0)) 0 (p.semaphoreCount + 1) k (withNewSemaphore nameLimit start max p)
-      × Refuses m (call_by k 14 (pos (nameLimit + 1)) (pos start) (pos max) (pos 0)) 3
-  pub eventName : let p = own m k in
-      Room p p.eventCount eventLimit → NewEvent p nameLimit
-      → Puts m (call_by k 17 (pos nameLimit) (pos 0) (pos 0) (pos 0)) 0 (p.eventCount + 1) k (withNewEvent nameLimit p)
-      × Refuses m (call_by k 17 (pos (nameLimit + 1)) (pos 0) (pos 0) (pos 0)) 3
-  pub bufferName : (limit : ℕ) → let p = own m k in
-      Room p p.bufferCount bufferLimit → NewBuffer p nameLimit → Between 1 messageLimit limit
-      → Puts m (call_by k 23 (pos nameLimit) (pos limit) (pos 0) (pos 0)) 0 (p.bufferCount + 1) k (withNewBuffer nameLimit limit p)
-      × Refuses m (call_by k 23 (pos (nameLimit + 1)) (pos limit) (pos 0) (pos 0)) 3
-  pub blackboardName : let p = own m k in
-      Room p p.blackboardCount blackboardLimit → NewBlackboard p nameLimit
-      → Puts m (call_by k 26 (pos nameLimit) (pos 0) (pos 0) (pos 0)) 0 (p.blackboardCount + 1) k (withNewBlackboard nameLimit p)
-      × Refuses m (call_by k 26 (pos (nameLimit + 1)) (pos 0) (pos 0) (pos 0)) 3
+  pub process_name : (priority : ℕ) (period capacity : Time) → let p = own m k in
+      Room p p.processCount process_limit → NewProcess p name_limit → Between 1 priority_limit priority → SoundPeriod m.table.frame period → SoundCapacity period capacity
+      → Puts m (create_by k name_limit priority period capacity) 0 (p.processCount + 1) k (with_new (given name_limit priority period capacity) p)
+      × Refuses m (create_by k (name_limit + 1) priority period capacity) 3
+  pub semaphore_name : (start max : ℕ) → let p = own m k in
+      Room p p.semaphoreCount semaphore_limit → NewSemaphore p name_limit → Between 1 value_limit max → start ≤ max
+      → Puts m (call_by k 14 (pos name_limit) (pos start) (pos max) (pos 0)) 0 (p.semaphoreCount + 1) k (with_new_semaphore name_limit start max p)
+      × Refuses m (call_by k 14 (pos (name_limit + 1)) (pos start) (pos max) (pos 0)) 3
+  pub event_name : let p = own m k in
+      Room p p.eventCount event_limit → NewEvent p name_limit
+      → Puts m (call_by k 17 (pos name_limit) (pos 0) (pos 0) (pos 0)) 0 (p.eventCount + 1) k (with_new_event name_limit p)
+      × Refuses m (call_by k 17 (pos (name_limit + 1)) (pos 0) (pos 0) (pos 0)) 3
+  pub buffer_name : (limit : ℕ) → let p = own m k in
+      Room p p.bufferCount buffer_limit → NewBuffer p name_limit → Between 1 message_limit limit
+      → Puts m (call_by k 23 (pos name_limit) (pos limit) (pos 0) (pos 0)) 0 (p.bufferCount + 1) k (with_new_buffer name_limit limit p)
+      × Refuses m (call_by k 23 (pos (name_limit + 1)) (pos limit) (pos 0) (pos 0)) 3
+  pub blackboard_name : let p = own m k in
+      Room p p.blackboardCount blackboard_limit → NewBlackboard p name_limit
+      → Puts m (call_by k 26 (pos name_limit) (pos 0) (pos 0) (pos 0)) 0 (p.blackboardCount + 1) k (with_new_blackboard name_limit p)
+      × Refuses m (call_by k 26 (pos (name_limit + 1)) (pos 0) (pos 0) (pos 0)) 3
   -- period M/M + 1 (M above 1), with every capacity that M admits, and M + 1 whatever the capacity
   pub period : (name priority : ℕ) (capacity : Time) (e : ℤ) → let p = own m k in
       let M = m.table.frame in
-      1 < M → Room p p.processCount processLimit → NewProcess p name → Between 1 nameLimit name → Between 1 priorityLimit priority → SoundCapacity (At M) capacity
-      → Puts m (createBy k name priority (At M) capacity) 0 (p.processCount + 1) k (withNew (given name priority (At M) capacity) p)
+      1 < M → Room p p.processCount process_limit → NewProcess p name → Between 1 name_limit name → Between 1 priority_limit priority → SoundCapacity (At M) capacity
+      → Puts m (create_by k name priority (At M) capacity) 0 (p.processCount + 1) k (with_new (given name priority (At M) capacity) p)
       × Refuses m (call_by k 2 (pos name) (pos priority) (pos (M + 1)) e) 3
   -- delay period − 1/period: outside NORMAL, and in NORMAL
-  pub delayEarly : (id n : ℕ) → let p = own m k in
+  pub delay_early : (id n : ℕ) → let p = own m k in
       Between 1 p.processCount id → (process id p).started ≡ false → (process id p).given.period ≡ At n → (p.mode ≡ 3 → ⊥)
-      → Puts m (call_by k 4 (pos id) (pos (n - 1)) (pos 0) (pos 0)) 0 0 k (withProcess id (awaitsNormal (n - 1) (process id p)) p.arrival p)
+      → Puts m (call_by k 4 (pos id) (pos (n - 1)) (pos 0) (pos 0)) 0 0 k (with_process id (awaits_normal (n - 1) (process id p)) p.arrival p)
       × Refuses m (call_by k 4 (pos id) (pos n) (pos 0) (pos 0)) 3
-  pub delayNormal : (id n r : ℕ) → let p = own m k in
+  pub delay_normal : (id n r : ℕ) → let p = own m k in
       let x = process id p in
       Between 1 p.processCount id → x.started ≡ false → x.given.period ≡ At n → p.mode ≡ 3 → Release m.table k m.t r
       → Puts m (call_by k 4 (pos id) (pos (n - 1)) (pos 0) (pos 0)) 0 0 k
-      (withProcess id (awaitsRelease (r + (n - 1)) x.times.delay x.given.base false false x) p.arrival p)
+      (with_process id (awaits_release (r + (n - 1)) x.times.delay x.given.base false false x) p.arrival p)
       × Refuses m (call_by k 4 (pos id) (pos n) (pos 0) (pos 0)) 3
   -- t before a flagged window of the same frame: the release is the nearest of these, in this frame (document 02, d)
-  pub insideFrame : (s : ℕ) → let T = m.table in
+  pub inside_frame : (s : ℕ) → let T = m.table in
       NextFlagged T k (m.t % T.frame) s → ReleasesAt m k (m.t / T.frame * T.frame + s)
   -- age refresh/refresh + 1, of a sampling channel
   pub age : (i : ℕ) → let x = message m (i - 1) in
@@ -205,25 +205,25 @@ pub record Corners (m : Module) (k : ℕ) : Type 0 where
   -- timeout 0: SUSPEND_SELF changes nothing and TIMED_WAIT puts the caller last (both at level 0 of the preemption lock), WAIT_SEMAPHORE and
   -- WAIT_EVENT answer 2 where they would wait, and succeed where they need not; the calls of document 02 that wait answer 2 too (30 and 31, and the three
   -- while preemption is locked: `EachCall`)
-  pub suspendSelf : let p = own m k in
+  pub suspend_self : let p = own m k in
       p.mode ≡ 3 → p.level ≡ 0 → (process (running p) p).given.period ≡ Never
       → Gives m (call_by k 8 (pos 0) (pos 0) (pos 0) (pos 0)) 0 0 (At 0) m
-  pub timedWait : let p = own m k in
+  pub timed_wait : let p = own m k in
       p.mode ≡ 3 → p.level ≡ 0
-      → Puts m (call_by k 9 (pos 0) (pos 0) (pos 0) (pos 0)) 0 0 k (withProcesses p.processes p.processCount (atEnd (running p) p.arrival) p.waiting p)
-  pub waitSemaphore : (j : ℕ) → let p = own m k in
+      → Puts m (call_by k 9 (pos 0) (pos 0) (pos 0) (pos 0)) 0 0 k (with_processes p.processes p.processCount (at_end (running p) p.arrival) p.waiting p)
+  pub wait_semaphore : (j : ℕ) → let p = own m k in
       p.mode ≡ 3 → Between 1 p.semaphoreCount j
       → ((semaphore j p).value ≡ 0 → Refuses m (call_by k 15 (pos j) (pos 0) (pos 0) (pos 0)) 2)
-      × ((n : ℕ) → (semaphore j p).value ≡ suc n → Puts m (call_by k 15 (pos j) (pos 0) (pos 0) (pos 0)) 0 0 k (withSemaphoreAt j n p))
-  pub waitEvent : (j : ℕ) → let p = own m k in
+      × ((n : ℕ) → (semaphore j p).value ≡ suc n → Puts m (call_by k 15 (pos j) (pos 0) (pos 0) (pos 0)) 0 0 k (with_semaphore_at j n p))
+  pub wait_event : (j : ℕ) → let p = own m k in
       p.mode ≡ 3 → Between 1 p.eventCount j
       → ((event j p).up ≡ false → Refuses m (call_by k 20 (pos j) (pos 0) (pos 0) (pos 0)) 2)
       × ((event j p).up ≡ true → Gives m (call_by k 20 (pos j) (pos 0) (pos 0) (pos 0)) 0 0 (At 0) m)
-  pub sendBuffer : (j x : ℕ) → let p = own m k in
-      p.mode ≡ 3 → Between 1 p.bufferCount j → x ≤ durationLimit → (buffer j p).queue.len ≡ (buffer j p).limit → Refuses m (call_by k 24 (pos j) (pos x) (pos 0) (pos 0)) 2
-  pub receiveBuffer : (j : ℕ) → let p = own m k in
+  pub send_buffer : (j x : ℕ) → let p = own m k in
+      p.mode ≡ 3 → Between 1 p.bufferCount j → x ≤ duration_limit → (buffer j p).queue.len ≡ (buffer j p).limit → Refuses m (call_by k 24 (pos j) (pos x) (pos 0) (pos 0)) 2
+  pub receive_buffer : (j : ℕ) → let p = own m k in
       p.mode ≡ 3 → Between 1 p.bufferCount j → (buffer j p).queue.len ≡ 0 → Refuses m (call_by k 25 (pos j) (pos 0) (pos 0) (pos 0)) 2
-  pub readBlackboard : (j : ℕ) → let p = own m k in
+  pub read_blackboard : (j : ℕ) → let p = own m k in
       p.mode ≡ 3 → Between 1 p.blackboardCount j
       → ((blackboard j p).shown ≡ false → Refuses m (call_by k 28 (pos j) (pos 0) (pos 0) (pos 0)) 2)
       × ((blackboard j p).shown ≡ true → Gives m (call_by k 28 (pos j) (pos 0) (pos 0) (pos 0)) 0 (blackboard j p).message (At 0) m)
@@ -232,18 +232,18 @@ pub record Corners (m : Module) (k : ℕ) : Type 0 where
       Between 1 p.semaphoreCount j → (semaphore j p).value ≡ (semaphore j p).max
       → Refuses m (call_by k 16 (pos j) (pos 0) (pos 0) (pos 0)) 1
   -- PERIODIC_WAIT, also with r ≤ t: r rises by the period; it waits all the same, w = r, d = r + capacity or −1
-  pub periodicWait : (r n : ℕ) → let p = own m k in
+  pub periodic_wait : (r n : ℕ) → let p = own m k in
       let id = running p in
       let x = process id p in
       p.mode ≡ 3 → p.level ≡ 0 → x.times.release ≡ At r → x.given.period ≡ At n
-      → Puts m (call_by k 10 (pos 0) (pos 0) (pos 0) (pos 0)) 7 0 k (withProcess id (awaitsNext (r + n) x) (without id p.arrival) p)
+      → Puts m (call_by k 10 (pos 0) (pos 0) (pos 0) (pos 0)) 7 0 k (with_process id (awaits_next (r + n) x) (without id p.arrival) p)
 
 -- ---------------------------------------------------------------- mistakes to shut out
 -- what a wake time that has come makes of x: a wait ends with w −1 and this wake code, and the mark stays
 pub record WaitEnded (code : ℕ) (x y : Process) : Type 0 where
   pub wake : y.times.wake ≡ Never
   pub wait : y.wait ≡ None
-  pub codeIs : y.code ≡ code
+  pub code_is : y.code ≡ code
   pub mark : y.suspended ≡ x.suspended
   pub started : y.started ≡ x.started
 
@@ -270,13 +270,13 @@ pub record Ticks (t : ℕ) (x y : Process) : Type 0 where
 pub record Mistakes : Type 0 where
   -- freezing timers outside a partition's window: a tick acts on every NORMAL partition. An ended wait making a suspended process READY:
   -- not by a tick
-  pub frozen : (m : Module) → Reached m → m.t < timeLimit → (k id : ℕ) → Between 1 m.table.size k → (own m k).mode ≡ 3 → Between 1 (own m k).processCount id
+  pub frozen : (m : Module) → Reached m → m.t < time_limit → (k id : ℕ) → Between 1 m.table.size k → (own m k).mode ≡ 3 → Between 1 (own m k).processCount id
       → ((step m tick).answer.code ≡ 0) × Ticks (m.t + 1) (process id (own m k)) (process id (own (step m tick).state k))
   -- showing a neighbour's running process: whatever the code, it reads 0 where the event's partition is neither 0 nor current
   pub neighbour : (m : Module) (e : EventT) → (e.partition ≡ pos 0 → ⊥) → (e.partition ≡ pos (current (step m e).state) → ⊥) → (step m e).answer.running ≡ 0
-  pub neighbourInEight : (m : Module) (e : EventT) → (step m e).answer.code ≡ 8 → (step m e).answer.running ≡ 0
+  pub neighbour_in_eight : (m : Module) (e : EventT) → (step m e).answer.code ≡ 8 → (step m e).answer.running ≡ 0
   -- computing a periodic deadline from t: START, DELAYED_START and entering NORMAL compute it from the release
-  pub periodicDeadline : (m : Module) (k : ℕ) → Calling m k → (r : ℕ) → Release m.table k m.t r → ReleasesAt m k r
+  pub periodic_deadline : (m : Module) (k : ℕ) → Calling m k → (r : ℕ) → Release m.table k m.t r → ReleasesAt m k r
   -- an ended wait making a suspended process READY: SIGNAL ends the first wait of the queue, w −1 and wake code 0, and the mark stays
   pub signalled : (m : Module) (k : ℕ) → Calling m k → (j id : ℕ) (before after : List ℕ) → let p = own m k in
       let e = call_by k 16 (pos j) (pos 0) (pos 0) (pos 0) in
@@ -285,7 +285,7 @@ pub record Mistakes : Type 0 where
       → let y = process id (own (step m e).state k) in
       ((step m e).answer.code ≡ 0) × (y ≡ let_go (process id p)) × ReadyUnmarked (process id p) y
   -- SET_EVENT ends every wait on the event the same way
-  pub eventSet : (m : Module) (k : ℕ) → Calling m k → (j id : ℕ) → let p = own m k in
+  pub event_set : (m : Module) (k : ℕ) → Calling m k → (j id : ℕ) → let p = own m k in
       let e = call_by k 18 (pos j) (pos 0) (pos 0) (pos 0) in
       Between 1 p.eventCount j → (process id p).wait ≡ Event j
       → let y = process id (own (step m e).state k) in
@@ -294,14 +294,14 @@ pub record Mistakes : Type 0 where
   pub restart : (m : Module) (e : EventT) (i : ℕ) → (e.call ≡ pos 21 → ⊥) → (e.partition ≡ pos (channel m.table i).destination → ⊥)
       → message (step m e).state i ≡ message m i
   -- and one that is no SEND and no RECEIVE on a channel leaves the queue of each channel into another partition
-  pub restartQueue : (m : Module) (e : EventT) (i : ℕ) → (e.call ≡ pos 30 → ⊥) → (e.call ≡ pos 31 → ⊥) → (e.partition ≡ pos (channel m.table i).destination → ⊥)
+  pub restart_queue : (m : Module) (e : EventT) (i : ℕ) → (e.call ≡ pos 30 → ⊥) → (e.call ≡ pos 31 → ⊥) → (e.partition ≡ pos (channel m.table i).destination → ⊥)
       → queue (step m e).state i ≡ queue m i
   -- an accepted mode 0, 1 or 2: code 0, nothing created in the partition, no message on a channel into it, and on every other channel the
   -- message that was there; each queue into it holds the messages of the first who waited to send, as many as it holds at most, and every other
   -- queue what it held; the waits of those who are let in end, and their marks stay
   pub restarted : (m : Module) (k : ℕ) → Calling m k → (mode : ℕ) → mode ≤ 2 → (mode ≡ 2 → (own m k).mode ≡ 1 → ⊥)
       → let e = call_by k 1 (pos mode) (pos 0) (pos 0) (pos 0) in
-      ((step m e).answer.code ≡ 0) × (own (step m e).state k ≡ nothingCreated mode)
+      ((step m e).answer.code ≡ 0) × (own (step m e).state k ≡ nothing_created mode)
       × ((i : ℕ) → i < m.table.channelCount → (channel m.table i).destination ≡ k → (message (step m e).state i).present ≡ false)
       × ((i : ℕ) → ((channel m.table i).destination ≡ k → ⊥) → message (step m e).state i ≡ message m i)
       × ((i : ℕ) → i < m.table.channelCount → ((channel m.table i).size ≡ 0 → ⊥) → (channel m.table i).destination ≡ k

@@ -12,8 +12,8 @@ use Rattle.machine.specs.declared.Module.{Module}
 use Rattle.machine.specs.declared.Wait.{Wait}
 use Rattle.machine.specs.declared.Wait.TheVariants.{None, Normal, Semaphore, Event, Sending, Receiving, Blackboard, Source, Destination}
 use Rattle.machine.specs.declared.Time.TheVariants.{Never}
-use Rattle.machine.specs.Process.{object, carried, ready, waitsForNormal}
-use Rattle.machine.specs.Partition.{process, waiters, nothingCreated}
+use Rattle.machine.specs.Process.{object, carried, ready, waits_for_normal}
+use Rattle.machine.specs.Partition.{process, waiters, nothing_created}
 use Rattle.machine.specs.Module.{part}
 use Rattle.machine.specs.Theorems.Valid.{contains, Reached}
 
@@ -53,12 +53,12 @@ nobody = record {
   wait = None;
 }
 
-abbrev pub noIds : Ids
-noIds = record { items = replicate 16 0; len = 0 }
+abbrev pub no_ids : Ids
+no_ids = record { items = replicate 16 0; len = 0 }
 
 -- a partition with nothing in it, and nothing locked
-abbrev pub blankPartition : ℕ → Partition
-blankPartition mode =
+abbrev pub blank_partition : ℕ → Partition
+blank_partition mode =
     let s : SemaphoreT = record { name = 0; value = 0; max = 0 } in
     let e : EventState = record { name = 0; up = false } in
     let q : Queue = record { items = replicate 16 0; len = 0 } in
@@ -78,20 +78,20 @@ blankPartition mode =
       bufferCount = 0;
       blackboards = replicate 8 w;
       blackboardCount = 0;
-      arrival = noIds;
-      waiting = noIds;
+      arrival = no_ids;
+      waiting = no_ids;
     }
 
 -- ---------------------------------------------------------------- the whole
 pub record Terms : Type 0 where
   -- It is READY if started, waiting for nothing and not suspended.
-  pub readyIs : (x : Process) → ready x ≡ true → (x.started ≡ true) × (x.suspended ≡ false) × (x.wait ≡ None)
-  pub readyIf : (x : Process) → x.started ≡ true → x.suspended ≡ false → x.wait ≡ None → ready x ≡ true
+  pub ready_is : (x : Process) → ready x ≡ true → (x.started ≡ true) × (x.suspended ≡ false) × (x.wait ≡ None)
+  pub ready_if : (x : Process) → x.started ≡ true → x.suspended ≡ false → x.wait ≡ None → ready x ≡ true
   -- it waits for NORMAL
-  pub normal : (w : Wait) → waitsForNormal w ≡ true → w ≡ Normal
-  pub normalIf : waitsForNormal Normal ≡ true
+  pub normal : (w : Wait) → waits_for_normal w ≡ true → w ≡ Normal
+  pub normal_if : waits_for_normal Normal ≡ true
   -- who is in which queue, in every reached record
   pub queues : (m : Module) → Reached m → (i : ℕ) → i < m.table.size → (id j : ℕ) → j ≤ 16 → WhoWaits (part m i) id j
   pub carries : Carries
   -- Modes 0, 1, 2: everything erased
-  pub nothing : (mode : ℕ) → nothingCreated mode ≡ blankPartition mode
+  pub nothing : (mode : ℕ) → nothing_created mode ≡ blank_partition mode

@@ -30,15 +30,15 @@ use Rattle.machine.specs.declared.Message.{Message}
 use Rattle.machine.specs.declared.Module.{Module}
 use Rattle.machine.specs.declared.Event.{Event as EventT}
 use Rattle.machine.specs.declared.Answer.{Answer}
-use Rattle.machine.specs.Limits.{processLimit, semaphoreLimit, eventLimit, bufferLimit, messageLimit, blackboardLimit, nameLimit, priorityLimit, valueLimit, modeLimit, levelLimit, durationLimit, timeLimit, frameLimit, partitionLimit, windowLimit, channelLimit, sizeLimit, numberLimit}
+use Rattle.machine.specs.Limits.{process_limit, semaphore_limit, event_limit, buffer_limit, message_limit, blackboard_limit, name_limit, priority_limit, value_limit, mode_limit, level_limit, duration_limit, time_limit, frame_limit, partition_limit, window_limit, channel_limit, size_limit, number_limit}
 use Rattle.machine.specs.Ids.{members, ids_of}
-use Rattle.machine.specs.Messages.{held, queueOf}
-use Rattle.machine.specs.Process.{Class, class_of, blankProcess, createdProcess, isNever, periodic, ready, onObject}
-use Rattle.machine.specs.Partition.{normalMode, by_id, noSemaphore, noEvent, noBuffer, noBlackboard, process, buffer, emptyBuffer, running, applied}
-use Rattle.machine.specs.Table.{hasFlagged, readTable}
+use Rattle.machine.specs.Messages.{held, queue_of}
+use Rattle.machine.specs.Process.{Class, class_of, blank_process, created_process, is_never, periodic, ready, on_object}
+use Rattle.machine.specs.Partition.{normal_mode, by_id, no_semaphore, no_event, no_buffer, no_blackboard, process, buffer, empty_buffer, running, applied}
+use Rattle.machine.specs.Table.{has_flagged, read_table}
 use Rattle.machine.specs.Windows.{windows}
-use Rattle.machine.specs.Module.{channel, part, message, queue, emptyModule}
-use Rattle.machine.specs.Places.{noCaller}
+use Rattle.machine.specs.Module.{channel, part, message, queue, empty_module}
+use Rattle.machine.specs.Places.{no_caller}
 use Rattle.machine.specs.Step.{step}
 
 -- low..high
@@ -57,7 +57,7 @@ Distinct (x ∷ l) = (contains x l ≡ false) × Distinct l
 -- each of a list is a message: 0..9,999,999
 unfoldable pub AllMessages : List ℕ → Type 0
 AllMessages [] = Unit {0}
-AllMessages (m ∷ l) = (m ≤ durationLimit) × AllMessages l
+AllMessages (m ∷ l) = (m ≤ duration_limit) × AllMessages l
 
 -- a list holds just the ids of which f says true, each once
 pub record Tracks (f : ℕ → Bool) (q : Ids) : Type 0 where
@@ -67,12 +67,12 @@ pub record Tracks (f : ℕ → Bool) (q : Ids) : Type 0 where
 
 -- ---------------------------------------------------------------- times
 -- no release point and no wake time comes after this one: 110,009,997
-abbrev pub latestWake : ℕ
-latestWake = timeLimit + frameLimit + durationLimit - 1
+abbrev pub latest_wake : ℕ
+latest_wake = time_limit + frame_limit + duration_limit - 1
 
 -- no deadline comes after this one: 120,009,996
-abbrev pub latestDeadline : ℕ
-latestDeadline = latestWake + durationLimit
+abbrev pub latest_deadline : ℕ
+latest_deadline = latest_wake + duration_limit
 
 -- it is not −1 and ≤ n
 abbrev pub AtMost : ℕ → Time → Type 0
@@ -87,24 +87,24 @@ NotAfter n (At m) = m ≤ n
 -- after t, by a number of D
 abbrev pub Ahead : ℕ → Time → Type 0
 Ahead t Never = ⊥
-Ahead t (At n) = (t < n) × (n ≤ t + durationLimit)
+Ahead t (At n) = (t < n) × (n ≤ t + duration_limit)
 
 -- −1, or after t by a number of D
 abbrev pub Timeout : ℕ → Time → Type 0
 Timeout t Never = Unit {0}
-Timeout t (At n) = (t < n) × (n ≤ t + durationLimit)
+Timeout t (At n) = (t < n) × (n ≤ t + duration_limit)
 
 -- a time after another with no bound: −1 where one of them is −1
-abbrev pub plainLater : Time → Time → Time
-plainLater Never b = Never
-plainLater (At m) Never = Never
-plainLater (At m) (At n) = At (m + n)
+abbrev pub plain_later : Time → Time → Time
+plain_later Never b = Never
+plain_later (At m) Never = Never
+plain_later (At m) (At n) = At (m + n)
 
 -- ---------------------------------------------------------------- a process by itself
 -- −1 or a multiple of M in 1..9,999,999
 abbrev pub SoundPeriod : ℕ → Time → Type 0
 SoundPeriod frame Never = Unit {0}
-SoundPeriod frame (At n) = Between 1 durationLimit n × (n % frame ≡ 0)
+SoundPeriod frame (At n) = Between 1 duration_limit n × (n % frame ≡ 0)
 
 -- a number is not above a period that isn't −1, or it is below it
 abbrev pub NotAbove : Time → ℕ → Type 0
@@ -118,12 +118,12 @@ Below (At period) n = n < period
 -- −1 or 1..9,999,999, and not above a period that isn't −1
 abbrev pub SoundCapacity : Time → Time → Type 0
 SoundCapacity period Never = Unit {0}
-SoundCapacity period (At n) = Between 1 durationLimit n × NotAbove period n
+SoundCapacity period (At n) = Between 1 duration_limit n × NotAbove period n
 
 -- what CREATE_PROCESS admits
 pub record SoundGiven (frame : ℕ) (g : Given) : Type 0 where
-  pub name : Between 1 nameLimit g.name
-  pub base : Between 1 priorityLimit g.base
+  pub name : Between 1 name_limit g.name
+  pub base : Between 1 priority_limit g.base
   pub period : SoundPeriod frame g.period
   pub capacity : SoundCapacity g.period g.capacity
 
@@ -135,9 +135,9 @@ pub record Timeless (s : Times) : Type 0 where
 
 -- no time comes after the latest
 pub record Bounded (s : Times) : Type 0 where
-  pub release : NotAfter latestWake s.release
-  pub deadline : NotAfter latestDeadline s.deadline
-  pub wake : NotAfter latestWake s.wake
+  pub release : NotAfter latest_wake s.release
+  pub deadline : NotAfter latest_deadline s.deadline
+  pub wake : NotAfter latest_wake s.wake
 
 -- DORMANT
 pub record Dormant (v : Wait) (mark : Bool) (s : Times) : Type 0 where
@@ -156,7 +156,7 @@ KnownWait counts Class.nothing = Unit {0}
 KnownWait counts Class.normal = ⊥
 KnownWait counts Class.timer = Unit {0}
 KnownWait counts Class.release = Unit {0}
-KnownWait counts (Class.onto kind k m) = Between 1 (counts kind) k × (m ≤ durationLimit)
+KnownWait counts (Class.onto kind k m) = Between 1 (counts kind) k × (m ≤ duration_limit)
 
 -- w, by the wait, in NORMAL at t: a wake time with no wait stands only where the suspended mark does
 abbrev pub SoundWake : ℕ → Bool → Time → Class → Time → Type 0
@@ -176,7 +176,7 @@ abbrev pub SoundRelease : ℕ → Time → Class → Time → Type 0
 SoundRelease t period Class.nothing r = Released t period r
 SoundRelease t period Class.normal r = ⊥
 SoundRelease t period Class.timer r = Released t period r
-SoundRelease t period Class.release r = (isNever period ≡ false) × AtMost latestWake r
+SoundRelease t period Class.release r = (is_never period ≡ false) × AtMost latest_wake r
 SoundRelease t period (Class.onto kind k m) r = Released t period r
 
 -- what a process's rules look at besides its own record: M, the time, whether the mode is NORMAL, how many objects of a kind there are
@@ -194,16 +194,16 @@ pub record Going (c : Setting) (period : Time) (mark : Bool) (v : Class) (s : Ti
   pub wait : KnownWait c.counts v
   pub wake : SoundWake c.time mark s.release v s.wake
   pub release : SoundRelease c.time period v s.release
-  pub deadline : NotAfter latestDeadline s.deadline
+  pub deadline : NotAfter latest_deadline s.deadline
 
 -- what no mode and no time changes
 pub record Lasting (frame : ℕ) (g : Given) (n : ℕ) (started : Bool) (d m : ℕ) : Type 0 where
   pub given : SoundGiven frame g
-  pub current : n ≤ priorityLimit
+  pub current : n ≤ priority_limit
   pub priority : started ≡ true → 1 ≤ n
-  pub delay : d ≤ durationLimit
+  pub delay : d ≤ duration_limit
   pub early : Below g.period d
-  pub message : m ≤ durationLimit
+  pub message : m ≤ duration_limit
 
 abbrev pub LastingIn : ℕ → Process → Type 0
 LastingIn frame x = Lasting frame x.given x.current x.started x.times.delay x.message
@@ -226,27 +226,27 @@ pub record SoundProcess (c : Setting) (x : Process) : Type 0 where
 
 -- ---------------------------------------------------------------- a partition
 pub record SoundSemaphore (s : SemaphoreT) : Type 0 where
-  pub name : Between 1 nameLimit s.name
+  pub name : Between 1 name_limit s.name
   pub value : s.value ≤ s.max
-  pub max : Between 1 valueLimit s.max
+  pub max : Between 1 value_limit s.max
 
 pub record SoundEvent (e : EventState) : Type 0 where
-  pub name : Between 1 nameLimit e.name
+  pub name : Between 1 name_limit e.name
 
 -- the messages of a queue: as many as its limit at most, each one a message
 pub record SoundQueue (limit : ℕ) (q : Queue) : Type 0 where
-  pub canonical : q ≡ queueOf (held q)
+  pub canonical : q ≡ queue_of (held q)
   pub few : q.len ≤ limit
   pub each : AllMessages (held q)
 
 pub record SoundBuffer (b : Buffer) : Type 0 where
-  pub name : Between 1 nameLimit b.name
-  pub limit : Between 1 messageLimit b.limit
+  pub name : Between 1 name_limit b.name
+  pub limit : Between 1 message_limit b.limit
   pub queue : SoundQueue b.limit b.queue
 
 pub record SoundBlackboard (b : BlackboardT) : Type 0 where
-  pub name : Between 1 nameLimit b.name
-  pub message : b.message ≤ durationLimit
+  pub name : Between 1 name_limit b.name
+  pub message : b.message ≤ duration_limit
   pub blank : b.shown ≡ false → b.message ≡ 0
 
 -- a list with room for `limit`, of which n have been created; an id past these names the default
@@ -257,9 +257,9 @@ pub record Numbered {A : Type 0} (limit : ℕ) (d : A) (l : List A) (n : ℕ) : 
 
 -- the arrival list holds just the READY processes, each once, and the waiting list those that wait on an object
 pub record Listed (l : List Process) (n : ℕ) (arrival waiting : Ids) : Type 0 where
-  pub numbered : Numbered processLimit blankProcess l n
-  pub arrivals : Tracks (λ id. ready (by_id processLimit blankProcess id l)) arrival
-  pub waitings : Tracks (λ id. onObject (by_id processLimit blankProcess id l)) waiting
+  pub numbered : Numbered process_limit blank_process l n
+  pub arrivals : Tracks (λ id. ready (by_id process_limit blank_process id l)) arrival
+  pub waitings : Tracks (λ id. on_object (by_id process_limit blank_process id l)) waiting
 
 abbrev pub ListedIn : Partition → Type 0
 ListedIn p = Listed p.processes p.processCount p.arrival p.waiting
@@ -270,59 +270,59 @@ pub record Family {A : Type 0} (limit : ℕ) (d : A) (Sound : A → Type 0) (l :
   pub each : (k : ℕ) → Between 1 n k → Sound (by_id limit d k l)
 
 pub record Objects (s : List SemaphoreT) (n : ℕ) (e : List EventState) (n' : ℕ) (b : List Buffer) (n'' : ℕ) (w : List BlackboardT) (n''' : ℕ) : Type 0 where
-  pub semaphores : Family semaphoreLimit noSemaphore SoundSemaphore s n
-  pub events : Family eventLimit noEvent SoundEvent e n'
-  pub buffers : Family bufferLimit noBuffer SoundBuffer b n''
-  pub blackboards : Family blackboardLimit noBlackboard SoundBlackboard w n'''
+  pub semaphores : Family semaphore_limit no_semaphore SoundSemaphore s n
+  pub events : Family event_limit no_event SoundEvent e n'
+  pub buffers : Family buffer_limit no_buffer SoundBuffer b n''
+  pub blackboards : Family blackboard_limit no_blackboard SoundBlackboard w n'''
 
 abbrev pub ObjectsIn : Partition → Type 0
 ObjectsIn p = Objects p.semaphores p.semaphoreCount p.events p.eventCount p.buffers p.bufferCount p.blackboards p.blackboardCount
 
 -- how many objects of a kind there are, by the kinds of class_of; as many ends of channels as a table can have
 abbrev pub counted : ℕ → ℕ → ℕ → ℕ → ℕ → ℕ
-counted s e b w kind = cond (eqb kind 1) s (cond (eqb kind 2) e (cond (eqb kind 3) b (cond (eqb kind 4) b (cond (eqb kind 5) w (cond (eqb kind 6) channelLimit (cond (eqb kind 7) channelLimit 0))))))
+counted s e b w kind = cond (eqb kind 1) s (cond (eqb kind 2) e (cond (eqb kind 3) b (cond (eqb kind 4) b (cond (eqb kind 5) w (cond (eqb kind 6) channel_limit (cond (eqb kind 7) channel_limit 0))))))
 
 abbrev pub setting_of : ℕ → ℕ → Partition → Setting
-setting_of frame t p = setting frame t (normalMode p) (counted p.semaphoreCount p.eventCount p.bufferCount p.blackboardCount)
+setting_of frame t p = setting frame t (normal_mode p) (counted p.semaphoreCount p.eventCount p.bufferCount p.blackboardCount)
 
 -- the preemption lock: a level of 0..16; above 0 the mode is NORMAL and the holder is READY, at 0 there is no holder
-pub record SoundLock (level holder : ℕ) (inNormal isReady : Bool) : Type 0 where
-  pub few : level ≤ levelLimit
+pub record SoundLock (level holder : ℕ) (inNormal is_ready : Bool) : Type 0 where
+  pub few : level ≤ level_limit
   pub free : level ≡ 0 → holder ≡ 0
   pub normal : 0 < level → inNormal ≡ true
-  pub held : 0 < level → isReady ≡ true
+  pub held : 0 < level → is_ready ≡ true
 
 abbrev pub LockIn : Partition → Type 0
-LockIn p = SoundLock p.level p.holder (normalMode p) (ready (process p.holder p))
+LockIn p = SoundLock p.level p.holder (normal_mode p) (ready (process p.holder p))
 
 pub record Valid (frame t : ℕ) (p : Partition) : Type 0 where
-  pub mode : p.mode ≤ modeLimit
+  pub mode : p.mode ≤ mode_limit
   pub lock : LockIn p
   pub lists : ListedIn p
   pub objects : ObjectsIn p
-  pub eachProcess : (id : ℕ) → Between 1 p.processCount id → SoundProcess (setting_of frame t p) (process id p)
+  pub each_process : (id : ℕ) → Between 1 p.processCount id → SoundProcess (setting_of frame t p) (process id p)
 
 -- what a call sees of a partition that it may be made by: it is current, neither IDLE nor NORMAL with nothing running
 pub record SoundContext (c : Context) (p : Partition) : Type 0 where
-  pub time : c.time ≤ timeLimit
-  pub frame : Between 1 frameLimit c.frame
+  pub time : c.time ≤ time_limit
+  pub frame : Between 1 frame_limit c.frame
   pub left : Between 1 c.frame c.left
   pub ahead : c.time < c.release
   pub near : c.release ≤ c.time + c.frame
   pub caller : c.caller ≡ running p
-  pub calls : noCaller p ≡ false
+  pub calls : no_caller p ≡ false
 
 pub record SoundMessage (t : ℕ) (x : Message) : Type 0 where
-  pub value : x.value ≤ durationLimit
+  pub value : x.value ≤ duration_limit
   pub written : x.written ≤ t
 
 -- ---------------------------------------------------------------- decisions
 -- the next process, DORMANT
 pub record SoundCreated (frame : ℕ) (p : Partition) (id : ℕ) (x : Process) : Type 0 where
-  pub room : p.processCount < processLimit
+  pub room : p.processCount < process_limit
   pub next : id ≡ p.processCount + 1
   pub given : SoundGiven frame x.given
-  pub dormant : x ≡ createdProcess x.given
+  pub dormant : x ≡ created_process x.given
 
 -- an object that is known, or the next one
 abbrev pub KnownOrNext : ℕ → ℕ → ℕ → Type 0
@@ -330,17 +330,17 @@ KnownOrNext limit count k = Between 1 (count + 1) k × (k ≤ limit)
 
 -- messages that may move so: one joins where there is room, the first leaves where there is one
 abbrev pub SoundMove : ℕ → Queue → Transfer → Type 0
-SoundMove limit q (Put m) = (q.len < limit) × (m ≤ durationLimit)
-SoundMove limit q (HandedTo id m) = m ≤ durationLimit
+SoundMove limit q (Put m) = (q.len < limit) × (m ≤ duration_limit)
+SoundMove limit q (HandedTo id m) = m ≤ duration_limit
 SoundMove limit q Taken = 1 ≤ q.len
-SoundMove limit q (LetIn id m) = (1 ≤ q.len) × (m ≤ durationLimit)
+SoundMove limit q (LetIn id m) = (1 ≤ q.len) × (m ≤ duration_limit)
 
 -- a process whose wait may end: it has been created, and waits on an object
 abbrev pub SoundEnd : Partition → Transfer → Type 0
 SoundEnd p (Put m) = Unit {0}
-SoundEnd p (HandedTo id m) = Between 1 p.processCount id × (onObject (process id p) ≡ true)
+SoundEnd p (HandedTo id m) = Between 1 p.processCount id × (on_object (process id p) ≡ true)
 SoundEnd p Taken = Unit {0}
-SoundEnd p (LetIn id m) = Between 1 p.processCount id × (onObject (process id p) ≡ true)
+SoundEnd p (LetIn id m) = Between 1 p.processCount id × (on_object (process id p) ≡ true)
 
 -- where process id holds the preemption lock it is READY with the record x
 abbrev pub HolderReady : Partition → ℕ → Process → Type 0
@@ -356,19 +356,19 @@ SoundChange c p Nothing = Unit {0}
 SoundChange c p (Stored id x) = Between 1 p.processCount id × SoundProcess (setting_of c.frame c.time p) x × HolderReady p id x
 SoundChange c p (Created id x) = SoundCreated c.frame p id x
 SoundChange c p (Last id) = ready (process id p) ≡ true
-SoundChange c p (StoredSemaphore k s) = KnownOrNext semaphoreLimit p.semaphoreCount k × SoundSemaphore s
-SoundChange c p (StoredEvent k e) = KnownOrNext eventLimit p.eventCount k × SoundEvent e
-SoundChange c p (CreatedBuffer k name limit) = KnownOrNext bufferLimit p.bufferCount k × SoundBuffer (emptyBuffer name limit)
+SoundChange c p (StoredSemaphore k s) = KnownOrNext semaphore_limit p.semaphoreCount k × SoundSemaphore s
+SoundChange c p (StoredEvent k e) = KnownOrNext event_limit p.eventCount k × SoundEvent e
+SoundChange c p (CreatedBuffer k name limit) = KnownOrNext buffer_limit p.bufferCount k × SoundBuffer (empty_buffer name limit)
 SoundChange c p (Moved k a) = Between 1 p.bufferCount k × SoundMove (buffer k p).limit (buffer k p).queue a × SoundEnd p a
-SoundChange c p (StoredBlackboard k b) = KnownOrNext blackboardLimit p.blackboardCount k × SoundBlackboard b
+SoundChange c p (StoredBlackboard k b) = KnownOrNext blackboard_limit p.blackboardCount k × SoundBlackboard b
 SoundChange c p (Ended o) = Unit {0}
-SoundChange c p (Handed o m) = m ≤ durationLimit
-SoundChange c p (LevelSet level holder) = SoundLock level holder (normalMode p) (ready (process holder p)) × SameHolder p level holder
-SoundChange c p (Entered d) = (d ≡ c) × (normalMode p ≡ false)
+SoundChange c p (Handed o m) = m ≤ duration_limit
+SoundChange c p (LevelSet level holder) = SoundLock level holder (normal_mode p) (ready (process holder p)) × SameHolder p level holder
+SoundChange c p (Entered d) = (d ≡ c) × (normal_mode p ≡ false)
 
 -- value and extra are in the line writer's range
 abbrev pub SoundValue : ℕ → Time → Type 0
-SoundValue value extra = (value ≤ numberLimit) × NotAfter numberLimit extra
+SoundValue value extra = (value ≤ number_limit) × NotAfter number_limit extra
 
 -- a decision whose changes are sound, and whose numbers are in the line writer's range
 abbrev pub SoundDecision : Context → Partition → Decision → Type 0
@@ -376,20 +376,20 @@ SoundDecision c p (Refused code) = Unit {0}
 SoundDecision c p (Unchanged value extra) = SoundValue value extra
 SoundDecision c p Ticked = Unit {0}
 SoundDecision c p (Blocked id x) = SoundChange c p (Stored id x)
-SoundDecision c p (Changed a b value) = SoundChange c p a × SoundChange c (applied a p) b × (value ≤ numberLimit)
-SoundDecision c p (Restarted mode) = mode ≤ modeLimit
+SoundDecision c p (Changed a b value) = SoundChange c p a × SoundChange c (applied a p) b × (value ≤ number_limit)
+SoundDecision c p (Restarted mode) = mode ≤ mode_limit
 SoundDecision c p (Written i x) = SoundMessage c.time x
-SoundDecision c p (Passed i a value) = value ≤ numberLimit
+SoundDecision c p (Passed i a value) = value ≤ number_limit
 
 -- the running process id where preemption is not locked: READY, every member of the arrival list before it of smaller current priority, every
 -- one after it of none greater
 pub record Runs (p : Partition) (id : ℕ) : Type 0 where
-  pub isReady : ready (process id p) ≡ true
+  pub is_ready : ready (process id p) ≡ true
   pub before : List ℕ
   pub after : List ℕ
   pub split : members p.arrival ≡ before ++ (id ∷ after)
   pub smaller : (y : ℕ) → contains y before ≡ true → (process y p).current < (process id p).current
-  pub notGreater : (y : ℕ) → contains y after ≡ true → (process y p).current ≤ (process id p).current
+  pub not_greater : (y : ℕ) → contains y after ≡ true → (process y p).current ≤ (process id p).current
 
 -- ---------------------------------------------------------------- a table
 -- a window after the end of the previous one
@@ -407,51 +407,51 @@ pub record SoundChannel (size : ℕ) (c : Channel) : Type 0 where
   pub source : Between 1 size c.source
   pub destination : Between 1 size c.destination
   pub apart : c.source ≡ c.destination → ⊥
-  pub refresh : Between 1 durationLimit c.refresh
-  pub room : c.size ≤ sizeLimit
+  pub refresh : Between 1 duration_limit c.refresh
+  pub room : c.size ≤ size_limit
 
 pub record SoundTable (T : Table) : Type 0 where
-  pub frame : Between 1 frameLimit T.frame
-  pub size : Between 1 partitionLimit T.size
-  pub windowsSize : length T.windows ≡ windowLimit
-  pub windowCount : Between 1 windowLimit T.windowCount
-  pub channelsSize : length T.channels ≡ channelLimit
-  pub channelCount : T.channelCount ≤ channelLimit
-  pub eachWindow : SoundWindows 0 T.frame T.size (windows T)
-  pub flagged : (k : ℕ) → Between 1 T.size k → hasFlagged k (windows T) ≡ true
-  pub eachChannel : (i : ℕ) → i < T.channelCount → SoundChannel T.size (channel T i)
+  pub frame : Between 1 frame_limit T.frame
+  pub size : Between 1 partition_limit T.size
+  pub windows_size : length T.windows ≡ window_limit
+  pub windowCount : Between 1 window_limit T.windowCount
+  pub channels_size : length T.channels ≡ channel_limit
+  pub channelCount : T.channelCount ≤ channel_limit
+  pub each_window : SoundWindows 0 T.frame T.size (windows T)
+  pub flagged : (k : ℕ) → Between 1 T.size k → has_flagged k (windows T) ≡ true
+  pub each_channel : (i : ℕ) → i < T.channelCount → SoundChannel T.size (channel T i)
 
 -- ---------------------------------------------------------------- the module
 pub record SoundModule (m : Module) : Type 0 where
   pub table : SoundTable m.table
-  pub partitionsSize : length m.partitions ≡ partitionLimit
-  pub messagesSize : length m.messages ≡ channelLimit
-  pub queuesSize : length m.queues ≡ channelLimit
-  pub time : m.t ≤ timeLimit
-  pub eachPartition : (i : ℕ) → i < m.table.size → Valid m.table.frame m.t (part m i)
-  pub eachMessage : (i : ℕ) → SoundMessage m.t (message m i)
-  pub eachQueue : (i : ℕ) → SoundQueue (channel m.table i).size (queue m i)
+  pub partitions_size : length m.partitions ≡ partition_limit
+  pub messages_size : length m.messages ≡ channel_limit
+  pub queues_size : length m.queues ≡ channel_limit
+  pub time : m.t ≤ time_limit
+  pub each_partition : (i : ℕ) → i < m.table.size → Valid m.table.frame m.t (part m i)
+  pub each_message : (i : ℕ) → SoundMessage m.t (message m i)
+  pub each_queue : (i : ℕ) → SoundQueue (channel m.table i).size (queue m i)
 
 -- the record of a refused table, or one with a sound table
 abbrev pub ValidModule : Module → Type 0
-ValidModule m = (m ≡ emptyModule) ⊎ SoundModule m
+ValidModule m = (m ≡ empty_module) ⊎ SoundModule m
 
 -- Module records come only from table reading and from events.
 pub data Reached : Module → Type 0 where
-  read : (input : List ℕ) → Reached (readTable input).state
+  read : (input : List ℕ) → Reached (read_table input).state
   stepped : (m : Module) (e : EventT) → Reached m → Reached (step m e).state
 
 -- ---------------------------------------------------------------- answers
 -- the line writer's range
 pub record ReplyInRange (r : Reply) : Type 0 where
   pub code : r.code ≤ 13
-  pub value : r.value ≤ numberLimit
-  pub extra : NotAfter numberLimit r.extra
+  pub value : r.value ≤ number_limit
+  pub extra : NotAfter number_limit r.extra
 
 pub record AnswerInRange (size : ℕ) (a : Answer) : Type 0 where
   pub code : a.code ≤ 13
-  pub value : a.value ≤ numberLimit
-  pub extra : NotAfter numberLimit a.extra
-  pub t : a.t ≤ timeLimit
+  pub value : a.value ≤ number_limit
+  pub extra : NotAfter number_limit a.extra
+  pub t : a.t ≤ time_limit
   pub current : a.current ≤ size
-  pub running : a.running ≤ processLimit
+  pub running : a.running ≤ process_limit

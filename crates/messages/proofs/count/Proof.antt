@@ -1,14 +1,14 @@
-use Rattle.machine.specs.Limits.{messageLimit}
-use Rattle.machine.proofs.Taken.{taken-low, taken-high}
+use Rattle.machine.specs.Limits.{message_limit}
+use Rattle.machine.proofs.Taken.{taken_low, taken_high}
 use borrow.Author.Rules.{rules}
 use Rattle.messages.proofs.count.Statement.{statement}
 use Rattle.messages.proofs.count.Tie as tie
 
 returns : tie.Need-returns
-returns c = taken-low c.before.before.args.q.items _ messageLimit (search rules) c.if1.true
+returns c = taken_low c.before.before.args.q.items _ message_limit (search rules) c.if1.true
 
-returns-2 : tie.Need-returns-2
-returns-2 c = taken-high c.before.before.args.q.items _ messageLimit (search rules) c.if1.false
+returns_2 : tie.Need-returns-2
+returns_2 c = taken_high c.before.before.args.q.items _ message_limit (search rules) c.if1.false
 
 pub count_spec : {M : Type 1} → statement M
-count_spec = tie.close (tie.spec (λ c. search rules) returns returns-2)
+count_spec = tie.close (tie.spec (λ c. search rules) returns returns_2)

@@ -8,9 +8,9 @@ returns : tie.Need-returns
 unfolding put
 returns c = rw (lt-ltb _ _ c.if1.true)
 
-returns-2 : tie.Need-returns-2
+returns_2 : tie.Need-returns-2
 unfolding put
-returns-2 c = rw (le-ltb _ _ c.if1.false)
+returns_2 c = rw (le-ltb _ _ c.if1.false)
 
 pub put_spec : {M : Type 1} → statement M
 put_spec =
@@ -21,4 +21,4 @@ put_spec =
     (λ c. search rules)
     (λ c. search rules)
     returns
-    returns-2)
+    returns_2)

@@ -7,9 +7,9 @@ returns : tie.Need-returns
 unfolding received
 returns c = rw (eq-eqb _ _ c.if1.true)
 
-returns-2 : tie.Need-returns-2
+returns_2 : tie.Need-returns-2
 unfolding received
-returns-2 c = rw (ne_eqb _ _ c.if1.false)
+returns_2 c = rw (ne_eqb _ _ c.if1.false)
 
 pub received-from-spec : {M : Type 1} → statement M
-received-from-spec = tie.close (tie.spec returns returns-2)
+received-from-spec = tie.close (tie.spec returns returns_2)

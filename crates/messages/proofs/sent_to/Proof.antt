@@ -7,9 +7,9 @@ returns : tie.Need-returns
 unfolding sent
 returns c = rw (eq-eqb _ _ c.if1.true)
 
-returns-2 : tie.Need-returns-2
+returns_2 : tie.Need-returns-2
 unfolding sent
-returns-2 c = rw (ne_eqb _ _ c.if1.false)
+returns_2 c = rw (ne_eqb _ _ c.if1.false)
 
 pub sent-to-spec : {M : Type 1} → statement M
-sent-to-spec = tie.close (tie.spec returns returns-2)
+sent-to-spec = tie.close (tie.spec returns returns_2)

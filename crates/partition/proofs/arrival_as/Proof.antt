@@ -2,8 +2,8 @@ use borrow.Author.Rules.{rules}
 use Rattle.partition.proofs.arrival_as.Statement.{statement}
 use Rattle.partition.proofs.arrival_as.Tie as tie
 
-returns-4 : tie.Need-returns-4
-returns-4 c = rw (c.before.before.c.given.1, c.last-in.ensures)
+returns_4 : tie.Need-returns-4
+returns_4 c = rw (c.before.before.c.given.1, c.last-in.ensures)
 
 pub arrival-as-spec : {M : Type 1} → statement M
 arrival-as-spec =
@@ -26,7 +26,7 @@ arrival-as-spec =
     (λ c. search rules)
     (λ c. search rules)
     (λ c. search rules)
-    returns-4
+    returns_4
     (λ c. search rules)
     (λ c. search rules)
     (λ c. search rules)

@@ -2,8 +2,8 @@ use borrow.Author.Rules.{rules}
 use Rattle.partition.proofs.blackboards_as.Statement.{statement}
 use Rattle.partition.proofs.blackboards_as.Tie as tie
 
-returns-9 : tie.Need-returns-9
-returns-9 c = rw (c.before.before.c.given.1, c.counted.ensures)
+returns_9 : tie.Need-returns-9
+returns_9 c = rw (c.before.before.c.given.1, c.counted.ensures)
 
 pub blackboards-as-spec : {M : Type 1} → statement M
 blackboards-as-spec =
@@ -31,7 +31,7 @@ blackboards-as-spec =
     (λ c. search rules)
     (λ c. search rules)
     (λ c. search rules)
-    returns-9
+    returns_9
     (λ c. search rules)
     (λ c. search rules)
     (λ c. search rules)

@@ -2,11 +2,11 @@ use borrow.Author.Rules.{rules}
 use Rattle.partition.proofs.buffers_as.Statement.{statement}
 use Rattle.partition.proofs.buffers_as.Tie as tie
 
-returns-7 : tie.Need-returns-7
-returns-7 c = rw (c.before.before.c.given.1, c.counted.ensures)
+returns_7 : tie.Need-returns-7
+returns_7 c = rw (c.before.before.c.given.1, c.counted.ensures)
 
-returns-8 : tie.Need-returns-8
-returns-8 c = rw (c.before.before.c2.given.1, c.counted2.ensures)
+returns_8 : tie.Need-returns-8
+returns_8 c = rw (c.before.before.c2.given.1, c.counted2.ensures)
 
 pub buffers-as-spec : {M : Type 1} → statement M
 buffers-as-spec =
@@ -33,8 +33,8 @@ buffers-as-spec =
     (λ c. search rules)
     (λ c. search rules)
     (λ c. search rules)
-    returns-7
-    returns-8
+    returns_7
+    returns_8
     (λ c. search rules)
     (λ c. search rules)
     (λ c. search rules)

@@ -2,11 +2,11 @@ use borrow.Author.Rules.{rules}
 use Rattle.partition.proofs.ended_as.Statement.{statement}
 use Rattle.partition.proofs.ended_as.Tie as tie
 
-returns-2 : tie.Need-returns-2
-returns-2 c = rw (c.hand.ensures, c.before.before.a.given.1)
+returns_2 : tie.Need-returns-2
+returns_2 c = rw (c.hand.ensures, c.before.before.a.given.1)
 
-returns-4 : tie.Need-returns-4
-returns-4 c = rw (c.wait-ended.ensures, c.before.enum-told3.given.1)
+returns_4 : tie.Need-returns-4
+returns_4 c = rw (c.wait-ended.ensures, c.before.enum-told3.given.1)
 
 pub ended-as-spec : {M : Type 1} → statement M
 ended-as-spec =
@@ -19,6 +19,6 @@ ended-as-spec =
     (λ c. search rules)
     (λ _ _. tt)
     (λ c. search rules)
-    returns-2
+    returns_2
     (λ c. search rules)
-    returns-4)
+    returns_4)

@@ -2,8 +2,8 @@ use borrow.Author.Rules.{rules}
 use Rattle.partition.proofs.events_as.Statement.{statement}
 use Rattle.partition.proofs.events_as.Tie as tie
 
-returns-6 : tie.Need-returns-6
-returns-6 c = rw (c.before.before.c.given.1, c.counted.ensures)
+returns_6 : tie.Need-returns-6
+returns_6 c = rw (c.before.before.c.given.1, c.counted.ensures)
 
 pub events-as-spec : {M : Type 1} → statement M
 events-as-spec =
@@ -28,7 +28,7 @@ events-as-spec =
     (λ c. search rules)
     (λ c. search rules)
     (λ c. search rules)
-    returns-6
+    returns_6
     (λ c. search rules)
     (λ c. search rules)
     (λ c. search rules)

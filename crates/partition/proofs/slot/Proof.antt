@@ -6,8 +6,8 @@ use Rattle.partition.proofs.slot.Tie as tie
 returns : tie.Need-returns
 returns c = rw (eq-eqb _ 0 c.if1.true)
 
-returns-2 : tie.Need-returns-2
-returns-2 c = rw (ne_eqb _ 0 c.if1.false)
+returns_2 : tie.Need-returns-2
+returns_2 c = rw (ne_eqb _ 0 c.if1.false)
 
 pub slot-spec : {M : Type 1} → statement M
-slot-spec = tie.close (tie.spec returns (λ c. search rules) (λ c. search rules) returns-2)
+slot-spec = tie.close (tie.spec returns (λ c. search rules) (λ c. search rules) returns_2)

@@ -1,16 +1,16 @@
-use Rattle.partition.proofs.Laws.{stored_at, slot-out}
-use Rattle.machine.specs.Limits.{processLimit}
+use Rattle.partition.proofs.Laws.{stored_at, slot_out}
+use Rattle.machine.specs.Limits.{process_limit}
 use mathlib.Core.Path.{sym}
-use Rattle.machine.proofs.Bounds.{stored-out}
+use Rattle.machine.proofs.Bounds.{stored_out}
 use borrow.Author.Rules.{rules}
 use Rattle.partition.proofs.store.Statement.{statement}
 use Rattle.partition.proofs.store.Tie as tie
 
 returns : tie.Need-returns
-returns c = sym (stored-out _ _ _ (slot-out processLimit c.before.before.args.id _ c.before.slot.ensures c.if1.true))
+returns c = sym (stored_out _ _ _ (slot_out process_limit c.before.before.args.id _ c.before.slot.ensures c.if1.true))
 
-returns-2 : tie.Need-returns-2
-returns-2 c = stored_at _ _ c.before.before.before.before.before.before.before.args.p _ c.before.before.before.before.before.before.slot.ensures _ _ c.before.before.before.before.before.if1.false c.before.before.arrival-with.ensures c.waiting-with.ensures
+returns_2 : tie.Need-returns-2
+returns_2 c = stored_at _ _ c.before.before.before.before.before.before.before.args.p _ c.before.before.before.before.before.before.slot.ensures _ _ c.before.before.before.before.before.if1.false c.before.before.arrival-with.ensures c.waiting-with.ensures
 
 pub store_spec : {M : Type 1} → statement M
 store_spec =
@@ -24,4 +24,4 @@ store_spec =
     (λ c. search rules)
     (λ c κs. search rules)
     (λ c κs. search rules)
-    returns-2)
+    returns_2)

@@ -5,8 +5,8 @@ use Rattle.partition.proofs.touched_count.Tie as tie
 returns : tie.Need-returns
 returns c = rw (eq-eqb _ _ c.before.if1.true) c.wide.ensures
 
-returns-2 : tie.Need-returns-2
-returns-2 c = rw (ne_eqb _ _ c.if1.false)
+returns_2 : tie.Need-returns-2
+returns_2 c = rw (ne_eqb _ _ c.if1.false)
 
 pub touched-count-spec : {M : Type 1} → statement M
-touched-count-spec = tie.close (tie.spec (λ _ _. tt) returns returns-2)
+touched-count-spec = tie.close (tie.spec (λ _ _. tt) returns returns_2)

@@ -6,8 +6,8 @@ use Rattle.places.proofs.is_stray_at.Tie as tie
 returns : tie.Need-returns
 returns c = rw (lt-ltb _ _ c.before.if1.true, c.is_number.ensures)
 
-returns-2 : tie.Need-returns-2
-returns-2 c = rw (le-ltb _ _ c.if1.false)
+returns_2 : tie.Need-returns-2
+returns_2 c = rw (le-ltb _ _ c.if1.false)
 
 pub is-stray-at-spec : {M : Type 1} → statement M
-is-stray-at-spec = tie.close (tie.spec (λ c κs. search rules) returns returns-2)
+is-stray-at-spec = tie.close (tie.spec (λ c κs. search rules) returns returns_2)

@@ -8,17 +8,17 @@ returns : tie.Need-returns
 unfolding checked
 returns c T e = rw (← c.before.is-malformed.ensures T e, c.if1.true)
 
-returns-2 : tie.Need-returns-2
+returns_2 : tie.Need-returns-2
 unfolding checked
-returns-2 c T e = rw (← c.before.before.before.before.is-malformed.ensures T e, c.before.before.before.if1.false, ← c.before.before.number-of.ensures, eq-eqb _ _ c.before.if2.true, le-leb _ _ c.if3.true)
+returns_2 c T e = rw (← c.before.before.before.before.is-malformed.ensures T e, c.before.before.before.if1.false, ← c.before.before.number-of.ensures, eq-eqb _ _ c.before.if2.true, le-leb _ _ c.if3.true)
 
-returns-3 : tie.Need-returns-3
+returns_3 : tie.Need-returns-3
 unfolding checked
-returns-3 c T e = rw (← c.before.before.before.before.is-malformed.ensures T e, c.before.before.before.if1.false, ← c.before.before.number-of.ensures, eq-eqb _ _ c.before.if2.true, lt-leb _ _ c.if3.false)
+returns_3 c T e = rw (← c.before.before.before.before.is-malformed.ensures T e, c.before.before.before.if1.false, ← c.before.before.number-of.ensures, eq-eqb _ _ c.before.if2.true, lt-leb _ _ c.if3.false)
 
-returns-4 : tie.Need-returns-4
+returns_4 : tie.Need-returns-4
 unfolding checked
-returns-4 c T e = rw (← c.before.before.before.is-malformed.ensures T e, c.before.before.if1.false, ← c.before.number-of.ensures, ne_eqb _ _ c.if2.false)
+returns_4 c T e = rw (← c.before.before.before.is-malformed.ensures T e, c.before.before.if1.false, ← c.before.number-of.ensures, ne_eqb _ _ c.if2.false)
 
 pub place-event-spec : {M : Type 1} → statement M
 place-event-spec =
@@ -27,7 +27,7 @@ place-event-spec =
     (λ c κs. search rules)
     returns
     (λ c κs. search rules)
-    returns-2
+    returns_2
     (λ c. search rules)
-    returns-3
-    returns-4)
+    returns_3
+    returns_4)

@@ -6,8 +6,8 @@ use Rattle.process.proofs.capped_time.Tie as tie
 returns : tie.Need-returns
 returns c = rw (le-leb _ _ c.if1.true)
 
-returns-2 : tie.Need-returns-2
-returns-2 c = rw (lt-leb _ _ c.if1.false)
+returns_2 : tie.Need-returns-2
+returns_2 c = rw (lt-leb _ _ c.if1.false)
 
 pub capped-time-spec : {M : Type 1} → statement M
-capped-time-spec = tie.close (tie.spec (λ c. search rules) (λ c. search rules) returns returns-2)
+capped-time-spec = tie.close (tie.spec (λ c. search rules) (λ c. search rules) returns returns_2)

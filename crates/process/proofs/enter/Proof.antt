@@ -6,9 +6,9 @@ returns : tie.Need-returns
 unfolding entered
 returns c = rw (← c.before.before.before.before.is-for-normal.ensures, c.before.before.before.if1.true, c.with-suspended.ensures, c.before.with-current.ensures, c.before.before.start.ensures)
 
-returns-2 : tie.Need-returns-2
+returns_2 : tie.Need-returns-2
 unfolding entered
-returns-2 c = rw (← c.before.is-for-normal.ensures, c.if1.false)
+returns_2 c = rw (← c.before.is-for-normal.ensures, c.if1.false)
 
 pub enter_spec : {M : Type 1} → statement M
 enter_spec =
@@ -19,4 +19,4 @@ enter_spec =
     (λ _ _. tt)
     (λ _ _. tt)
     returns
-    returns-2)
+    returns_2)

@@ -6,9 +6,9 @@ returns : tie.Need-returns
 unfolding expired
 returns c = rw (← c.before.before.is-due.ensures, c.before.if1.true)
 
-returns-2 : tie.Need-returns-2
+returns_2 : tie.Need-returns-2
 unfolding expired
-returns-2 c = rw (← c.before.is-due.ensures, c.if1.false)
+returns_2 c = rw (← c.before.is-due.ensures, c.if1.false)
 
 pub expire-spec : {M : Type 1} → statement M
-expire-spec = tie.close (tie.spec (λ _ _. tt) returns returns-2)
+expire-spec = tie.close (tie.spec (λ _ _. tt) returns returns_2)

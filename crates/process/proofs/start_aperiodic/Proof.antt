@@ -5,8 +5,8 @@ use Rattle.process.proofs.start_aperiodic.Tie as tie
 returns : tie.Need-returns
 returns c = rw (c.begin.ensures, c.before.before.later-time2.ensures, c.before.before.before.later-time.ensures, eq-eqb _ _ c.before.if1.true)
 
-returns-2 : tie.Need-returns-2
-returns-2 c = rw (c.begin2.ensures, c.before.before.later-time2.ensures, c.before.before.before.later-time.ensures, ne_eqb _ _ c.before.if1.false)
+returns_2 : tie.Need-returns-2
+returns_2 c = rw (c.begin2.ensures, c.before.before.later-time2.ensures, c.before.before.before.later-time.ensures, ne_eqb _ _ c.before.if1.false)
 
 pub start-aperiodic-spec : {M : Type 1} → statement M
 start-aperiodic-spec =
@@ -17,4 +17,4 @@ start-aperiodic-spec =
     (λ _ _. tt)
     returns
     (λ _ _. tt)
-    returns-2)
+    returns_2)

@@ -6,13 +6,13 @@ returns : tie.Need-returns
 unfolding woken
 returns c = rw (← c.before.before.before.before.before.is-due.ensures, c.before.before.before.before.if1.true, ← c.before.before.before.is-only-marked.ensures, c.before.before.if2.true, c.with-suspended.ensures, c.before.wait-ended.ensures)
 
-returns-2 : tie.Need-returns-2
+returns_2 : tie.Need-returns-2
 unfolding woken
-returns-2 c = rw (← c.before.before.before.before.before.is-due.ensures, c.before.before.before.before.if1.true, ← c.before.before.before.is-only-marked.ensures, c.before.before.if2.false, c.wait-ended2.ensures, c.before.timeout-code.ensures)
+returns_2 c = rw (← c.before.before.before.before.before.is-due.ensures, c.before.before.before.before.if1.true, ← c.before.before.before.is-only-marked.ensures, c.before.before.if2.false, c.wait-ended2.ensures, c.before.timeout-code.ensures)
 
-returns-3 : tie.Need-returns-3
+returns_3 : tie.Need-returns-3
 unfolding woken
-returns-3 c = rw (← c.before.is-due.ensures, c.if1.false)
+returns_3 c = rw (← c.before.is-due.ensures, c.if1.false)
 
 pub wake-spec : {M : Type 1} → statement M
 wake-spec =
@@ -25,5 +25,5 @@ wake-spec =
     returns
     (λ _ _. tt)
     (λ _ _. tt)
-    returns-2
-    returns-3)
+    returns_2
+    returns_3)

@@ -7,8 +7,8 @@ use Rattle.queuing.proofs.end_slot.Tie as tie
 returns : tie.Need-returns
 returns c = rw (← c.before.other-end.ensures) (omega arith)
 
-returns-2 : tie.Need-returns-2
-returns-2 c = rw (← c.before.other-end.ensures)
+returns_2 : tie.Need-returns-2
+returns_2 c = rw (← c.before.other-end.ensures)
 
 pub end-slot-spec : {M : Type 1} → statement M
 end-slot-spec =
@@ -18,4 +18,4 @@ end-slot-spec =
     returns
     (λ c. search rules)
     (λ c. search rules)
-    returns-2)
+    returns_2)

@@ -6,8 +6,8 @@ use Rattle.queuing.proofs.other_end.Tie as tie
 returns : tie.Need-returns
 returns c = rw (eq-eqb _ _ c.if1.true)
 
-returns-2 : tie.Need-returns-2
-returns-2 c = rw (ne_eqb _ _ c.if1.false)
+returns_2 : tie.Need-returns-2
+returns_2 c = rw (ne_eqb _ _ c.if1.false)
 
 pub other-end-spec : {M : Type 1} → statement M
-other-end-spec = tie.close (tie.spec (λ c. search rules) returns returns-2)
+other-end-spec = tie.close (tie.spec (λ c. search rules) returns returns_2)

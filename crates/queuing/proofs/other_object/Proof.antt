@@ -7,11 +7,11 @@ use Rattle.queuing.proofs.other_object.Tie as tie
 returns : tie.Need-returns
 returns c = rw (le-ltb _ _ c.if1.true)
 
-returns-2 : tie.Need-returns-2
-returns-2 c = rw (lt-ltb _ _ c.before.before.before.before.if1.false, eq-eqb _ _ c.before.if2.true, ← numbered _ _ c.before.before.before.number_at.ensures c.before.before.before.before.if1.false) c.object_of.ensures
+returns_2 : tie.Need-returns-2
+returns_2 c = rw (lt-ltb _ _ c.before.before.before.before.if1.false, eq-eqb _ _ c.before.if2.true, ← numbered _ _ c.before.before.before.number_at.ensures c.before.before.before.before.if1.false) c.object_of.ensures
 
-returns-3 : tie.Need-returns-3
-returns-3 c = rw (lt-ltb _ _ c.before.before.before.before.if1.false, ne_eqb _ _ c.before.if2.false, ← numbered _ _ c.before.before.before.number_at.ensures c.before.before.before.before.if1.false) c.object-of2.ensures
+returns_3 : tie.Need-returns-3
+returns_3 c = rw (lt-ltb _ _ c.before.before.before.before.if1.false, ne_eqb _ _ c.before.if2.false, ← numbered _ _ c.before.before.before.number_at.ensures c.before.before.before.before.if1.false) c.object-of2.ensures
 
 pub other-object-spec : {M : Type 1} → statement M
 other-object-spec =
@@ -21,6 +21,6 @@ other-object-spec =
     (λ _ _. tt)
     (λ c. search rules)
     (λ _ _. tt)
-    returns-2
+    returns_2
     (λ _ _. tt)
-    returns-3)
+    returns_3)

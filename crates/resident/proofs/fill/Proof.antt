@@ -3,43 +3,43 @@ use mathlib.Core.Path.{◌≡◌, refl}
 use native.Mathlib.Omega.{arith}
 use lib.ListN.{length, take}
 use borrow.Author.Rules.{rules}
-use Rattle.machine.specs.Limits.{processLimit}
-use Rattle.machine.proofs.Taken.{length-mapped}
-use Rattle.resident.specs.Mirrors.{currentOf, objectOf, dueOf, filled}
+use Rattle.machine.specs.Limits.{process_limit}
+use Rattle.machine.proofs.Taken.{length_mapped}
+use Rattle.resident.specs.Mirrors.{current_of, object_of, due_of, filled}
 use Rattle.resident.proofs.Laws.{fill_none, fill_more, fill_done}
 use Rattle.resident.proofs.fill.Statement.{statement}
 use Rattle.resident.proofs.fill.Tie as tie
 
-abbrev invariant-loop : tie.invariant-loop
-invariant-loop currents₀ objects₀ dues₀ p i₀ currents objects dues i = (i ≤ processLimit) × (length p.processes ≡ processLimit) × (currents ≡ filled currentOf (take i p.processes) currents₀) × (objects ≡ filled objectOf (take i p.processes) objects₀) × (dues ≡ filled dueOf (take i p.processes) dues₀)
+abbrev invariant_loop : tie.invariant-loop
+invariant_loop currents₀ objects₀ dues₀ p i₀ currents objects dues i = (i ≤ process_limit) × (length p.processes ≡ process_limit) × (currents ≡ filled current_of (take i p.processes) currents₀) × (objects ≡ filled object_of (take i p.processes) objects₀) × (dues ≡ filled due_of (take i p.processes) dues₀)
 
-abbrev decreases-loop : tie.decreases-loop
-decreases-loop currents₀ objects₀ dues₀ p i₀ currents objects dues i = processLimit - i
+abbrev decreases_loop : tie.decreases-loop
+decreases_loop currents₀ objects₀ dues₀ p i₀ currents objects dues i = process_limit - i
 
-loop-holds : tie.Need-loop-init invariant-loop decreases-loop
-loop-holds c = (omega arith, search (rules, length-mapped), fill_none currentOf _, fill_none objectOf _, fill_none dueOf _)
+loop_holds : tie.Need-loop-init invariant_loop decreases_loop
+loop_holds c = (omega arith, search (rules, length_mapped), fill_none current_of _, fill_none object_of _, fill_none due_of _)
 
-loop-again : tie.Need-loop-preserved invariant-loop decreases-loop
-loop-again c =
+loop_again : tie.Need-loop-preserved invariant_loop decreases_loop
+loop_again c =
     let l = c.before.before.before.before.loop in
     let a = c.before.before.before.before.before.args in
     let h : l.i < length a.t1.processes = omega (arith, l.invariant.1) in
-    (omega arith, l.invariant.1, fill_more currentOf a.currents.now l.currents a.t1.processes l.i refl h l.invariant.2, fill_more objectOf a.objects.now l.objects a.t1.processes l.i c.before.object_of.ensures h l.invariant.3, fill_more dueOf a.dues.now l.dues a.t1.processes l.i c.due-of.ensures h l.invariant.4)
+    (omega arith, l.invariant.1, fill_more current_of a.currents.now l.currents a.t1.processes l.i refl h l.invariant.2, fill_more object_of a.objects.now l.objects a.t1.processes l.i c.before.object_of.ensures h l.invariant.3, fill_more due_of a.dues.now l.dues a.t1.processes l.i c.due-of.ensures h l.invariant.4)
 
-returns : tie.Need-returns invariant-loop decreases-loop
+returns : tie.Need-returns invariant_loop decreases_loop
 returns c =
     let l = c.before.loop in
     let a = c.before.before.args in
     let h : length a.t1.processes ≤ l.i = omega (arith, l.invariant.1) in
-    (l.invariant.1, fill_done currentOf a.currents.now l.currents a.t1.processes l.i h l.invariant.2, fill_done objectOf a.objects.now l.objects a.t1.processes l.i h l.invariant.3, fill_done dueOf a.dues.now l.dues a.t1.processes l.i h l.invariant.4)
+    (l.invariant.1, fill_done current_of a.currents.now l.currents a.t1.processes l.i h l.invariant.2, fill_done object_of a.objects.now l.objects a.t1.processes l.i h l.invariant.3, fill_done due_of a.dues.now l.dues a.t1.processes l.i h l.invariant.4)
 
 pub fill_spec : {M : Type 1} → statement M
 fill_spec =
     tie.close
     (tie.spec
-    invariant-loop
-    decreases-loop
-    loop-holds
+    invariant_loop
+    decreases_loop
+    loop_holds
     (λ c. search rules)
     (λ c. search rules)
     (λ c. search rules)
@@ -51,5 +51,5 @@ fill_spec =
     (λ c. search rules)
     (λ c. omega arith)
     (λ c. omega arith)
-    loop-again
+    loop_again
     returns)

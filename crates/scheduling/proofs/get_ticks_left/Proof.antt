@@ -1,10 +1,10 @@
 use mathlib.Core.Path.{refl}
-use Rattle.machine.specs.Scheduling.{getTicksLeft}
+use Rattle.machine.specs.Scheduling.{get_ticks_left}
 use Rattle.scheduling.proofs.get_ticks_left.Statement.{statement}
 use Rattle.scheduling.proofs.get_ticks_left.Tie as tie
 
 returns : tie.Need-returns
-unfolding getTicksLeft
+unfolding get_ticks_left
 returns c = refl
 
 pub get-ticks-left-spec : {M : Type 1} → statement M

@@ -7,13 +7,13 @@ use Rattle.scheduling.proofs.is_multiple.Tie as tie
 returns : tie.Need-returns
 returns c = rw (← c.before.is-between.ensures, not-true c.before.is-between.result c.if1.true)
 
-returns-2 : tie.Need-returns-2
-returns-2 c = rw (← c.before.before.is-between.ensures, not-false c.before.before.is-between.result c.before.if1.false, eq-eqb _ _ c.if2.true)
+returns_2 : tie.Need-returns-2
+returns_2 c = rw (← c.before.before.is-between.ensures, not-false c.before.before.is-between.result c.before.if1.false, eq-eqb _ _ c.if2.true)
 
-returns-3 : tie.Need-returns-3
-returns-3 c = rw (← c.before.before.before.is-between.ensures, not-false c.before.before.before.is-between.result c.before.before.if1.false, ne_eqb _ _ c.before.if2.false, c.number-of.ensures)
+returns_3 : tie.Need-returns-3
+returns_3 c = rw (← c.before.before.before.is-between.ensures, not-false c.before.before.before.is-between.result c.before.before.if1.false, ne_eqb _ _ c.before.if2.false, c.number-of.ensures)
 
 pub is-multiple-spec : {M : Type 1} → statement M
 is-multiple-spec =
     tie.close
-    (tie.spec (λ _ _. tt) returns returns-2 (λ _ _. tt) (λ c. search rules) returns-3)
+    (tie.spec (λ _ _. tt) returns returns_2 (λ _ _. tt) (λ c. search rules) returns_3)

@@ -4,8 +4,8 @@ use Rattle.scheduling.proofs.last_if.Tie as tie
 returns : tie.Need-returns
 returns c = rw c.if1.true
 
-returns-2 : tie.Need-returns-2
-returns-2 c = rw c.if1.false
+returns_2 : tie.Need-returns-2
+returns_2 c = rw c.if1.false
 
 pub last-if-spec : {M : Type 1} → statement M
-last-if-spec = tie.close (tie.spec returns returns-2)
+last-if-spec = tie.close (tie.spec returns returns_2)

@@ -1,20 +1,20 @@
 use borrow.Author.Tests.{eq-eqb, ne_eqb, not-true, not-false}
 use Rattle.machine.specs.Decisions.{checked}
-use Rattle.machine.specs.Scheduling.{periodicWait}
+use Rattle.machine.specs.Scheduling.{periodic_wait}
 use Rattle.scheduling.proofs.periodic_wait.Statement.{statement}
 use Rattle.scheduling.proofs.periodic_wait.Tie as tie
 
 returns : tie.Need-returns
-unfolding checked periodicWait
+unfolding checked periodic_wait
 returns c p id s = rw (← s.mode, ← s.level, ← s.subject, ne_eqb _ _ c.if1.true)
 
-returns-2 : tie.Need-returns-2
-unfolding checked periodicWait
-returns-2 c p id s = rw (← s.mode, ← s.level, ← s.subject, eq-eqb _ _ c.before.before.before.before.if1.false, ← c.before.before.before.caller-of.ensures, ← c.before.before.subject-in.ensures, ← c.before.is-periodic.ensures, not-true c.before.is-periodic.result c.if2.true)
+returns_2 : tie.Need-returns-2
+unfolding checked periodic_wait
+returns_2 c p id s = rw (← s.mode, ← s.level, ← s.subject, eq-eqb _ _ c.before.before.before.before.if1.false, ← c.before.before.before.caller-of.ensures, ← c.before.before.subject-in.ensures, ← c.before.is-periodic.ensures, not-true c.before.is-periodic.result c.if2.true)
 
-returns-3 : tie.Need-returns-3
-unfolding checked periodicWait
-returns-3 c p id s = rw (← s.mode, ← s.level, ← s.subject, c.block.ensures, c.before.wait-for-release.ensures, c.before.before.later-time.ensures, eq-eqb _ _ c.before.before.before.before.before.before.before.before.before.if1.false, ← c.before.before.before.before.before.before.before.before.caller-of.ensures, ← c.before.before.before.before.before.before.before.subject-in.ensures, ← c.before.before.before.before.before.before.is-periodic.ensures, not-false c.before.before.before.before.before.before.is-periodic.result c.before.before.before.before.before.if2.false)
+returns_3 : tie.Need-returns-3
+unfolding checked periodic_wait
+returns_3 c p id s = rw (← s.mode, ← s.level, ← s.subject, c.block.ensures, c.before.wait-for-release.ensures, c.before.before.later-time.ensures, eq-eqb _ _ c.before.before.before.before.before.before.before.before.before.if1.false, ← c.before.before.before.before.before.before.before.before.caller-of.ensures, ← c.before.before.before.before.before.before.before.subject-in.ensures, ← c.before.before.before.before.before.before.is-periodic.ensures, not-false c.before.before.before.before.before.before.is-periodic.result c.before.before.before.before.before.if2.false)
 
 pub periodic-wait-spec : {M : Type 1} → statement M
 periodic-wait-spec =
@@ -24,8 +24,8 @@ periodic-wait-spec =
     (λ _ _. tt)
     (λ _ _. tt)
     (λ _ _. tt)
-    returns-2
+    returns_2
     (λ _ _. tt)
     (λ _ _. tt)
     (λ _ _. tt)
-    returns-3)
+    returns_3)

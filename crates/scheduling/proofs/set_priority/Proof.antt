@@ -1,34 +1,34 @@
 use mathlib.Core.Path.{sym, ◌∙◌}
 use native.Mathlib.Omega.{arith}
-use Rattle.machine.specs.Limits.{priorityLimit}
-use Rattle.machine.proofs.Bounds.{known-id}
+use Rattle.machine.specs.Limits.{priority_limit}
+use Rattle.machine.proofs.Bounds.{known_id}
 use Rattle.scheduling.proofs.Laws.{passed}
 use Rattle.machine.specs.Decisions.{checked}
-use Rattle.machine.specs.Scheduling.{setPriority}
+use Rattle.machine.specs.Scheduling.{set_priority}
 use Rattle.scheduling.proofs.set_priority.Statement.{statement}
 use Rattle.scheduling.proofs.set_priority.Tie as tie
 
 returns : tie.Need-returns
-unfolding setPriority checked
+unfolding set_priority checked
 returns c p s = rw (← s.count, ← s.subject, ← c.before.is-unknown.ensures, c.if1.true)
 
-returns-2 : tie.Need-returns-2
-unfolding setPriority checked
-returns-2 c p s = rw (← s.count, ← s.subject, ← c.before.before.before.is-unknown.ensures, c.before.before.if1.false, ← c.before.is-priority.ensures, c.if2.true)
+returns_2 : tie.Need-returns-2
+unfolding set_priority checked
+returns_2 c p s = rw (← s.count, ← s.subject, ← c.before.before.before.is-unknown.ensures, c.before.before.if1.false, ← c.before.is-priority.ensures, c.if2.true)
 
-returns-3 : tie.Need-returns-3
-unfolding setPriority checked
-returns-3 c p s = rw (← s.count, ← s.subject, ← c.before.before.before.before.before.before.is-unknown.ensures, c.before.before.before.before.before.if1.false, ← c.before.before.before.before.is-priority.ensures, c.before.before.before.if2.false, ← c.before.before.subject-in.ensures, c.if3.true)
+returns_3 : tie.Need-returns-3
+unfolding set_priority checked
+returns_3 c p s = rw (← s.count, ← s.subject, ← c.before.before.before.before.before.before.is-unknown.ensures, c.before.before.before.before.before.if1.false, ← c.before.before.before.before.is-priority.ensures, c.before.before.before.if2.false, ← c.before.before.subject-in.ensures, c.if3.true)
 
-cast-current : tie.Need-overflow-cast-current
-cast-current c = omega (arith, c.number-of.ensures, passed 1 priorityLimit c.before.before.before.before.before.before.before.before.args.a c.before.before.before.before.before.is-priority.result c.before.before.before.before.before.is-priority.ensures c.before.before.before.before.if2.false)
+cast_current : tie.Need-overflow-cast-current
+cast_current c = omega (arith, c.number-of.ensures, passed 1 priority_limit c.before.before.before.before.before.before.before.before.args.a c.before.before.before.before.before.is-priority.result c.before.before.before.before.before.is-priority.ensures c.before.before.before.before.if2.false)
 
-cast-last-if : tie.Need-overflow-cast-last-if
-cast-last-if c = omega (arith, c.before.before.before.before.before.before.before.before.before.before.well-formed, (known-id c.before.before.before.before.before.before.before.before.before.before.args.id c.before.before.before.before.before.before.before.before.before.before.args.v.count (sym c.before.before.before.before.before.before.before.before.before.is-unknown.ensures ∙ c.before.before.before.before.before.before.before.before.if1.false)).1)
+cast_last_if : tie.Need-overflow-cast-last-if
+cast_last_if c = omega (arith, c.before.before.before.before.before.before.before.before.before.before.well-formed, (known_id c.before.before.before.before.before.before.before.before.before.before.args.id c.before.before.before.before.before.before.before.before.before.before.args.v.count (sym c.before.before.before.before.before.before.before.before.before.is-unknown.ensures ∙ c.before.before.before.before.before.before.before.before.if1.false)).1)
 
-returns-4 : tie.Need-returns-4
-unfolding setPriority checked
-returns-4 c p s = rw (← s.count, ← s.subject, c.last-if.ensures, c.before.is-ready.ensures, c.before.before.with-current.ensures, c.before.before.before.number-of.ensures, ← c.before.before.before.before.before.before.before.before.before.before.is-unknown.ensures, c.before.before.before.before.before.before.before.before.before.if1.false, ← c.before.before.before.before.before.before.before.before.is-priority.ensures, c.before.before.before.before.before.before.before.if2.false, ← c.before.before.before.before.before.before.subject-in.ensures, c.before.before.before.before.if3.false)
+returns_4 : tie.Need-returns-4
+unfolding set_priority checked
+returns_4 c p s = rw (← s.count, ← s.subject, c.last-if.ensures, c.before.is-ready.ensures, c.before.before.with-current.ensures, c.before.before.before.number-of.ensures, ← c.before.before.before.before.before.before.before.before.before.before.is-unknown.ensures, c.before.before.before.before.before.before.before.before.before.if1.false, ← c.before.before.before.before.before.before.before.before.is-priority.ensures, c.before.before.before.before.before.before.before.if2.false, ← c.before.before.before.before.before.before.subject-in.ensures, c.before.before.before.before.if3.false)
 
 pub set-priority-spec : {M : Type 1} → statement M
 set-priority-spec =
@@ -37,13 +37,13 @@ set-priority-spec =
     (λ _ _. tt)
     returns
     (λ _ _. tt)
-    returns-2
+    returns_2
     (λ _ _. tt)
-    returns-3
+    returns_3
     (λ _ _. tt)
-    cast-current
+    cast_current
     (λ _ _. tt)
     (λ _ _. tt)
-    cast-last-if
+    cast_last_if
     (λ _ _. tt)
-    returns-4)
+    returns_4)

@@ -8,21 +8,21 @@ returns : tie.Need-returns
 unfolding start checked
 returns c p s = rw (← s.count, ← s.subject, ← s.mode, ← c.before.is-unknown.ensures, c.if1.true)
 
-returns-2 : tie.Need-returns-2
+returns_2 : tie.Need-returns-2
 unfolding start checked
-returns-2 c p s = rw (← s.count, ← s.subject, ← s.mode, ← c.before.before.before.before.is-unknown.ensures, c.before.before.before.if1.false, ← c.before.before.subject-in.ensures, ← c.before.is-delay-refused.ensures, c.if2.true)
+returns_2 c p s = rw (← s.count, ← s.subject, ← s.mode, ← c.before.before.before.before.is-unknown.ensures, c.before.before.before.if1.false, ← c.before.before.subject-in.ensures, ← c.before.is-delay-refused.ensures, c.if2.true)
 
-returns-3 : tie.Need-returns-3
+returns_3 : tie.Need-returns-3
 unfolding start checked
-returns-3 c p s = rw (← s.count, ← s.subject, ← s.mode, ← c.before.before.before.before.before.is-unknown.ensures, c.before.before.before.before.if1.false, ← c.before.before.before.subject-in.ensures, ← c.before.before.is-delay-refused.ensures, c.before.if2.false, c.if3.true)
+returns_3 c p s = rw (← s.count, ← s.subject, ← s.mode, ← c.before.before.before.before.before.is-unknown.ensures, c.before.before.before.before.if1.false, ← c.before.before.before.subject-in.ensures, ← c.before.before.is-delay-refused.ensures, c.before.if2.false, c.if3.true)
 
-returns-4 : tie.Need-returns-4
+returns_4 : tie.Need-returns-4
 unfolding start checked
-returns-4 c p s = rw (← s.count, ← s.subject, ← s.mode, c.changed.ensures, c.before.start.ensures, ← c.before.before.before.before.before.before.before.before.before.before.is-unknown.ensures, c.before.before.before.before.before.before.before.before.before.if1.false, ← c.before.before.before.before.before.before.before.before.subject-in.ensures, ← c.before.before.before.before.before.before.before.is-delay-refused.ensures, c.before.before.before.before.before.before.if2.false, c.before.before.before.before.before.if3.false, eq-eqb _ _ c.before.before.if4.true, c.before.before.before.before.number-of.ensures)
+returns_4 c p s = rw (← s.count, ← s.subject, ← s.mode, c.changed.ensures, c.before.start.ensures, ← c.before.before.before.before.before.before.before.before.before.before.is-unknown.ensures, c.before.before.before.before.before.before.before.before.before.if1.false, ← c.before.before.before.before.before.before.before.before.subject-in.ensures, ← c.before.before.before.before.before.before.before.is-delay-refused.ensures, c.before.before.before.before.before.before.if2.false, c.before.before.before.before.before.if3.false, eq-eqb _ _ c.before.before.if4.true, c.before.before.before.before.number-of.ensures)
 
-returns-5 : tie.Need-returns-5
+returns_5 : tie.Need-returns-5
 unfolding start checked
-returns-5 c p s = rw (← s.count, ← s.subject, ← s.mode, c.changed2.ensures, c.before.start-early.ensures, ← c.before.before.before.before.before.before.before.before.before.before.is-unknown.ensures, c.before.before.before.before.before.before.before.before.before.if1.false, ← c.before.before.before.before.before.before.before.before.subject-in.ensures, ← c.before.before.before.before.before.before.before.is-delay-refused.ensures, c.before.before.before.before.before.before.if2.false, c.before.before.before.before.before.if3.false, ne_eqb _ _ c.before.before.if4.false, c.before.before.before.before.number-of.ensures)
+returns_5 c p s = rw (← s.count, ← s.subject, ← s.mode, c.changed2.ensures, c.before.start-early.ensures, ← c.before.before.before.before.before.before.before.before.before.before.is-unknown.ensures, c.before.before.before.before.before.before.before.before.before.if1.false, ← c.before.before.before.before.before.before.before.before.subject-in.ensures, ← c.before.before.before.before.before.before.before.is-delay-refused.ensures, c.before.before.before.before.before.before.if2.false, c.before.before.before.before.before.if3.false, ne_eqb _ _ c.before.before.if4.false, c.before.before.before.before.number-of.ensures)
 
 pub start-process-spec : {M : Type 1} → statement M
 start-process-spec =
@@ -32,12 +32,12 @@ start-process-spec =
     returns
     (λ _ _. tt)
     (λ _ _. tt)
-    returns-2
-    returns-3
+    returns_2
+    returns_3
     (λ _ _. tt)
     (λ _ _. tt)
     (λ _ _. tt)
-    returns-4
+    returns_4
     (λ _ _. tt)
     (λ _ _. tt)
-    returns-5)
+    returns_5)

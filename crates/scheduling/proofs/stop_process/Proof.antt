@@ -8,17 +8,17 @@ returns : tie.Need-returns
 unfolding stop checked
 returns c p s = rw (← s.count, ← s.subject, ← c.before.is-unknown.ensures, c.if1.true)
 
-returns-2 : tie.Need-returns-2
+returns_2 : tie.Need-returns-2
 unfolding stop checked
-returns-2 c p s = rw (← s.count, ← s.subject, ← c.before.before.before.is-unknown.ensures, c.before.before.if1.false, ← c.before.caller-of.ensures, eq-eqb _ _ c.if2.true)
+returns_2 c p s = rw (← s.count, ← s.subject, ← c.before.before.before.is-unknown.ensures, c.before.before.if1.false, ← c.before.caller-of.ensures, eq-eqb _ _ c.if2.true)
 
-returns-3 : tie.Need-returns-3
+returns_3 : tie.Need-returns-3
 unfolding stop checked
-returns-3 c p s = rw (← s.count, ← s.subject, ← c.before.before.before.before.before.before.is-unknown.ensures, c.before.before.before.before.before.if1.false, ← c.before.before.before.before.caller-of.ensures, ne_eqb _ _ c.before.before.before.if2.false, ← c.before.before.subject-in.ensures, c.if3.true)
+returns_3 c p s = rw (← s.count, ← s.subject, ← c.before.before.before.before.before.before.is-unknown.ensures, c.before.before.before.before.before.if1.false, ← c.before.before.before.before.caller-of.ensures, ne_eqb _ _ c.before.before.before.if2.false, ← c.before.before.subject-in.ensures, c.if3.true)
 
-returns-4 : tie.Need-returns-4
+returns_4 : tie.Need-returns-4
 unfolding stop checked
-returns-4 c p s = rw (← s.count, ← s.subject, c.changed.ensures, c.before.stop.ensures, ← c.before.before.before.before.before.before.before.before.is-unknown.ensures, c.before.before.before.before.before.before.before.if1.false, ← c.before.before.before.before.before.before.caller-of.ensures, ne_eqb _ _ c.before.before.before.before.before.if2.false, ← c.before.before.before.before.subject-in.ensures, c.before.before.if3.false)
+returns_4 c p s = rw (← s.count, ← s.subject, c.changed.ensures, c.before.stop.ensures, ← c.before.before.before.before.before.before.before.before.is-unknown.ensures, c.before.before.before.before.before.before.before.if1.false, ← c.before.before.before.before.before.before.caller-of.ensures, ne_eqb _ _ c.before.before.before.before.before.if2.false, ← c.before.before.before.before.subject-in.ensures, c.before.before.if3.false)
 
 pub stop-process-spec : {M : Type 1} → statement M
 stop-process-spec =
@@ -27,9 +27,9 @@ stop-process-spec =
     (λ _ _. tt)
     returns
     (λ _ _. tt)
-    returns-2
+    returns_2
     (λ _ _. tt)
-    returns-3
+    returns_3
     (λ _ _. tt)
     (λ _ _. tt)
-    returns-4)
+    returns_4)

@@ -1,16 +1,16 @@
 use borrow.Author.Tests.{eq-eqb, ne_eqb}
 use Rattle.machine.specs.Decisions.{checked}
-use Rattle.machine.specs.Scheduling.{stopSelf}
+use Rattle.machine.specs.Scheduling.{stop_self}
 use Rattle.scheduling.proofs.stop_self.Statement.{statement}
 use Rattle.scheduling.proofs.stop_self.Tie as tie
 
 returns : tie.Need-returns
-unfolding stopSelf checked
+unfolding stop_self checked
 returns c p id s = rw (← s.mode, ← s.subject, ne_eqb _ _ c.if1.true)
 
-returns-2 : tie.Need-returns-2
-unfolding stopSelf checked
-returns-2 c p id s = rw (← s.mode, ← s.subject, c.stop.ensures, eq-eqb _ _ c.before.before.before.if1.false, c.before.subject-in.ensures, c.before.before.caller-of.ensures)
+returns_2 : tie.Need-returns-2
+unfolding stop_self checked
+returns_2 c p id s = rw (← s.mode, ← s.subject, c.stop.ensures, eq-eqb _ _ c.before.before.before.if1.false, c.before.subject-in.ensures, c.before.before.caller-of.ensures)
 
 pub stop-self-spec : {M : Type 1} → statement M
 stop-self-spec =
@@ -20,4 +20,4 @@ stop-self-spec =
     (λ _ _. tt)
     (λ _ _. tt)
     (λ _ _. tt)
-    returns-2)
+    returns_2)

@@ -1,32 +1,32 @@
 use borrow.Author.Tests.{eq-eqb, ne_eqb, lt-ltb, le-ltb}
 use Rattle.machine.specs.Decisions.{checked}
-use Rattle.machine.specs.Scheduling.{suspendSelf}
+use Rattle.machine.specs.Scheduling.{suspend_self}
 use Rattle.scheduling.proofs.suspend_self.Statement.{statement}
 use Rattle.scheduling.proofs.suspend_self.Tie as tie
 
 returns : tie.Need-returns
-unfolding suspendSelf checked
+unfolding suspend_self checked
 returns c p id s = rw (← s.mode, ← s.level, ← s.subject, ne_eqb _ _ c.if1.true)
 
-returns-2 : tie.Need-returns-2
-unfolding suspendSelf checked
-returns-2 c p id s = rw (← s.mode, ← s.level, ← s.subject, eq-eqb _ _ c.before.before.before.before.if1.false, ← c.before.before.before.caller-of.ensures, ← c.before.before.subject-in.ensures, ← c.before.is-periodic.ensures, c.if2.true)
+returns_2 : tie.Need-returns-2
+unfolding suspend_self checked
+returns_2 c p id s = rw (← s.mode, ← s.level, ← s.subject, eq-eqb _ _ c.before.before.before.before.if1.false, ← c.before.before.before.caller-of.ensures, ← c.before.before.subject-in.ensures, ← c.before.is-periodic.ensures, c.if2.true)
 
-returns-3 : tie.Need-returns-3
-unfolding suspendSelf checked
-returns-3 c p id s = rw (← s.mode, ← s.level, ← s.subject, eq-eqb _ _ c.before.before.before.before.before.before.if1.false, ← c.before.before.before.before.before.caller-of.ensures, ← c.before.before.before.before.subject-in.ensures, ← c.before.before.before.is-periodic.ensures, c.before.before.if2.false, ← c.before.is-timeout.ensures, c.if3.true)
+returns_3 : tie.Need-returns-3
+unfolding suspend_self checked
+returns_3 c p id s = rw (← s.mode, ← s.level, ← s.subject, eq-eqb _ _ c.before.before.before.before.before.before.if1.false, ← c.before.before.before.before.before.caller-of.ensures, ← c.before.before.before.before.subject-in.ensures, ← c.before.before.before.is-periodic.ensures, c.before.before.if2.false, ← c.before.is-timeout.ensures, c.if3.true)
 
-returns-4 : tie.Need-returns-4
-unfolding suspendSelf checked
-returns-4 c p id s = rw (← s.mode, ← s.level, ← s.subject, eq-eqb _ _ c.before.before.before.before.before.before.before.before.if1.false, ← c.before.before.before.before.before.before.before.caller-of.ensures, ← c.before.before.before.before.before.before.subject-in.ensures, ← c.before.before.before.before.before.is-periodic.ensures, c.before.before.before.before.if2.false, ← c.before.before.before.is-timeout.ensures, c.before.before.if3.false, lt-ltb _ _ c.if4.true)
+returns_4 : tie.Need-returns-4
+unfolding suspend_self checked
+returns_4 c p id s = rw (← s.mode, ← s.level, ← s.subject, eq-eqb _ _ c.before.before.before.before.before.before.before.before.if1.false, ← c.before.before.before.before.before.before.before.caller-of.ensures, ← c.before.before.before.before.before.before.subject-in.ensures, ← c.before.before.before.before.before.is-periodic.ensures, c.before.before.before.before.if2.false, ← c.before.before.before.is-timeout.ensures, c.before.before.if3.false, lt-ltb _ _ c.if4.true)
 
-returns-5 : tie.Need-returns-5
-unfolding suspendSelf checked
-returns-5 c p id s = rw (← s.mode, ← s.level, ← s.subject, eq-eqb _ _ c.before.before.before.before.before.before.before.before.before.before.if1.false, ← c.before.before.before.before.before.before.before.before.before.caller-of.ensures, ← c.before.before.before.before.before.before.before.before.subject-in.ensures, ← c.before.before.before.before.before.before.before.is-periodic.ensures, c.before.before.before.before.before.before.if2.false, ← c.before.before.before.before.before.is-timeout.ensures, c.before.before.before.before.if3.false, le-ltb _ _ c.before.before.if4.false, ← c.before.is_number.ensures, c.if5.true)
+returns_5 : tie.Need-returns-5
+unfolding suspend_self checked
+returns_5 c p id s = rw (← s.mode, ← s.level, ← s.subject, eq-eqb _ _ c.before.before.before.before.before.before.before.before.before.before.if1.false, ← c.before.before.before.before.before.before.before.before.before.caller-of.ensures, ← c.before.before.before.before.before.before.before.before.subject-in.ensures, ← c.before.before.before.before.before.before.before.is-periodic.ensures, c.before.before.before.before.before.before.if2.false, ← c.before.before.before.before.before.is-timeout.ensures, c.before.before.before.before.if3.false, le-ltb _ _ c.before.before.if4.false, ← c.before.is_number.ensures, c.if5.true)
 
-returns-6 : tie.Need-returns-6
-unfolding suspendSelf checked
-returns-6 c p id s = rw (← s.mode, ← s.level, ← s.subject, c.block.ensures, c.before.suspended-until.ensures, c.before.before.later-time.ensures, c.before.before.before.time-of.ensures, eq-eqb _ _ c.before.before.before.before.before.before.before.before.before.before.before.before.before.before.if1.false, ← c.before.before.before.before.before.before.before.before.before.before.before.before.before.caller-of.ensures, ← c.before.before.before.before.before.before.before.before.before.before.before.before.subject-in.ensures, ← c.before.before.before.before.before.before.before.before.before.before.before.is-periodic.ensures, c.before.before.before.before.before.before.before.before.before.before.if2.false, ← c.before.before.before.before.before.before.before.before.before.is-timeout.ensures, c.before.before.before.before.before.before.before.before.if3.false, le-ltb _ _ c.before.before.before.before.before.before.if4.false, ← c.before.before.before.before.before.is_number.ensures, c.before.before.before.before.if5.false)
+returns_6 : tie.Need-returns-6
+unfolding suspend_self checked
+returns_6 c p id s = rw (← s.mode, ← s.level, ← s.subject, c.block.ensures, c.before.suspended-until.ensures, c.before.before.later-time.ensures, c.before.before.before.time-of.ensures, eq-eqb _ _ c.before.before.before.before.before.before.before.before.before.before.before.before.before.before.if1.false, ← c.before.before.before.before.before.before.before.before.before.before.before.before.before.caller-of.ensures, ← c.before.before.before.before.before.before.before.before.before.before.before.before.subject-in.ensures, ← c.before.before.before.before.before.before.before.before.before.before.before.is-periodic.ensures, c.before.before.before.before.before.before.before.before.before.before.if2.false, ← c.before.before.before.before.before.before.before.before.before.is-timeout.ensures, c.before.before.before.before.before.before.before.before.if3.false, le-ltb _ _ c.before.before.before.before.before.before.if4.false, ← c.before.before.before.before.before.is_number.ensures, c.before.before.before.before.if5.false)
 
 pub suspend-self-spec : {M : Type 1} → statement M
 suspend-self-spec =
@@ -36,14 +36,14 @@ suspend-self-spec =
     (λ _ _. tt)
     (λ _ _. tt)
     (λ _ _. tt)
-    returns-2
+    returns_2
     (λ _ _. tt)
-    returns-3
-    returns-4
+    returns_3
+    returns_4
     (λ _ _. tt)
-    returns-5
-    (λ _ _. tt)
-    (λ _ _. tt)
+    returns_5
     (λ _ _. tt)
     (λ _ _. tt)
-    returns-6)
+    (λ _ _. tt)
+    (λ _ _. tt)
+    returns_6)

@@ -1,15 +1,15 @@
 use mathlib.Core.Path.{◌∙◌}
-use Rattle.machine.specs.Limits.{semaphoreLimit}
-use Rattle.partition.proofs.Laws.{named-at, named_past}
+use Rattle.machine.specs.Limits.{semaphore_limit}
+use Rattle.partition.proofs.Laws.{named_at, named_past}
 use borrow.Author.Rules.{rules}
 use Rattle.semaphores.proofs.semaphore_at.Statement.{statement}
 use Rattle.semaphores.proofs.semaphore_at.Tie as tie
 
 returns : tie.Need-returns
-returns c = c.no-semaphore.ensures ∙ named_past semaphoreLimit c.before.before.before.args.k _ c.before.before.slot.ensures _ _ c.before.if1.true
+returns c = c.no-semaphore.ensures ∙ named_past semaphore_limit c.before.before.before.args.k _ c.before.before.slot.ensures _ _ c.before.if1.true
 
-returns-2 : tie.Need-returns-2
-returns-2 c = named-at semaphoreLimit c.before.before.before.args.k _ c.before.before.slot.ensures _ _ c.before.if1.false
+returns_2 : tie.Need-returns-2
+returns_2 c = named_at semaphore_limit c.before.before.before.args.k _ c.before.before.slot.ensures _ _ c.before.if1.false
 
 pub semaphore-at-spec : {M : Type 1} → statement M
 semaphore-at-spec =
@@ -20,4 +20,4 @@ semaphore-at-spec =
     returns
     (λ c. search rules)
     (λ c. search rules)
-    returns-2)
+    returns_2)

@@ -1,21 +1,21 @@
 use mathlib.Core.Path.{sym, ◌∙◌}
 use native.Mathlib.Omega.{arith}
-use Rattle.machine.proofs.Bounds.{known-id}
+use Rattle.machine.proofs.Bounds.{known_id}
 use Rattle.machine.specs.Decisions.{checked}
-use Rattle.machine.specs.Semaphores.{setEvent}
+use Rattle.machine.specs.Semaphores.{set_event}
 use Rattle.semaphores.proofs.set_event.Statement.{statement}
 use Rattle.semaphores.proofs.set_event.Tie as tie
 
 returns : tie.Need-returns
-unfolding checked setEvent
+unfolding checked set_event
 returns c p k s = rw (← s.events, ← s.event, ← c.before.is-unknown.ensures, c.if1.true)
 
-cast-t6 : tie.Need-overflow-cast-t6
-cast-t6 c = let h = known-id c.before.before.before.args.k c.before.before.before.args.v.events (sym c.before.before.is-unknown.ensures ∙ c.before.if1.false) in omega (arith, h.1, c.before.before.before.well-formed)
+cast_t6 : tie.Need-overflow-cast-t6
+cast_t6 c = let h = known_id c.before.before.before.args.k c.before.before.before.args.v.events (sym c.before.before.is-unknown.ensures ∙ c.before.if1.false) in omega (arith, h.1, c.before.before.before.well-formed)
 
-returns-2 : tie.Need-returns-2
-unfolding checked setEvent
-returns-2 c p k s = rw (← s.events, ← s.event, c.with-up.ensures, c.before.before.event-in.ensures, c.before.object_of.ensures, ← c.before.before.before.before.is-unknown.ensures, c.before.before.before.if1.false)
+returns_2 : tie.Need-returns-2
+unfolding checked set_event
+returns_2 c p k s = rw (← s.events, ← s.event, c.with-up.ensures, c.before.before.event-in.ensures, c.before.object_of.ensures, ← c.before.before.before.before.is-unknown.ensures, c.before.before.before.if1.false)
 
 pub set-event-spec : {M : Type 1} → statement M
 set-event-spec =
@@ -24,7 +24,7 @@ set-event-spec =
     (λ _ _. tt)
     returns
     (λ _ _. tt)
-    cast-t6
+    cast_t6
     (λ _ _. tt)
     (λ _ _. tt)
-    returns-2)
+    returns_2)

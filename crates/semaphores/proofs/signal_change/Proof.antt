@@ -1,14 +1,14 @@
 use mathlib.Core.Path.{sym, ◌∙◌}
 use borrow.Author.Rules.{rules}
-use Rattle.semaphores.proofs.Laws.{none-signalled, first-signalled}
+use Rattle.semaphores.proofs.Laws.{none_signalled, first_signalled}
 use Rattle.semaphores.proofs.signal_change.Statement.{statement}
 use Rattle.semaphores.proofs.signal_change.Tie as tie
 
 returns : tie.Need-returns
-returns c p o s w h = rw (c.with_value.ensures, c.before.one_more.ensures, c.before.before.semaphore-in.ensures ∙ s.semaphore) (none-signalled o _ p (sym (c.before.before.before.before.waiter-in.ensures ∙ w) ∙ c.before.before.before.if1.true) h)
+returns c p o s w h = rw (c.with_value.ensures, c.before.one_more.ensures, c.before.before.semaphore-in.ensures ∙ s.semaphore) (none_signalled o _ p (sym (c.before.before.before.before.waiter-in.ensures ∙ w) ∙ c.before.before.before.if1.true) h)
 
-returns-2 : tie.Need-returns-2
-returns-2 c p o s w h = rw (c.wait-ended.ensures, c.before.subject-in.ensures ∙ s.subject, ← c.before.before.before.waiter-in.ensures) (first-signalled o _ _ p (c.before.before.before.waiter-in.ensures ∙ w) c.before.before.if1.false)
+returns_2 : tie.Need-returns-2
+returns_2 c p o s w h = rw (c.wait-ended.ensures, c.before.subject-in.ensures ∙ s.subject, ← c.before.before.before.waiter-in.ensures) (first_signalled o _ _ p (c.before.before.before.waiter-in.ensures ∙ w) c.before.before.if1.false)
 
 pub signal-change-spec : {M : Type 1} → statement M
 signal-change-spec =
@@ -22,4 +22,4 @@ signal-change-spec =
     (λ _ _. tt)
     (λ c. search rules)
     (λ _ _. tt)
-    returns-2)
+    returns_2)

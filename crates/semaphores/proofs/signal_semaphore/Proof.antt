@@ -10,13 +10,13 @@ returns : tie.Need-returns
 unfolding checked signal
 returns c p s w = rw (← (c.before.is-unknown.ensures ∙ ap (unknown c.before.before.args.k) s.semaphores), c.if1.true)
 
-returns-2 : tie.Need-returns-2
+returns_2 : tie.Need-returns-2
 unfolding checked signal
-returns-2 c p s w = rw (← (c.before.before.before.before.is-unknown.ensures ∙ ap (unknown c.before.before.before.before.before.args.k) s.semaphores), c.before.before.before.if1.false, ← (c.before.before.semaphore-in.ensures ∙ s.semaphore), eq-eqb _ _ c.if2.true)
+returns_2 c p s w = rw (← (c.before.before.before.before.is-unknown.ensures ∙ ap (unknown c.before.before.before.before.before.args.k) s.semaphores), c.before.before.before.if1.false, ← (c.before.before.semaphore-in.ensures ∙ s.semaphore), eq-eqb _ _ c.if2.true)
 
-returns-3 : tie.Need-returns-3
+returns_3 : tie.Need-returns-3
 unfolding checked signal
-returns-3 c p s w = rw (c.changed.ensures, c.before.signal-change.ensures p _ s w (λ e. omega (arith, e)), ← (c.before.before.before.before.before.before.is-unknown.ensures ∙ ap (unknown c.before.before.before.before.before.before.before.args.k) s.semaphores), c.before.before.before.before.before.if1.false, ← (c.before.before.before.before.semaphore-in.ensures ∙ s.semaphore), ne_eqb _ _ c.before.before.if2.false)
+returns_3 c p s w = rw (c.changed.ensures, c.before.signal-change.ensures p _ s w (λ e. omega (arith, e)), ← (c.before.before.before.before.before.before.is-unknown.ensures ∙ ap (unknown c.before.before.before.before.before.before.before.args.k) s.semaphores), c.before.before.before.before.before.if1.false, ← (c.before.before.before.before.semaphore-in.ensures ∙ s.semaphore), ne_eqb _ _ c.before.before.if2.false)
 
 pub signal-semaphore-spec : {M : Type 1} → statement M
 signal-semaphore-spec =
@@ -25,7 +25,7 @@ signal-semaphore-spec =
     (λ _ _. tt)
     returns
     (λ _ _. tt)
-    returns-2
+    returns_2
     (λ _ _. tt)
     (λ _ _. tt)
-    returns-3)
+    returns_3)

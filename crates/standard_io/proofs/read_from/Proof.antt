@@ -5,7 +5,7 @@ use mir.Syntax.{w64}
 use mir.Val.{to_z, of_z}
 use borrow.Rule.Slice.PartMut.{put_mid}
 use borrow.Author.Rules.{rules}
-use Rattle.standard_io.specs.StandardIo.{gotOf}
+use Rattle.standard_io.specs.StandardIo.{got_of}
 use Rattle.standard_io.proofs.Laws.{part_left}
 use Rattle.standard_io.proofs.read_from.Statement.{statement}
 use Rattle.standard_io.proofs.read_from.Tie as tie
@@ -18,7 +18,7 @@ returns c =
     let z = to_z w64 (of_z w64 c.before.before.before.before.before.read.result) in
     let x = c.before.before.before.before.before.before.before.before.args in
     let l = put_mid x.at (length x.input.now - x.at) x.input.now c.before.before.before.before.before.read.new.1.0 in
-    record { answer = z; is = c.got_of.ensures ∙ ap (gotOf z) (part_left x.input.now l x.at (same_length c)) }
+    record { answer = z; is = c.got_of.ensures ∙ ap (got_of z) (part_left x.input.now l x.at (same_length c)) }
 
 pub read-from-spec : {M : Type 1} → statement M
 read-from-spec =

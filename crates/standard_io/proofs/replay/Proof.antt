@@ -1,10 +1,10 @@
-use Rattle.standard_io.proofs.Laws.{ends-after}
+use Rattle.standard_io.proofs.Laws.{ends_after}
 use borrow.Author.Rules.{rules}
 use Rattle.standard_io.proofs.replay.Statement.{statement}
 use Rattle.standard_io.proofs.replay.Tie as tie
 
 returns : tie.Need-returns
-returns c = ends-after _ _ c.before.before.before.before.read_all.ensures _ c.before.before.before.last_turn.ensures _ c.executive.ensures
+returns c = ends_after _ _ c.before.before.before.before.read_all.ensures _ c.before.before.before.last_turn.ensures _ c.executive.ensures
 
 pub replay-spec : {M : Type 1} → statement M
 replay-spec =

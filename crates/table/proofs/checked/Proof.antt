@@ -8,9 +8,9 @@ use Rattle.table.proofs.checked.Tie as tie
 returns : tie.Need-returns
 returns c = rw (sym c.before.before.all-flagged.ensures ∙ not-true _ c.before.if1.true) c.refused.ensures
 
-returns-2 : tie.Need-returns-2
-returns-2 c = rw (sym c.before.before.all-flagged.ensures ∙ not-false _ c.before.if1.false, c.fresh.ensures)
+returns_2 : tie.Need-returns-2
+returns_2 c = rw (sym c.before.before.all-flagged.ensures ∙ not-false _ c.before.if1.false, c.fresh.ensures)
 
 pub checked-spec : {M : Type 1} → statement M
 checked-spec =
-    tie.close (tie.spec (λ c κs. search rules) (λ c κs. search rules) returns (λ c κs. search rules) returns-2)
+    tie.close (tie.spec (λ c κs. search rules) (λ c κs. search rules) returns (λ c κs. search rules) returns_2)

@@ -15,8 +15,8 @@ returns c =
     is-between3.ensures c.before.before.before.if3.true
     (and_yes _ c.before.before.is-between4.ensures c.before.if4.true c.is-last-two-zero.ensures)))
 
-returns-2 : tie.Need-returns-2
-returns-2 c =
+returns_2 : tie.Need-returns-2
+returns_2 c =
     let is-between = c.before.before.before.before.before.before.before.is-between in
     let if1 = c.before.before.before.before.before.before.if1 in
     let is-between2 = c.before.before.before.before.before.is-between2 in
@@ -25,21 +25,21 @@ returns-2 c =
     and_yes _ is-between.ensures if1.true (and_yes _ is-between2.ensures if2.true (and_yes _
     is-between3.ensures c.before.before.if3.true (and_no _ c.before.is-between4.ensures c.if4.false)))
 
-returns-3 : tie.Need-returns-3
-returns-3 c =
+returns_3 : tie.Need-returns-3
+returns_3 c =
     let is-between = c.before.before.before.before.before.is-between in
     let if1 = c.before.before.before.before.if1 in
     let is-between2 = c.before.before.before.is-between2 in
     and_yes _ is-between.ensures if1.true (and_yes _ is-between2.ensures c.before.before.if2.true
     (and_no _ c.before.is-between3.ensures c.if3.false))
 
-returns-4 : tie.Need-returns-4
-returns-4 c =
+returns_4 : tie.Need-returns-4
+returns_4 c =
     let is-between = c.before.before.before.is-between in
     and_yes _ is-between.ensures c.before.before.if1.true (and_no _ c.before.is-between2.ensures c.if2.false)
 
-returns-5 : tie.Need-returns-5
-returns-5 c = and_no _ c.before.is-between.ensures c.if1.false
+returns_5 : tie.Need-returns-5
+returns_5 c = and_no _ c.before.is-between.ensures c.if1.false
 
 pub is-head-good-spec : {M : Type 1} → statement M
 is-head-good-spec =
@@ -54,7 +54,7 @@ is-head-good-spec =
     (λ c κs. search rules)
     (λ c κs. search rules)
     returns
-    returns-2
-    returns-3
-    returns-4
-    returns-5)
+    returns_2
+    returns_3
+    returns_4
+    returns_5)

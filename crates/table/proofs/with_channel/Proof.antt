@@ -1,43 +1,43 @@
 -- `with_channel` meets its contract.
 use native.Mathlib.Omega.{arith}
-use Rattle.machine.proofs.Tables.{channel-sound}
+use Rattle.machine.proofs.Tables.{channel_sound}
 use borrow.Author.Rules.{rules}
 use Rattle.table.proofs.with_channel.Statement.{statement}
 use Rattle.table.proofs.with_channel.Tie as tie
 
-cast-source : tie.Need-overflow-cast-source
-cast-source c =
-    let s = channel-sound c.before.args.d c.before.args.r c.before.requires.0 in
+cast_source : tie.Need-overflow-cast-source
+cast_source c =
+    let s = channel_sound c.before.args.d c.before.args.r c.before.requires.0 in
     omega (arith, s.source.1, c.number-of.ensures)
 
-cast-destination : tie.Need-overflow-cast-destination
-cast-destination c =
+cast_destination : tie.Need-overflow-cast-destination
+cast_destination c =
     let start = c.before.before in
-    let s = channel-sound start.args.d start.args.r start.requires.0 in
+    let s = channel_sound start.args.d start.args.r start.requires.0 in
     omega (arith, s.destination.1, c.number-of2.ensures)
 
-cast-size : tie.Need-overflow-cast-size
-cast-size c =
+cast_size : tie.Need-overflow-cast-size
+cast_size c =
     let start = c.before.before.before.before in
-    let s = channel-sound start.args.d start.args.r start.requires.0 in
+    let s = channel_sound start.args.d start.args.r start.requires.0 in
     omega (arith, s.room, c.number-of4.ensures)
 
 returns : tie.Need-returns
 returns c =
-    let number-of = c.before.before.before.before.number-of in
-    rw (number-of.ensures, c.before.before.before.number-of2.ensures, c.before.before.number-of3.ensures, c.before.number-of4.ensures)
+    let number_of_holds = c.before.before.before.before.number-of in
+    rw (number_of_holds.ensures, c.before.before.before.number-of2.ensures, c.before.before.number-of3.ensures, c.before.number-of4.ensures)
 
 pub with-channel-spec : {M : Type 1} → statement M
 with-channel-spec =
     tie.close
     (tie.spec
     (λ c κs. search rules)
-    cast-source
+    cast_source
     (λ c κs. search rules)
-    cast-destination
+    cast_destination
     (λ c κs. search rules)
     (λ c κs. search rules)
-    cast-size
+    cast_size
     (λ c. search rules)
     (λ c. search rules)
     (λ c. search rules)

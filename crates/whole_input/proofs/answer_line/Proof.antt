@@ -1,7 +1,7 @@
 -- `answer_line` meets its contract.
 use mathlib.Core.Path.{◌≡◌, ◌∙◌}
 use borrow.Author.Rules.{rules}
-use Rattle.machine.specs.Line.{readAt}
+use Rattle.machine.specs.Line.{read_at}
 use Rattle.line.proofs.Meaning.{reads}
 use Rattle.whole_input.proofs.answer_line.Statement.{statement}
 use Rattle.whole_input.proofs.answer_line.Tie as tie
@@ -11,7 +11,7 @@ returns c =
     let read_at = c.before.before.before.before.before.before.before.before.read_at in
     let step_line = c.before.before.before.before.before.before.before.step_line in
     let start = c.before.before.before.before.before.before.before.before.before.before.before in
-    let l : read_at.result ≡ readAt start.args.input.now start.args.at = reads _ _ read_at.ensures in
+    let l : read_at.result ≡ read_at start.args.input.now start.args.at = reads _ _ read_at.ensures in
     let Numbers-of = c.before.before.before.before.Numbers-of in (
       rw (step_line.ensures, l),
       c.before.before.before.write-at.ensures.1 ∙ rw (Numbers-of.ensures, step_line.ensures, l),

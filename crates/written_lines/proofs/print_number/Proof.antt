@@ -5,18 +5,18 @@ use borrow.Author.Rules.{rules}
 use Rattle.written_lines.proofs.print_number.Statement.{statement}
 use Rattle.written_lines.proofs.print_number.Tie as tie
 
-abbrev invariant-loop : tie.invariant-loop
-invariant-loop x place₀ place = Unit {0}
+abbrev invariant_loop : tie.invariant-loop
+invariant_loop x place₀ place = Unit {0}
 
-abbrev decreases-loop : tie.decreases-loop
-decreases-loop x place₀ place = 6 - place
+abbrev decreases_loop : tie.decreases-loop
+decreases_loop x place₀ place = 6 - place
 
 pub print-number-spec : {M : Type 1} → statement M
 print-number-spec =
     tie.close
     (tie.spec
-    invariant-loop
-    decreases-loop
+    invariant_loop
+    decreases_loop
     (λ c. tt)
     (λ c κs. search rules)
     (λ c κs. search rules)

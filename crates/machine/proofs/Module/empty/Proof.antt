@@ -1,9 +1,9 @@
-use Rattle.machine.specs.Module.{emptyModule}
+use Rattle.machine.specs.Module.{empty_module}
 use Rattle.machine.proofs.Module.empty.Statement.{statement}
 use Rattle.machine.proofs.Module.empty.Tie as tie
 
 returns : tie.Need-returns
-unfolding emptyModule
+unfolding empty_module
 returns c = rw (c.before.empty2.ensures, c.before.before.empty.ensures, c.empty3.ensures)
 
 pub empty-spec : {M : Type 1} → statement M

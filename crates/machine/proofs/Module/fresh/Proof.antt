@@ -1,9 +1,9 @@
-use Rattle.machine.specs.Module.{freshModule}
+use Rattle.machine.specs.Module.{fresh_module}
 use Rattle.machine.proofs.Module.fresh.Statement.{statement}
 use Rattle.machine.proofs.Module.fresh.Tie as tie
 
 returns : tie.Need-returns
-unfolding freshModule
+unfolding fresh_module
 returns c = rw (c.before.fresh.ensures, c.empty.ensures)
 
 pub fresh-spec : {M : Type 1} → statement M

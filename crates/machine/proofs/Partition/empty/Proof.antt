@@ -1,9 +1,9 @@
-use Rattle.machine.specs.Partition.{emptyPartition}
+use Rattle.machine.specs.Partition.{empty_partition}
 use Rattle.machine.proofs.Partition.empty.Statement.{statement}
 use Rattle.machine.proofs.Partition.empty.Tie as tie
 
 returns : tie.Need-returns
-unfolding emptyPartition
+unfolding empty_partition
 returns c = rw (c.before.blank.ensures, c.blank2.ensures)
 
 pub empty-spec : {M : Type 1} → statement M

@@ -1,10 +1,10 @@
-use Rattle.machine.specs.Module.{emptyTable}
+use Rattle.machine.specs.Module.{empty_table}
 use mathlib.Core.Path.{refl}
 use Rattle.machine.proofs.Table.empty.Statement.{statement}
 use Rattle.machine.proofs.Table.empty.Tie as tie
 
 returns : tie.Need-returns
-unfolding emptyTable
+unfolding empty_table
 returns c = refl
 
 pub empty-spec : {M : Type 1} → statement M

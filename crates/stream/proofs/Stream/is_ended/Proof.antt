@@ -5,11 +5,11 @@ use Rattle.stream.proofs.Stream.is_ended.Tie as tie
 returns : tie.Need-returns
 returns c = rw c.enum_told.given.1
 
-returns-2 : tie.Need-returns-2
-returns-2 c = rw c.enum-told2.given.1
+returns_2 : tie.Need-returns-2
+returns_2 c = rw c.enum-told2.given.1
 
-returns-3 : tie.Need-returns-3
-returns-3 c = rw c.enum-told3.given.1
+returns_3 : tie.Need-returns-3
+returns_3 c = rw c.enum-told3.given.1
 
 pub is-ended-spec : {M : Type 1} → statement M
-is-ended-spec = tie.close (tie.spec (λ c. search rules) (λ c. search rules) (λ c. search rules) returns returns-2 returns-3)
+is-ended-spec = tie.close (tie.spec (λ c. search rules) (λ c. search rules) (λ c. search rules) returns returns_2 returns_3)

@@ -2,6 +2,7 @@
 ghost use Rattle.std.specs.Prelude.{◌≡◌, take, ℕ};
 ghost use Rattle.machine.specs.Partition.{empty_blackboard, blackboard};
 ghost use Rattle.machine.specs.Blackboards.{blackboard_named, create_blackboard, show, read_blackboard, clear};
+ghost use Rattle.machine.specs.declared.Context.{Context as ContextT};
 ghost use Rattle.machine.specs.declared.Partition.{Partition as PartitionT};
 ghost use Rattle.decisions.specs.Views.{Shows};
 
@@ -45,7 +46,7 @@ pub fn is_blackboard_named(p: Partition, name: Field) -> bool
 
 // 26 CREATE_BLACKBOARD
 pub fn create_blackboard(v: View, name: Field) -> Decision
-    ensures { (p : PartitionT) (id who : ℕ) → Shows v id who p → v.taken ≡ blackboard_named name (take p.blackboardCount p.blackboards) → result ≡ create_blackboard name p }
+    ensures { (p : PartitionT) (c : ContextT) (id : ℕ) → Shows v c id p → v.taken ≡ blackboard_named name (take p.blackboardCount p.blackboards) → result ≡ create_blackboard name p }
 {
     let n = v.blackboards as u32;
     let code = decisions::creation_code(
@@ -64,7 +65,7 @@ pub fn create_blackboard(v: View, name: Field) -> Decision
 
 // 27 SHOW
 pub fn show_blackboard(v: View, k: u32, m: Field) -> Decision
-    ensures { (p : PartitionT) (who : ℕ) → Shows v k who p → result ≡ show k m p }
+    ensures { (p : PartitionT) (c : ContextT) → Shows v c k p → result ≡ show k m p }
 {
     if decisions::is_unknown(k, v.blackboards) {
         return Decision::Refused(3);
@@ -89,26 +90,26 @@ pub fn show_blackboard(v: View, k: u32, m: Field) -> Decision
 
 // 28 READ_BLACKBOARD
 pub fn read_blackboard(v: View, c: Context, k: u32, a: Field) -> Decision
-    ensures { (p : PartitionT) → Shows v k c.caller p → result ≡ read_blackboard c k a p }
+    ensures { (p : PartitionT) → Shows v c k p → result ≡ read_blackboard c k a p }
 {
     let unknown = decisions::is_unknown(k, v.blackboards);
     let code = decisions::wait_code(unknown, v.mode != 3, fields::is_timeout(a));
     let b = decisions::blackboard_in(v);
     let success = Decision::Unchanged(b.message, Time::At(0));
-    decisions::awaited(
+    objects::awaited(
         v,
         c,
         code,
         a,
         b.shown,
         success,
-        Wait::Blackboard(decisions::short_id(k)),
+        Wait::Blackboard(objects::short_id(k)),
     )
 }
 
 // 29 CLEAR
 pub fn clear_blackboard(v: View, k: u32) -> Decision
-    ensures { (p : PartitionT) (who : ℕ) → Shows v k who p → result ≡ clear k p }
+    ensures { (p : PartitionT) (c : ContextT) → Shows v c k p → result ≡ clear k p }
 {
     if decisions::is_unknown(k, v.blackboards) {
         return Decision::Refused(3);

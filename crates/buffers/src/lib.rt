@@ -4,6 +4,7 @@ ghost use Rattle.machine.specs.Limits.{message_limit};
 ghost use Rattle.machine.specs.Fields.{is_name, between};
 ghost use Rattle.machine.specs.Partition.{buffer, first_waiter};
 ghost use Rattle.machine.specs.Buffers.{buffer_named, create_buffer, send_buffer, receive_buffer};
+ghost use Rattle.machine.specs.declared.Context.{Context as ContextT};
 ghost use Rattle.machine.specs.declared.Partition.{Partition as PartitionT};
 ghost use Rattle.decisions.specs.Views.{Shows};
 ghost use Rattle.machine.specs.Process.{object};
@@ -49,7 +50,7 @@ fn is_buffer_admitted(name: Field, limit: Field) -> bool
 
 // 23 CREATE_BUFFER
 pub fn create_buffer(v: View, name: Field, limit: Field) -> Decision
-    ensures { (p : PartitionT) (id who : ℕ) → Shows v id who p → v.taken ≡ buffer_named name (take p.bufferCount p.buffers) → result ≡ create_buffer name limit p }
+    ensures { (p : PartitionT) (c : ContextT) (id : ℕ) → Shows v c id p → v.taken ≡ buffer_named name (take p.bufferCount p.buffers) → result ≡ create_buffer name limit p }
 {
     let n = v.buffers as u32;
     let code = decisions::creation_code(
@@ -72,31 +73,31 @@ pub fn create_buffer(v: View, name: Field, limit: Field) -> Decision
 
 // 24 SEND_BUFFER
 pub fn send_buffer(v: View, c: Context, k: u32, m: Field, a: Field) -> Decision
-    ensures { (p : PartitionT) → Shows v k c.caller p → v.waiter ≡ first_waiter (object (Receiving k)) p → result ≡ send_buffer c k m a p }
+    ensures { (p : PartitionT) → Shows v c k p → v.waiter ≡ first_waiter (object (Receiving k)) p → result ≡ send_buffer c k m a p }
 {
     let unknown = decisions::is_unknown(k, v.buffers);
-    let code = decisions::wait_code(unknown, v.mode != 3, decisions::is_sending_admitted(m, a));
-    let id = decisions::short_id(k);
+    let code = decisions::wait_code(unknown, v.mode != 3, objects::is_sending_admitted(m, a));
+    let id = objects::short_id(k);
     let receiver = decisions::waiter_in(v);
     let n = fields::number_of(m);
     let success = decisions::changed(Change::Moved(k, messages::sent_to(receiver, n)));
     let passes = decisions::has_room(v);
-    decisions::awaited(v, c, code, a, passes, success, Wait::Sending(id, n))
+    objects::awaited(v, c, code, a, passes, success, Wait::Sending(id, n))
 }
 
 // 25 RECEIVE_BUFFER
 pub fn receive_buffer(v: View, c: Context, k: u32, a: Field) -> Decision
-    ensures { (p : PartitionT) → Shows v k c.caller p → v.waiter ≡ first_waiter (object (Sending k 0)) p → result ≡ receive_buffer c k a p }
+    ensures { (p : PartitionT) → Shows v c k p → v.waiter ≡ first_waiter (object (Sending k 0)) p → result ≡ receive_buffer c k a p }
 {
     let unknown = decisions::is_unknown(k, v.buffers);
     let code = decisions::wait_code(unknown, v.mode != 3, fields::is_timeout(a));
-    let id = decisions::short_id(k);
+    let id = objects::short_id(k);
     let sender = decisions::waiter_in(v);
-    let m = decisions::carried_in(v);
+    let m = process::carried_by(decisions::served_in(v));
     let success = Decision::Changed(
         Change::Moved(k, messages::received_from(sender, m)),
         Change::Nothing,
         decisions::first_in(v),
     );
-    decisions::awaited(v, c, code, a, 0 < v.len, success, Wait::Receiving(id))
+    objects::awaited(v, c, code, a, 0 < v.len, success, Wait::Receiving(id))
 }

@@ -1,21 +1,15 @@
--- By the code n of a list of checks, and what names and ids fit into. Assumes nothing.
-use Prim.Native.Nat.{ℕ, ◌≤◌}
+-- By the code n of a list of checks. Assumes nothing.
+use Prim.Native.Nat.{ℕ}
 use mathlib.Core.Path.{◌≡◌, refl, sym, ap, ◌∙◌}
-use mathlib.Core.Bool.{Bool, true, false, cond}
+use mathlib.Core.Bool.{Bool, true, cond}
 use mathlib.Core.List.{List}
 use lib.Dec.{eqb, leb}
-use native.Mathlib.Omega.{arith}
-use borrow.Author.Tests.{eqb-true, eqb-false, le-leb, not-false}
+use borrow.Author.Tests.{eqb-true, eqb-false, not-false}
 use Rattle.machine.specs.declared.Decision.{Decision}
 use Rattle.machine.specs.declared.Decision.TheVariants.{Refused}
-use Rattle.machine.specs.declared.Field.{Field}
-use Rattle.machine.specs.Limits.{name_limit}
-use Rattle.machine.specs.Fields.{is_name, number_of}
-use Rattle.machine.specs.Decisions.{checked, code_of, creation_checks, unknown}
+use Rattle.machine.specs.Decisions.{checked, code_of, creation_checks}
 use Rattle.machine.proofs.Tests.{codes_in, Passed, code_refuses, code_passes}
-use Rattle.machine.proofs.Bounds.{known_id}
 use Rattle.machine.proofs.Either.{either}
-use Rattle.machine.proofs.Fields.{in_limits}
 
 module _ (l : List (Bool × ℕ)) (n : ℕ) (e : n ≡ code_of l) (x : Decision) where
   pub refused_code : (n ≡ 0 → ⊥) → Refused n ≡ checked Refused l x
@@ -34,11 +28,3 @@ by_code l n x y e some h = either (eqb n 0)
 pub admitted_code : (full taken admitted normal : Bool) (n : ℕ) → n ≡ code_of (creation_checks full taken admitted normal) → n ≡ 0 → admitted ≡ true
 unfolding Passed
 admitted_code full taken admitted normal n e z = not-false admitted (passed_code (creation_checks full taken admitted normal) n e (Refused 0) refl z).1.1.1.0
-
--- ---------------------------------------------------------------- names and ids
-pub named_low : (f : Field) → is_name f ≡ true → number_of f ≤ name_limit
-named_low f h = (in_limits 1 name_limit f h).1
-
--- the id of an object that exists
-pub short_known : (k n count : ℕ) → n ≡ cond (leb k 255) k 0 → count ≤ 255 → unknown k count ≡ false → n ≡ k
-short_known k n count e low h = let r = known_id k count h in rw (le-leb k 255 (omega arith)) at e

@@ -1,14 +1,13 @@
 -- What a call sees of its partition.
 use Rattle.std.specs.Prelude.{ℕ, ◌≡◌}
 use Rattle.machine.specs.Messages.{first}
-use Rattle.machine.specs.Process.{carried}
 use Rattle.machine.specs.Partition.{process, semaphore, event, buffer, blackboard}
+use Rattle.machine.specs.declared.Context.{Context}
 use Rattle.machine.specs.declared.Partition.{Partition}
 use Rattle.decisions.specs.declared.View.{View}
 
--- v shows partition p to a call whose field a is the number id and which is about process who; what a name in it and who waits is said by the
--- calls that look at these
-pub record Shows (v : View) (id who : ℕ) (p : Partition) : Type 0 where
+-- v shows partition p to a call whose field a is the number id; what a name in it and who waits is said by the calls that look at these
+pub record Shows (v : View) (c : Context) (id : ℕ) (p : Partition) : Type 0 where
   pub mode : v.mode ≡ p.mode
   pub level : v.level ≡ p.level
   pub holder : v.holder ≡ p.holder
@@ -17,11 +16,12 @@ pub record Shows (v : View) (id who : ℕ) (p : Partition) : Type 0 where
   pub events : v.events ≡ p.eventCount
   pub buffers : v.buffers ≡ p.bufferCount
   pub blackboards : v.blackboards ≡ p.blackboardCount
-  pub subject : v.subject ≡ process who p
+  pub named : v.named ≡ process id p
+  pub calling : v.calling ≡ process c.caller p
   pub semaphore : v.semaphore ≡ semaphore id p
   pub event : v.event ≡ event id p
   pub limit : v.limit ≡ (buffer id p).limit
   pub len : v.len ≡ (buffer id p).queue.len
   pub first : v.first ≡ first (buffer id p).queue
   pub blackboard : v.blackboard ≡ blackboard id p
-  pub carried : v.carried ≡ carried (process v.waiter p)
+  pub served : v.served ≡ process v.waiter p

@@ -1,15 +1,12 @@
-// What an event decides: its reply, what it changes, the checks that several calls share, and a call that waits on an object.
-ghost use Rattle.std.specs.Prelude.{◌≡◌, ℕ, cond, ◌&&◌, ◌||◌, [], ◌∷◌, eqb, ltb, leb};
-ghost use Rattle.machine.specs.Fields.{is_number, is_message, is_timeout};
-ghost use Rattle.machine.specs.Decisions.{coded, code_of, reply_of, no_message, changed, blocked, creation_checks, wait_checks, unknown, queued};
-ghost use Rattle.machine.specs.declared.Decision.TheVariants.{Refused};
-ghost use Rattle.machine.specs.declared.Partition.{Partition as PartitionT};
-ghost use Rattle.decisions.specs.Views.{Shows};
-ghost use Rattle.machine.specs.Questions.{changes, restarts, mode_of, first_change, second_change, nothing, turns_of, message_at, message_of, transfer_at, transfer_of};
+// What an event decides: its reply, what it changes, and the checks that several calls share.
+ghost use Rattle.std.specs.Prelude.{◌≡◌, ◌&&◌, ◌||◌, [], ◌∷◌, eqb, ltb};
+ghost use Rattle.machine.specs.Fields.{is_number};
+ghost use Rattle.machine.specs.Decisions.{coded, code_of, reply_of, no_message, changed, blocked, creation_checks, wait_checks, unknown};
+ghost use Rattle.machine.specs.Questions.{changes, restarts, mode_of, first_change, second_change, message_at, message_of, transfer_at, transfer_of};
 
 use machine::{
     Blackboard, Change, Context, Decision, EventState, Field, Message, Module, Process, Reply,
-    Semaphore, Time, Transfer, Wait,
+    Semaphore, Time, Transfer,
 };
 
 // ---------------------------------------------------------------- decisions
@@ -117,40 +114,6 @@ pub fn second_change(d: Decision) -> Change
         Decision::Restarted(_) => Change::Nothing,
         Decision::Written(_, _) => Change::Nothing,
         Decision::Passed(_, _, _) => Change::Nothing,
-    }
-}
-
-fn is_nothing(c: Change) -> bool
-    ensures { result ≡ nothing c }
-{
-    match c {
-        Change::Nothing => true,
-        Change::Stored(_, _) => false,
-        Change::Created(_, _) => false,
-        Change::Last(_) => false,
-        Change::StoredSemaphore(_, _) => false,
-        Change::StoredEvent(_, _) => false,
-        Change::CreatedBuffer(_, _, _) => false,
-        Change::Moved(_, _) => false,
-        Change::StoredBlackboard(_, _) => false,
-        Change::Ended(_) => false,
-        Change::Handed(_, _) => false,
-        Change::LevelSet(_, _) => false,
-        Change::Entered(_) => false,
-    }
-}
-
-// How many of these two changes are to be made, where something may be due at a tick one.
-pub fn turns_of(d: Decision, due: bool) -> u8
-    ensures { result ≡ turns_of d due }
-{
-    if due {
-        return 1;
-    }
-    if does_change(d) {
-        if is_nothing(second_change(d)) { 1 } else { 2 }
-    } else {
-        0
     }
 }
 
@@ -318,10 +281,8 @@ pub fn has_no_caller(mode: u8, running: u8) -> bool
 }
 
 // ---------------------------------------------------------------- what a call sees of its partition
-// Mode and preemption lock; how many there are of each kind; whether the name in field a is taken among its kind; the process that the call is
-// about: the one that field a names, the caller, or the first waiter; the object that field a names, of a buffer its limit, how many messages it
-// holds and the first of them; the first process that waits for the object that the call looks at, 0 for none, and the message that is kept with
-// its wait.
+// Mode and preemption lock; how many there are of each kind; whether the name in field a is taken among its kind; the records of what field a
+// names, of a buffer its limit, how many messages it holds and the first of them, and the caller's; the first process that waits for the object that the call looks at, 0 for none, and its record.
 #[derive(Drop)]
 pub struct View {
     pub mode: u8,
@@ -333,7 +294,8 @@ pub struct View {
     pub buffers: u8,
     pub blackboards: u8,
     pub taken: bool,
-    pub subject: Process,
+    pub named: Process,
+    pub calling: Process,
     pub semaphore: Semaphore,
     pub event: EventState,
     pub limit: u8,
@@ -341,13 +303,19 @@ pub struct View {
     pub first: u32,
     pub blackboard: Blackboard,
     pub waiter: u8,
-    pub carried: u32,
+    pub served: Process,
 }
 
-pub fn subject_in(v: View) -> Process
-    ensures { result ≡ v.subject }
+pub fn named_in(v: View) -> Process
+    ensures { result ≡ v.named }
 {
-    v.subject
+    v.named
+}
+
+pub fn calling_in(v: View) -> Process
+    ensures { result ≡ v.calling }
+{
+    v.calling
 }
 
 pub fn semaphore_in(v: View) -> Semaphore
@@ -380,10 +348,10 @@ pub fn blackboard_in(v: View) -> Blackboard
     v.blackboard
 }
 
-pub fn carried_in(v: View) -> u32
-    ensures { result ≡ v.carried }
+pub fn served_in(v: View) -> Process
+    ensures { result ≡ v.served }
 {
-    v.carried
+    v.served
 }
 
 pub fn waiter_in(v: View) -> u8
@@ -396,56 +364,4 @@ pub fn taken_in(v: View) -> bool
     ensures { result ≡ v.taken }
 {
     v.taken
-}
-
-// ---------------------------------------------------------------- calls that wait on an object
-// Waits on an object, last in its queue.
-fn wait_queued(v: View, c: Context, a: Field, wait: Wait) -> Decision
-    ensures { (p : PartitionT) (id : ℕ) → Shows v id c.caller p → result ≡ queued c a wait p }
-{
-    if fields::is_number(a, 0) {
-        return Decision::Refused(2);
-    }
-    let x = subject_in(v);
-    let until = process::later_time(Time::At(c.time), fields::time_of(a));
-    block(v.level, c.caller, process::waiting_for(x, wait, until))
-}
-
-// What a send that may wait admits.
-pub fn is_sending_admitted(m: Field, a: Field) -> bool
-    ensures { result ≡ is_message m && is_timeout a }
-{
-    if fields::is_message(m) {
-        fields::is_timeout(a)
-    } else {
-        false
-    }
-}
-
-// A call that waits with time-out a, by the code of its checks: where it need not wait, success.
-pub fn awaited(
-    v: View,
-    c: Context,
-    code: u8,
-    a: Field,
-    passes: bool,
-    success: Decision,
-    wait: Wait,
-) -> Decision
-    ensures { (p : PartitionT) (id : ℕ) → Shows v id c.caller p → result ≡ cond (eqb code 0) (cond passes success (queued c a wait p)) (Refused code) }
-{
-    if code != 0 {
-        return Decision::Refused(code);
-    }
-    if passes {
-        return success;
-    }
-    wait_queued(v, c, a, wait)
-}
-
-// The id of an object in 8 bits; 0 for one that no object has.
-pub fn short_id(k: u32) -> u8
-    ensures { result ≡ cond (leb k 255) k 0 }
-{
-    if k <= 255 { k as u8 } else { 0 }
 }

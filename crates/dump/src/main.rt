@@ -201,8 +201,8 @@ fn print_queue(label: &[u8], id: u8, p: Partition, w: Wait) -> bool {
 fn print_item(p: Partition, item: Item, id: u8) -> bool {
     match item {
         Item::Process => print_process(id, partition::process_at(p, id as u32)),
-        Item::Semaphore => print_semaphore(id, semaphores::semaphore_at(p, id as u32)),
-        Item::Event => print_event(id, semaphores::event_at(p, id as u32)),
+        Item::Semaphore => print_semaphore(id, objects::semaphore_at(p, id as u32)),
+        Item::Event => print_event(id, objects::event_at(p, id as u32)),
         Item::Buffer => print_buffer(id, buffers::buffer_at(p, id as u32)),
         Item::Blackboard => print_blackboard(id, blackboards::blackboard_at(p, id as u32)),
         Item::SemaphoreQueue => print_queue(b"waiters semaphore ", id, p, Wait::Semaphore(id)),

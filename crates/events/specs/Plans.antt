@@ -2,20 +2,18 @@
 use Rattle.std.specs.Prelude.{ℕ, ◌-◌, Bool, cond, not, ◌&&◌, ◌||◌, List, [], ◌∷◌, eqb, ltb}
 use Rattle.machine.specs.Decisions.{code_of}
 use Rattle.machine.specs.Fields.{request_of, number_of}
-use Rattle.machine.specs.Limits.{partition_limit, channel_limit}
+use Rattle.machine.specs.Limits.{partition_limit}
 use Rattle.machine.specs.Step.{sees}
 use Rattle.machine.specs.Ticks.{partition_count}
 use Rattle.machine.specs.Windows.{lookup, release_point}
 use Rattle.machine.specs.declared.Answer.{Answer}
 use Rattle.machine.specs.declared.Event.{Event}
-use Rattle.machine.specs.declared.Field.{Field}
 use Rattle.machine.specs.declared.Lookup.{Lookup}
 use Rattle.machine.specs.declared.Reply.{Reply}
 use Rattle.machine.specs.declared.Request.{Request}
 use Rattle.machine.specs.declared.Table.{Table}
 use Rattle.machine.specs.declared.Time.TheVariants.{At}
 use Rattle.places.specs.Placed.{placed_at}
-use Rattle.services.specs.Looked.{names_channel}
 use Rattle.places.specs.declared.Placed.{Placed}
 use Rattle.events.specs.declared.Plan.{Plan}
 
@@ -51,10 +49,6 @@ takes_start_rule n = eqb n 1 || (eqb n 3 || eqb n 4)
 abbrev pub release_for : Table → ℕ → ℕ → ℕ → ℕ
 release_for T t k n = cond (takes_start_rule n) (release_point T t k) 0
 
--- the place of the channel that call n names; past the last for one that names none
-abbrev pub place_for : ℕ → Field → ℕ
-place_for n a = cond (names_channel n) (number_of a - 1) channel_limit
-
 -- where the one lies whose running process is shown
 abbrev pub shown_slot : Request → ℕ → ℕ
 shown_slot r k = cond (sees r k) (slot_of k) partition_limit
@@ -63,7 +57,7 @@ abbrev pub planned : Table → Request → ℕ → Placed → Lookup → Plan
 planned T r k x v =
     let now = v.partition in
     let code = place_code x.code k now in
-    record { request = r; own = k; call = number_of r.call; place = place_for (number_of r.call) r.a; code = code; time = x.time; current = now; left = v.left; ticks = tick_count T code k; spot = slot_of now; slot = call_slot code k; shown = shown_slot r now }
+    record { request = r; own = k; call = number_of r.call; place = number_of r.a - 1; code = code; time = x.time; current = now; left = v.left; ticks = tick_count T code k; spot = slot_of now; slot = call_slot code k; shown = shown_slot r now }
 
 abbrev pub request_plan : Table → ℕ → Request → Plan
 request_plan T t r = planned T r (number_of r.partition) (placed_at T t r) (lookup T (placed_at T t r).time)

@@ -1,13 +1,11 @@
 // What an event does before its partition is looked at, and its answer.
-ghost use Rattle.std.specs.Prelude.{◌≡◌, ◌≤◌};
-ghost use Rattle.machine.specs.Limits.{partition_limit};
-ghost use Rattle.machine.specs.Ticks.{partition_count};
+ghost use Rattle.std.specs.Prelude.{◌≡◌};
 ghost use Rattle.machine.specs.Fields.{number_of};
 ghost use Rattle.machine.specs.Step.{sees};
 ghost use Rattle.machine.specs.declared.Table.{Table as TableT};
-ghost use Rattle.events.specs.Plans.{place_code, tick_count, slot_of, call_slot, takes_start_rule, release_for, shown_slot, place_for, planned, answer_of, no_answer};
+ghost use Rattle.events.specs.Plans.{place_code, tick_count, slot_of, call_slot, takes_start_rule, release_for, shown_slot, planned, answer_of, no_answer};
 
-use machine::{Answer, Field, Lookup, Module, Reply, Request, Table};
+use machine::{Answer, Lookup, Module, Reply, Request, Table};
 use places::Placed;
 
 // ---------------------------------------------------------------- before its partition is looked at
@@ -50,18 +48,6 @@ fn call_code(n: u8, k: u32, current: u8) -> u8
     }
 }
 
-// How many partitions a table of this size has, the array's length at most.
-fn count(size: u8) -> usize
-    ensures { ((T : TableT) → T.size ≡ size → result ≡ partition_count T) × (result ≤ partition_limit) }
-{
-    let n = size as usize;
-    if n <= Module::PARTITIONS {
-        n
-    } else {
-        Module::PARTITIONS
-    }
-}
-
 // Of a table of this size.
 fn tick_count(size: u8, code: u8, k: u32) -> usize
     ensures { (T : TableT) → T.size ≡ size → result ≡ tick_count T code k }
@@ -72,7 +58,7 @@ fn tick_count(size: u8, code: u8, k: u32) -> usize
     if k != 0 {
         return 0;
     }
-    count(size)
+    ticks::count(size)
 }
 
 // Where partition k lies, past the last for none.
@@ -134,16 +120,6 @@ fn shown_slot(r: Request, k: u8) -> usize
     Module::PARTITIONS
 }
 
-// The place of the channel that a call names; past the last for one that names none.
-fn place_for(call: Field, a: Field) -> usize
-    ensures { result ≡ place_for (number_of call) a }
-{
-    if services::names_channel(fields::number_of(call)) {
-        return channels::place_of(a) as usize;
-    }
-    Module::CHANNELS
-}
-
 // Of a request so placed, over a table of this size, with the window at the time after it.
 pub fn plan_of(size: u8, request: Request, first: Placed, window: Lookup) -> Plan
     ensures { (T : TableT) → T.size ≡ size → result ≡ planned T request (number_of request.partition) first window }
@@ -157,7 +133,7 @@ pub fn plan_of(size: u8, request: Request, first: Placed, window: Lookup) -> Pla
         request,
         own,
         call: fields::number_of(call),
-        place: place_for(call, a),
+        place: channels::place_of(a) as usize,
         code,
         time: first.time,
         current: window.partition,

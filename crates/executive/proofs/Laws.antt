@@ -1,7 +1,6 @@
 -- One event in parts: its places, its decision, and what is stored of it, are the machine's step. Assumes nothing.
 use Prim.Native.Nat.{ℕ, zero, suc, ◌+◌, ◌-◌, ◌≤◌, ◌<◌}
 use mathlib.Core.Bool.{Bool, true, false, cond, not, ◌&&◌}
-use mathlib.Core.Logic.{◌⊎◌, ⊎_elim}
 use mathlib.Core.List.{List, [], ◌∷◌, ◌++◌}
 use mathlib.Core.Path.{◌≡◌, refl, sym, ap, ◌∙◌, subst}
 use native.Mathlib.Omega.{arith}
@@ -13,8 +12,7 @@ use mir.Syntax.{w64}
 use mir.Val.{to_z, of_z, SFits}
 use mir.ValLaws.{to_z-of_z}
 use borrow.Author.Tests.{ne_eqb, lt-ltb, ltb-true, ltb-false, eqb-true, eqb-false, leb-true, not-false}
-use Rattle.machine.specs.Channels.{port_at, port_of, queuing_at, sees_traffic, other_end, other_queue, no_traffic, traffic_of, leads_into, kept_to}
-use Rattle.machine.specs.Queuing.{passed, refilled_to}
+use Rattle.machine.specs.Channels.{port_at, port_of, queuing_at, sees_traffic, other_end, other_queue, no_traffic, traffic_of, passed, leads_into, kept_to, refilled_to}
 use Rattle.machine.specs.Decisions.{no_caller_as, coded, checked, code_of, reply_of, no_message}
 use Rattle.machine.specs.Questions.{changes, restarts, message_at, message_of, transfer_at, transfer_of}
 use Rattle.machine.specs.Messages.{no_queue, moved, ends_wait}
@@ -28,7 +26,6 @@ use Rattle.machine.specs.Step.{context_of, decision, module_after, sees, answer_
 use Rattle.machine.specs.Ticks.{tick_at, tick_to, partition_count, tick_module}
 use Rattle.machine.specs.Windows.{lookup, release_point, waiting_of}
 use Rattle.machine.specs.declared.Answer.{Answer}
-use Rattle.machine.specs.declared.Context.{Context}
 use Rattle.machine.specs.declared.Decision.{Decision}
 use Rattle.machine.specs.declared.Decision.TheVariants.{Refused, Ticked}
 use Rattle.machine.specs.declared.Event.{Event}
@@ -55,10 +52,8 @@ use Rattle.machine.proofs.Tests.{by_test, codes_in, Passed, code_refuses, code_p
 use Rattle.places.specs.Placed.{placed_at}
 use Rattle.places.specs.declared.Placed.{Placed}
 use Rattle.queuing.proofs.Laws.{placed}
-use Rattle.events.specs.Plans.{call_checks, tick_count, slot_of, call_slot, takes_start_rule, release_for, shown_slot, place_for, planned, plan_of, answer_of}
+use Rattle.events.specs.Plans.{call_checks, tick_count, slot_of, call_slot, takes_start_rule, release_for, shown_slot, planned, plan_of, answer_of}
 use Rattle.events.specs.declared.Plan.{Plan}
-use Rattle.services.specs.Looked.{names_channel, asks_waiter}
-use Rattle.services.proofs.Ports.{port_unseen, with_traffic, waiter_unseen}
 use Rattle.executive.specs.Executive.{turned}
 
 -- ---------------------------------------------------------------- lists of checks
@@ -85,15 +80,6 @@ release_shown T t k left caller n x r p = either (takes_start_rule n)
     let late = or_right (eqb n 1) _ e in
     ap (checked Refused ((no_caller_as caller p, 9) ∷ []))
     (release_unseen n (eqb-false n 1 (or_left (eqb n 1) _ e), eqb-false n 3 (or_left (eqb n 3) _ late), eqb-false n 4 (or_right (eqb n 3) _ late)) _ _ x r p))
-
--- a call that names no channel may be shown another port
-port_shown : (c : Context) (x y : Port) (n : ℕ) → names_channel n ≡ false → (r : Request) (p : Partition) → called c x n r p ≡ called c y n r p
-port_shown c x y n h r p = ap (checked Refused ((no_caller_as c.caller p, 9) ∷ [])) (port_unseen n h c x y r p)
-
--- and one that does not ask who waits at the other end, another traffic with as many messages
-waiter_shown : (c : Context) (x : Port) (t : Traffic) → t.len ≡ x.traffic.len → (n : ℕ) → asks_waiter n x.channel.size x.traffic.len ≡ false → (r : Request) (p : Partition)
-    → called c x n r p ≡ called c (with_traffic x t) n r p
-waiter_shown c x t e n h r p = ap (checked Refused ((no_caller_as c.caller p, 9) ∷ [])) (waiter_unseen c x t e n h r p)
 
 -- ---------------------------------------------------------------- the places
 abbrev own : Request → ℕ
@@ -187,10 +173,6 @@ seen_traffic T q k i =
     let c = channel T i in
     cond (sees_traffic T k i) (traffic_of (queue q i) (other_queue k i c) (part q (other_end k c - 1))) no_traffic
 
--- what the code has of it: all, or where call n does not ask who waits at the other end, as many messages
-abbrev pub Told : ℕ → ℕ → Traffic → Traffic → Type 0
-Told n size view real = (view ≡ real) ⊎ ((view.len ≡ real.len) × (asks_waiter n size real.len ≡ false))
-
 -- what a read of an array of queues would give past its end
 abbrev pub past_queue : Queue
 past_queue = record { items = []; len = 0 }
@@ -227,12 +209,6 @@ module _ (T : Table) (long : length T.channels ≡ channel_limit) (k i : ℕ) {n
           let b = within_out partition_limit c.destination (and_right (within partition_limit c.source) _ z) in
           let at : n ≡ other_end k c - 1 = e ∙ rw t in
           by_test (λ (j : ℕ). n ≡ j - 1 → ⊥) (eqb c.source k) (λ _ y. omega (arith, b.0, b.1)) (λ _ y. omega (arith, a.0, a.1)) at
-
--- past the last channel no traffic is seen
-pub none_far : (T : Table) → length T.channels ≡ channel_limit → (k i : ℕ) → channel_limit ≤ i → (q : Module) {v : Traffic} → v ≡ no_traffic → v ≡ seen_traffic T q k i
-none_far T long k i far q g = either (sees_traffic T k i)
-    (λ t. let z = placed T i long (and_right (ltb i T.channelCount) _ (and_left (queuing_at T i) _ t)) in absurd (omega (arith, z, far)))
-    (λ t. g ∙ rw t)
 
 -- record and reply after an event are the machine's, and the record has its places; the window was looked up as it is then
 pub record After (m : Module) (r : Request) (now t : ℕ) (q : Module) (b : Reply) : Type 0 where
@@ -291,16 +267,12 @@ module _ {m : Module} {e : Event} {T : Table} {x : Plan} (f : Planned m e T x) w
   unfolding plan_of
   call_is = rw here
 
-  place_is : x.place ≡ place_for (number_of r.call) r.a
+  place_is : x.place ≡ number_of r.a - 1
   unfolding plan_of
   place_is = rw here
 
-  -- a call that names a channel looks at its place
-  place_at : names_channel x.call ≡ true → x.place ≡ number_of r.a - 1
-  place_at t = place_is ∙ rw (← call_is, t)
-
-  pub place_named : names_channel x.call ≡ true → x.place ≡ number_of x.request.a - 1
-  place_named t = place_at t ∙ ap (λ (v : Request). number_of v.a - 1) (sym request_is)
+  pub place_named : x.place ≡ number_of x.request.a - 1
+  place_named = place_is ∙ ap (λ (v : Request). number_of v.a - 1) (sym request_is)
 
   code_is_holds : x.code ≡ code
   unfolding plan_of
@@ -361,9 +333,9 @@ module _ {m : Module} {e : Event} {T : Table} {x : Plan} (f : Planned m e T x) w
       (λ o. record { none = eqb-true x.code 0 z; some = o; slot = slot_is ∙ rw (z, o); now = current_is ∙ (place_calls m r f.long now seen x.code code_is_holds (eqb-true x.code 0 z) o).0 }))
       (λ z. let w : x.slot ≡ partition_limit = slot_is ∙ rw z in absurd (omega arith))
 
-  -- a call ticks nothing
-  pub call_no_ticks : x.slot < partition_limit → x.ticks ≡ 0
-  call_no_ticks h = let c = calls h in ticks_is ∙ rw (c.none, c.some)
+  -- where the partition that makes a call lies, the current one does
+  pub slot_spot : x.slot < partition_limit → x.slot ≡ x.spot
+  slot_spot h = let c = calls h in c.slot ∙ sym (spot_is ∙ ap slot_of c.now ∙ rw c.some)
 
   pub slot_own : x.slot < partition_limit → x.own - 1 ≡ x.slot
   slot_own h = ap (λ (n : ℕ). n - 1) own_is ∙ sym (calls h).slot
@@ -413,34 +385,15 @@ module _ {m : Module} {e : Event} {T : Table} {x : Plan} (f : Planned m e T x) w
       called_same = let c = calls inside in still (rw (c.none, c.some)) (time_called m.table m.t now r c.some)
 
       -- what the code decides is the machine's decision
-      made_with : (caller v : ℕ) (port : Port) {d : Decision} → caller ≡ running (part q x.slot) → v ≡ release_for T q.t x.own x.call
-          → port ≡ port_at T x.own x.request.a (message q (number_of r.a - 1)) (seen_traffic T q x.own (number_of r.a - 1))
+      pub made_is : (caller v : ℕ) (hold : Message) (view : Traffic) (port : Port) {d : Decision} → caller ≡ running (part q x.slot) → v ≡ release_for T q.t x.own x.call → hold ≡ message q x.place
+          → view ≡ seen_traffic T q x.own x.place → port ≡ port_at T x.own x.request.a hold view
           → d ≡ called (record { time = q.t; frame = T.frame; left = x.left; release = v; caller = caller }) port x.call x.request (part q x.slot) → d ≡ decision m r
-      made_with caller v port runs point sees-port made =
+      made_is caller v hold view port runs point lies shows sees-port made =
           let c = calls inside in
           let w = called_same in
           let shown : called (record { time = q.t; frame = T.frame; left = x.left; release = v; caller = caller }) port x.call x.request (part q x.slot) ≡ called (record { time = q.t; frame = T.frame; left = x.left; release = release_point T q.t x.own; caller = caller }) port x.call x.request (part q x.slot) =
           rw point (release_shown T q.t x.own x.left caller x.call port x.request (part q x.slot)) in
-          made ∙ shown ∙ rw (runs, sees-port, w, ← f.same, request_is, own_is, call_is, left_seen c.some, c.slot) (sym (place_passed m r f.long now seen x.code code_is_holds c.none ∙ rw c.some))
-
-      -- where it names a channel, with the port of that channel; else whatever the port
-      pub made_is : (caller v : ℕ) (hold : Message) (view : Traffic) (port : Port) {d : Decision} → caller ≡ running (part q x.slot) → v ≡ release_for T q.t x.own x.call → hold ≡ message q x.place
-          → Told x.call (channel T x.place).size view (seen_traffic T q x.own x.place) → (names_channel x.call ≡ true → port ≡ port_at T x.own x.request.a hold view)
-          → d ≡ called (record { time = q.t; frame = T.frame; left = x.left; release = v; caller = caller }) port x.call x.request (part q x.slot) → d ≡ decision m r
-      made_is caller v hold view port runs point lies shows sees-port made = either (names_channel x.call)
-          (λ t.
-          let real = seen_traffic T q x.own x.place in
-          let other = port_at T x.own x.request.a hold real in
-          let context : Context = record { time = q.t; frame = T.frame; left = x.left; release = v; caller = caller } in
-          ⊎_elim (λ e. let whole : view ≡ seen_traffic T q x.own x.place = e in made_with caller v port runs point (sees-port t ∙ rw (lies, whole, place_at t)) made)
-          (λ u.
-          let unasked : asks_waiter x.call other.channel.size real.len ≡ false = rw (← place_named t) u.1 in
-          let as-other = waiter_shown context other view u.0 x.call unasked x.request (part q x.slot) in
-          made_with caller v other runs point (rw (lies, place_at t)) (made ∙ ap (λ (y : Port). called context y x.call x.request (part q x.slot)) (sees-port t) ∙ sym as-other))
-          shows)
-          (λ t.
-          let other = port_at T x.own x.request.a (message q (number_of r.a - 1)) (seen_traffic T q x.own (number_of r.a - 1)) in
-          made_with caller v other runs point refl (made ∙ port_shown (record { time = q.t; frame = T.frame; left = x.left; release = v; caller = caller }) port other x.call t x.request (part q x.slot)))
+          made ∙ shown ∙ rw (runs, sees-port, lies, shows, w, ← f.same, request_is, own_is, call_is, place_is, left_seen c.some, c.slot) (sym (place_passed m r f.long now seen x.code code_is_holds c.none ∙ rw c.some))
 
       module _ {d : Decision} (Made-so : d ≡ decision m r) where
         made_called : d ≡ called (context_of m k) (port_of m k r) (number_of r.call) r (part m (k - 1))

@@ -1,7 +1,8 @@
 // The executive: a module that comes only from table reading and from events.
-ghost use Rattle.std.specs.Prelude.{◌≡◌, ◌+◌, ◌≤◌, length};
+ghost use Rattle.std.specs.Prelude.{◌≡◌, ◌+◌, ◌-◌, ◌≤◌, length};
 ghost use Rattle.std.proofs.lemmas.List.Edits.{sets};
-ghost use Rattle.machine.specs.Step.{step};
+ghost use Rattle.machine.specs.Partition.{nothing_created};
+ghost use Rattle.machine.specs.Step.{restarted, step};
 ghost use Rattle.machine.specs.Replay.{time_number, answer_numbers, unread};
 ghost use Rattle.machine.specs.Table.{read_table};
 ghost use Rattle.machine.specs.Windows.{waiting_of};
@@ -9,8 +10,11 @@ ghost use Rattle.events.specs.Plans.{no_answer};
 ghost use Rattle.executive.specs.Executive.{turned, opened};
 ghost use Rattle.executive.specs.Lists.{six, event_at, after_list, answered_list, last_answer, events_in};
 
+use channels::Messages;
 use decisions::View;
-use machine::{Answer, Context, Decision, Event, Module, Partition, Time, Waiting};
+use machine::{
+    Answer, Change, Context, Decision, Event, Module, Partition, Process, Time, Waiting,
+};
 
 #[derive(Drop)]
 pub struct Executive {
@@ -31,6 +35,31 @@ pub struct Opening {
     pub code: u8,
     pub value: u32,
     pub lines: u32,
+}
+
+// ---------------------------------------------------------------- a restart
+fn one_less(k: u32) -> u32
+    ensures { result ≡ k - 1 }
+{
+    if k == 0 { 0 } else { k - 1 }
+}
+
+// Partition k is restarted in this mode: nothing is created, the messages on channels into it are erased, and the queues into it filled anew.
+fn restart(m: Module, k: u32, mode: u8) -> Module
+    ensures { result ≡ restarted k (nothing_created mode) m }
+{
+    let mut r = m;
+    let table = r.table;
+    let items = r.messages;
+    let e = channels::erase_into(Messages { items }, table, k);
+    let kept = e.items;
+    r.messages = kept;
+    let slot = one_less(k) as usize;
+    if slot < Module::PARTITIONS {
+        let p = partition::nothing_created(mode);
+        r.partitions[slot] = p;
+    }
+    queuing::refill(r, k)
 }
 
 // ---------------------------------------------------------------- the lent list
@@ -104,11 +133,8 @@ impl Executive {
         let mut here = Partition::empty();
         let mut currents = [0u8; Module::PROCESSES];
         let mut objects = [0u16; Module::PROCESSES];
-        let mut dues = [Module::LATEST; Module::PROCESSES];
         let mut run: u8 = 0;
         let mut soon = [0u32; Module::PARTITIONS];
-        let mut seen_at = Module::PARTITIONS;
-        let mut seen_run: u8 = 0;
         let mut i: usize = 0;
         while i < n {
             let at = i * SIX;
@@ -119,66 +145,60 @@ impl Executive {
             }
             let x = events::plan_of(table.size, asked, first, window);
             m.t = x.time;
-            let mut due = false;
+            let mut stale = false;
             let mut j: usize = 0;
             while j < x.ticks {
                 if soon[j] <= m.t {
                     if j == spot {
-                        due = true;
+                        here = partition::ticked(here, m.t);
+                        soon[j] = partition::soonest_of(here);
+                        stale = true;
                     } else {
                         let p = m.partitions[j];
                         let q = partition::ticked(p, m.t);
                         m.partitions[j] = q;
                         soon[j] = partition::soonest_of(q);
-                        seen_at = Module::PARTITIONS;
                     }
                 }
                 j += 1;
             }
+            if x.spot != spot {
+                if spot < Module::PARTITIONS {
+                    m.partitions[spot] = here;
+                }
+                spot = x.spot;
+                if spot < Module::PARTITIONS {
+                    here = m.partitions[spot];
+                }
+                stale = true;
+            }
+            if stale {
+                resident::fill(here, &mut currents, &mut objects);
+                let ready = here.arrival;
+                run = resident::running(here.mode, here.level, here.holder, ready, &currents);
+            }
             let mut d = Decision::Refused(x.code);
             let slot = x.slot;
             if slot < Module::PARTITIONS {
-                seen_at = Module::PARTITIONS;
-                if slot != spot {
-                    if spot < Module::PARTITIONS {
-                        m.partitions[spot] = here;
-                    }
-                    spot = slot;
-                    here = m.partitions[slot];
-                    resident::fill(here, &mut currents, &mut objects, &mut dues);
-                    let ready = here.arrival;
-                    run = resident::running(here.mode, here.level, here.holder, ready, &currents);
-                }
                 let request = x.request;
                 let a = request.a;
                 let place = x.place;
                 let mut held = decisions::no_message();
                 let mut channel = channels::no_channel();
-                let mut traffic = queuing::no_traffic();
                 if place < Module::CHANNELS {
                     held = m.messages[place];
                     channel = table.channels[place];
-                    let seen = queuing::seen_slot(table.channelCount, channel, x.own, place);
-                    if seen < Module::PARTITIONS {
-                        if seen == spot {
-                            m.partitions[spot] = here;
-                        }
-                        let q = m.queues[place];
-                        if services::is_unasked(
-                            x.call,
-                            channel.size,
-                            q.len,
-                            m.partitions[seen].waiting.len,
-                        ) {
-                            traffic = queuing::unawaited(q);
-                        } else {
-                            let p = m.partitions[seen];
-                            traffic = queuing::traffic_of(
-                                q,
-                                queuing::other_object(channel, x.own, place),
-                                p,
-                            );
-                        }
+                }
+                let seen = queuing::seen_slot(table.channelCount, channel, x.own, place);
+                let mut traffic = queuing::no_traffic();
+                if seen < Module::PARTITIONS {
+                    let object = queuing::other_object(channel, x.own, place);
+                    let q = m.queues[place];
+                    if seen == spot {
+                        traffic = queuing::traffic_of(q, object, here);
+                    } else {
+                        let p = m.partitions[seen];
+                        traffic = queuing::traffic_of(q, object, p);
                     }
                 }
                 let context = Context {
@@ -190,21 +210,44 @@ impl Executive {
                 };
                 let port = channels::port_at(table.channelCount, channel, x.own, a, held, traffic);
                 let id = fields::number_of(a);
-                let waiting = here.waiting;
-                let waiter = resident::first_for(
-                    waiting,
-                    &objects,
-                    services::object_for(x.call, id),
-                );
-                let served = here.processes[partition::place(waiter as u32, Module::PROCESSES)];
-                let about = services::subject_for(x.call, id, run, waiter);
-                let subject = here.processes[partition::place(about, Module::PROCESSES)];
-                let o = partition::place(id, Module::SEMAPHORES);
-                let semaphore = here.semaphores[o];
-                let event = here.events[o];
-                let buffer = partition::buffer_read(id, here.buffers[o]);
-                let queue = buffer.queue;
-                let blackboard = here.blackboards[o];
+                let mut named = Process::blank();
+                let named_at = partition::slot(id, Module::PROCESSES);
+                if named_at < Module::PROCESSES {
+                    named = here.processes[named_at];
+                }
+                let mut calling = Process::blank();
+                let calling_at = partition::slot(run as u32, Module::PROCESSES);
+                if calling_at < Module::PROCESSES {
+                    calling = here.processes[calling_at];
+                }
+                let mut semaphore = objects::no_semaphore();
+                let mut event = objects::no_event();
+                let mut limit: u8 = 0;
+                let mut len: u8 = 0;
+                let mut first_held: u32 = 0;
+                let mut blackboard = blackboards::empty_blackboard(0);
+                let object_at = partition::slot(id, Module::SEMAPHORES);
+                if object_at < Module::SEMAPHORES {
+                    semaphore = here.semaphores[object_at];
+                    event = here.events[object_at];
+                    let buffer = here.buffers[object_at];
+                    let queue = buffer.queue;
+                    limit = buffer.limit;
+                    len = queue.len;
+                    first_held = messages::first_of(queue);
+                    blackboard = here.blackboards[object_at];
+                }
+                let mut waiter: u8 = 0;
+                let object = services::object_for(x.call, id);
+                if object != 0 {
+                    let waiting = here.waiting;
+                    waiter = resident::first_on(waiting, &objects, object);
+                }
+                let mut served = Process::blank();
+                let served_at = partition::slot(waiter as u32, Module::PROCESSES);
+                if served_at < Module::PROCESSES {
+                    served = here.processes[served_at];
+                }
                 let mut taken = false;
                 if services::does_create(x.call) {
                     taken = services::is_taken(here, x.call, a);
@@ -219,93 +262,129 @@ impl Executive {
                     buffers: here.bufferCount,
                     blackboards: here.blackboardCount,
                     taken,
-                    subject: partition::process_read(about, subject),
-                    semaphore: partition::semaphore_read(id, semaphore),
-                    event: partition::event_read(id, event),
-                    limit: buffer.limit,
-                    len: queue.len,
-                    first: messages::first_of(queue),
-                    blackboard: partition::blackboard_read(id, blackboard),
+                    named,
+                    calling,
+                    semaphore,
+                    event,
+                    limit,
+                    len,
+                    first: first_held,
+                    blackboard,
                     waiter,
-                    carried: partition::carried_read(waiter, served),
+                    served,
                 };
                 d = services::call(view, context, port, x.call, request);
             }
             let reply = decisions::reply_of(d);
             let put = decisions::message_at(d);
             let pass = decisions::transfer_at(d);
-            let turns = decisions::turns_of(d, due);
             let mut changed = false;
+            stale = false;
             if decisions::is_restart(d) {
-                m = queuing::restart(m, x.own, decisions::mode_of(d));
-                spot = Module::PARTITIONS;
+                m = restart(m, x.own, decisions::mode_of(d));
+                here = m.partitions[slot];
                 soon = [0; Module::PARTITIONS];
-            } else if 0 < turns {
+                stale = true;
+                changed = true;
+            } else if decisions::does_change(d) {
                 let mut change = decisions::first_change(d);
                 let second = decisions::second_change(d);
                 let mut turn: u8 = 0;
-                while turn < turns {
-                    let o = partition::slot(partition::object_id(change), Module::SEMAPHORES);
-                    if o < Module::SEMAPHORES {
-                        let semaphore = here.semaphores[o];
-                        here.semaphores[o] = partition::semaphore_as(change, semaphore);
-                        here.semaphoreCount = partition::semaphores_as(change, here.semaphoreCount);
-                        let event = here.events[o];
-                        here.events[o] = partition::event_as(change, event);
-                        here.eventCount = partition::events_as(change, here.eventCount);
-                        let buffer = here.buffers[o];
-                        here.buffers[o] = partition::buffer_as(change, buffer);
-                        here.bufferCount = partition::buffers_as(change, here.bufferCount);
-                        let blackboard = here.blackboards[o];
-                        here.blackboards[o] = partition::blackboard_as(change, blackboard);
-                        here.blackboardCount = partition::blackboards_as(
-                            change,
-                            here.blackboardCount,
-                        );
-                    }
-                    let waits = here.waiting;
-                    let ids = resident::ids_for(
-                        due,
-                        change,
-                        here.mode,
-                        here.processCount,
-                        waits,
-                        &objects,
-                        &dues,
-                        m.t,
-                    );
-                    let count = partition::count(ids);
-                    let mut z: usize = 0;
-                    while z < count {
-                        let id = ids.items[z];
-                        let k = partition::slot(id as u32, Module::PROCESSES);
-                        if k < Module::PROCESSES {
-                            let old = here.processes[k];
-                            let y = resident::done(due, change, m.t, old);
-                            here.processes[k] = y;
-                            here.arrival = partition::arrival_with(here.arrival, old, y, id as u32);
-                            here.waiting = partition::waiting_with(here.waiting, old, y, id as u32);
-                            currents[k] = y.current;
-                            objects[k] = resident::object_of(y);
-                            dues[k] = resident::due_of(y);
-                            changed = true;
+                while turn < 2 {
+                    match change {
+                        Change::Nothing => {}
+                        Change::Stored(id, y) => {
+                            let k = partition::slot(id, Module::PROCESSES);
+                            if k < Module::PROCESSES {
+                                let old = here.processes[k];
+                                here.processes[k] = y;
+                                here.arrival = partition::arrival_with(here.arrival, old, y, id);
+                                here.waiting = partition::waiting_with(here.waiting, old, y, id);
+                                currents[k] = y.current;
+                                objects[k] = resident::object_of(y);
+                            }
                         }
-                        z += 1;
-                    }
-                    if partition::is_order(change) {
-                        here.level = partition::level_as(change, here.level);
-                        here.holder = partition::holder_as(change, here.holder);
-                        here.arrival = partition::arrival_as(change, here.arrival);
-                        changed = true;
-                    }
-                    if partition::is_whole(change) {
-                        here = partition::whole_as(change, here);
-                        resident::fill(here, &mut currents, &mut objects, &mut dues);
-                        changed = true;
+                        Change::Created(id, y) => {
+                            here = partition::create(here, id, y);
+                            stale = true;
+                        }
+                        Change::Last(id) => here.arrival = partition::last_in(here.arrival, id),
+                        Change::StoredSemaphore(id, y) => {
+                            let k = partition::slot(id, Module::SEMAPHORES);
+                            if k < Module::SEMAPHORES {
+                                here.semaphores[k] = y;
+                                here.semaphoreCount = partition::counted(here.semaphoreCount, id);
+                            }
+                        }
+                        Change::StoredEvent(id, y) => {
+                            let k = partition::slot(id, Module::EVENTS);
+                            if k < Module::EVENTS {
+                                here.events[k] = y;
+                                here.eventCount = partition::counted(here.eventCount, id);
+                            }
+                        }
+                        Change::CreatedBuffer(id, name, limit) => here = partition::create_buffer(
+                            here, id, name, limit,
+                        ),
+                        Change::Moved(id, y) => {
+                            let k = partition::slot(id, Module::BUFFERS);
+                            if k < Module::BUFFERS {
+                                let mut v = here.buffers[k];
+                                v.queue = messages::change(v.queue, y);
+                                here.buffers[k] = v;
+                                here.bufferCount = partition::counted(here.bufferCount, id);
+                            }
+                            let other = partition::ended_id(y);
+                            let l = partition::slot(other, Module::PROCESSES);
+                            if l < Module::PROCESSES {
+                                let old = here.processes[l];
+                                let ended = partition::ended_as(old, y);
+                                here.processes[l] = ended;
+                                here.arrival = partition::arrival_with(
+                                    here.arrival,
+                                    old,
+                                    ended,
+                                    other,
+                                );
+                                here.waiting = partition::waiting_with(
+                                    here.waiting,
+                                    old,
+                                    ended,
+                                    other,
+                                );
+                                currents[l] = ended.current;
+                                objects[l] = resident::object_of(ended);
+                            }
+                        }
+                        Change::StoredBlackboard(id, y) => {
+                            let k = partition::slot(id, Module::BLACKBOARDS);
+                            if k < Module::BLACKBOARDS {
+                                here.blackboards[k] = y;
+                                here.blackboardCount = partition::counted(here.blackboardCount, id);
+                            }
+                        }
+                        Change::Ended(o) => {
+                            here = partition::end_queue(here, o, false, 0);
+                            stale = true;
+                        }
+                        Change::Handed(o, y) => {
+                            here = partition::end_queue(here, o, true, y);
+                            stale = true;
+                        }
+                        Change::LevelSet(level, holder) => {
+                            here.level = level;
+                            here.holder = holder;
+                        }
+                        Change::Entered(y) => {
+                            here = partition::enter_normal(here, y);
+                            stale = true;
+                        }
                     }
                     change = second;
                     turn += 1;
                 }
+                soon[slot] = 0;
+                changed = true;
             } else if put < Module::CHANNELS {
                 let message = decisions::message_of(d);
                 m.messages[put] = message;
@@ -317,34 +396,26 @@ impl Executive {
                 if end < Module::PARTITIONS {
                     soon[end] = 0;
                     if end == spot {
-                        m.partitions[spot] = here;
-                        spot = Module::PARTITIONS;
+                        here = partition::after_transfer(here, transfer);
+                        stale = true;
+                        changed = true;
+                    } else {
+                        let p = m.partitions[end];
+                        let q = partition::after_transfer(p, transfer);
+                        m.partitions[end] = q;
                     }
-                    let p = m.partitions[end];
-                    let q = partition::after_transfer(p, transfer);
-                    m.partitions[end] = q;
                 }
             }
+            if stale {
+                resident::fill(here, &mut currents, &mut objects);
+            }
             if changed {
-                if spot < Module::PARTITIONS {
-                    soon[spot] = resident::soonest(here.processCount, &dues);
-                }
                 let ready = here.arrival;
                 run = resident::running(here.mode, here.level, here.holder, ready, &currents);
             }
             let mut running: u8 = 0;
-            let shown = x.shown;
-            if shown < Module::PARTITIONS {
-                if shown == spot {
-                    running = run;
-                } else {
-                    if shown != seen_at {
-                        let p = m.partitions[shown];
-                        seen_run = partition::running_process(p);
-                        seen_at = shown;
-                    }
-                    running = seen_run;
-                }
+            if x.shown < Module::PARTITIONS {
+                running = run;
             }
             last = events::answer_of(reply, m.t, x.current, running);
             put_answer(list, at, last);

@@ -27,8 +27,7 @@ use Rattle.machine.specs.declared.Wait.TheVariants.{Sending, Receiving}
 use Rattle.machine.specs.declared.Request.{Request}
 use Rattle.machine.specs.declared.Port.{Port}
 use Rattle.machine.specs.declared.Context.{Context}
-use Rattle.machine.specs.Channels.{other_queue, port_of}
-use Rattle.machine.specs.Queuing.{passed}
+use Rattle.machine.specs.Channels.{other_queue, port_of, passed}
 use Rattle.machine.specs.Services.{services, call_decision}
 use Rattle.machine.specs.Table.{read_table}
 use Rattle.machine.specs.declared.Stepped.{Stepped}
@@ -37,7 +36,7 @@ use Rattle.machine.specs.declared.Field.{Field}
 use Rattle.machine.specs.declared.Field.TheVariants.{Number, MinusOne, Other}
 use Rattle.machine.specs.Limits.{call_limit, duration_limit, buffer_limit}
 use Rattle.machine.specs.Fields.{field, request_of, is_number, between, is_message, number_of, time_of}
-use Rattle.machine.specs.Messages.{held, first, sent, received}
+use Rattle.machine.specs.Messages.{held, first, sent, received, moved}
 use Rattle.machine.specs.Process.{class_of, carried_in, carried, object, served, handed, waiting_for, later}
 use Rattle.machine.specs.Partition.{no_buffer, process, buffer, empty_buffer, stored_buffer, moved_in, normal_mode, running, waiters, stored, applied, tick_partition}
 use Rattle.machine.specs.Runs.{next, after}

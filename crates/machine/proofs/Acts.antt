@@ -25,7 +25,7 @@ use Rattle.machine.specs.Fields.{is_number, between, number_of}
 use Rattle.machine.specs.Messages.{sent, received}
 use Rattle.machine.specs.Process.{object, periodic, ready, waits_for_nothing, with_suspended, with_current, waiting_for, suspended_until, start_rule, started_early, stopped, resumed, next_release, served}
 use Rattle.machine.specs.Partition.{normal_mode, process, waiters, first_waiter}
-use Rattle.machine.specs.Semaphores.{signalled}
+use Rattle.machine.specs.Objects.{signalled}
 use Rattle.machine.specs.Theorems.Valid.{Between, contains}
 use Rattle.machine.specs.Theorems.EachProcess.{wait_of}
 use Rattle.machine.proofs.Tests.{or_left, not_both}

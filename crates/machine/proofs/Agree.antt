@@ -6,7 +6,7 @@ use mathlib.Core.Bool.{Bool, true, false, ◌&&◌}
 use native.Mathlib.Omega.{arith}
 use lib.ListN.{length, length-set}
 use lib.Seq.{get_or-set_other}
-use lib.Dec.{ltb}
+use lib.Dec.{eqb, ltb}
 use borrow.Author.Tests.{eqb-true, ltb-true}
 use Rattle.machine.specs.declared.Partition.{Partition}
 use Rattle.machine.specs.declared.Table.{Table}
@@ -22,8 +22,7 @@ use Rattle.machine.specs.Partition.{within, process, changed_all, ended_by, tick
 use Rattle.machine.specs.Module.{part, message, queue, channel, with_part, with_messages, with_message, with_queue, with_time}
 use Rattle.machine.specs.Decisions.{no_message}
 use Rattle.machine.specs.Ticks.{tick_at, tick_to}
-use Rattle.machine.specs.Channels.{queuing, queuing_at, other_end, leads_into, kept_to, erased_to}
-use Rattle.machine.specs.Queuing.{ended_at, passed, admitted, refilled_at, refilled_to}
+use Rattle.machine.specs.Channels.{queuing, queuing_at, other_end, ended_at, passed, leads_into, kept_to, erased_to, admitted, refilled_at, refilled_to}
 use Rattle.machine.specs.Theorems.LeftRight.{Closed}
 use Rattle.machine.proofs.Tests.{by_test, by_tests, set_both, not_both, and_left, and_right}
 use Rattle.machine.proofs.Bounds.{within_out}

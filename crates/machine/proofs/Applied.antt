@@ -6,7 +6,7 @@ use mathlib.Core.Bool.{true, false, ◌&&◌, true≢false}
 use mathlib.Core.List.{List, [], ◌∷◌}
 use native.Mathlib.Omega.{arith}
 use lib.Dec.{eqb, leb}
-use lib.ListN.{length, set, get_or-eq_default}
+use lib.ListN.{length, get_or, set, get_or-eq_default}
 use borrow.Author.Tests.{eqb-false, leb-true, leb-false, le-leb}
 use Rattle.machine.specs.declared.Context.{Context}
 use Rattle.machine.specs.declared.Decision.{Decision}
@@ -19,7 +19,7 @@ use Rattle.machine.specs.Limits.{channel_limit, call_limit}
 use Rattle.machine.specs.Partition.{partition_after}
 use Rattle.machine.specs.Questions.{changes, restarts, message_at, message_of, transfer_at, transfer_of}
 use Rattle.machine.specs.Module.{part, with_part, with_message}
-use Rattle.machine.specs.Queuing.{passed}
+use Rattle.machine.specs.Channels.{passed}
 use Rattle.machine.specs.Services.{Service, services, no_service, service_of, call_decision, called}
 use Rattle.machine.specs.Step.{restarted, module_after}
 use Rattle.machine.proofs.Tests.{by_test, by_checks, and_left, and_right, not_both}

@@ -28,8 +28,7 @@ use Rattle.machine.specs.Decisions.{reply_of}
 use Rattle.machine.specs.Module.{no_partition, part, channel, queue, with_part, with_queue}
 use Rattle.machine.specs.Places.{malformed, ticks}
 use Rattle.machine.specs.Ticks.{tick_module}
-use Rattle.machine.specs.Channels.{other_end, port_of, erased_to}
-use Rattle.machine.specs.Queuing.{passed}
+use Rattle.machine.specs.Channels.{other_end, port_of, passed, erased_to}
 use Rattle.machine.specs.Step.{context_of, decision, restarted, module_after, step}
 use Rattle.machine.specs.Theorems.Valid.{Between, Valid, SoundModule, SoundContext, SoundDecision, SoundEnd}
 use Rattle.machine.specs.Theorems.Events.{own}

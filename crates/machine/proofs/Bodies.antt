@@ -16,7 +16,7 @@ use Rattle.machine.specs.declared.Decision.{Decision}
 use Rattle.machine.specs.declared.Decision.TheVariants.{Refused, Unchanged, Ticked, Blocked, Changed, Restarted, Written, Passed as PassedOn}
 use Rattle.machine.specs.Messages.{sent, received}
 use Rattle.machine.specs.Decisions.{reply_of}
-use Rattle.machine.specs.Semaphores.{signalled}
+use Rattle.machine.specs.Objects.{signalled}
 use Rattle.machine.specs.Channels.{queuing}
 use Rattle.machine.specs.Limits.{duration_limit, channel_limit}
 

@@ -27,7 +27,7 @@ use Rattle.machine.specs.Ids.{members}
 use Rattle.machine.specs.Fields.{is_number, between}
 use Rattle.machine.specs.Process.{class_of, blank_process, object, on_object, ready, served, handed, entered, ticked, due, waits_for_normal, woken}
 use Rattle.machine.specs.Partition.{normal_mode, no_buffer, process, buffer, empty_buffer, moved_in, ended_by, with_mode, stored, waits_on, waiters, first_waiter, changed_all, each, tick_partition, entered_normal, stored_semaphore, stored_event, stored_buffer, stored_blackboard, applied, within, arrived_last}
-use Rattle.machine.specs.Semaphores.{signalled}
+use Rattle.machine.specs.Objects.{signalled}
 use Rattle.machine.specs.Theorems.Valid.{Between, contains, Distinct, ListedIn, Valid, SoundContext, SoundMove, SoundEnd, SoundChange}
 use mathlib.Core.Logic.{◌⊎◌, inl, inr, ⊎_elim}
 use Rattle.machine.specs.Theorems.Queues.{queue_number}

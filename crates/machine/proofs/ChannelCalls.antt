@@ -10,8 +10,7 @@ use Rattle.machine.specs.declared.Transfer.{Transfer}
 use Rattle.machine.specs.declared.Wait.TheVariants.{Source, Destination}
 use Rattle.machine.specs.Limits.{duration_limit, channel_limit, number_limit}
 use Rattle.machine.specs.Fields.{is_message, number_of}
-use Rattle.machine.specs.Channels.{queuing, channel_checks, write, read}
-use Rattle.machine.specs.Queuing.{queuing_port, send, receive}
+use Rattle.machine.specs.Channels.{queuing, queuing_port, channel_checks, write, read, send, receive}
 use Rattle.machine.specs.Theorems.Valid.{Between}
 use mathlib.Core.Logic.{◌⊎◌, inl, inr}
 use Rattle.machine.specs.Services.{services}

@@ -20,8 +20,8 @@ use Rattle.machine.specs.Process.{blank_process, ready, with_current}
 use Rattle.machine.specs.Partition.{process, semaphore, event, buffer, blackboard, by_id, no_semaphore, no_event, no_buffer, no_blackboard, running, with_processes, with_mode_and_lock}
 use Rattle.machine.specs.Theorems.Starts.{Release, NextFlagged}
 use Rattle.machine.specs.Decisions as D
-use Rattle.machine.specs.Scheduling as C
-use Rattle.machine.specs.Semaphores as Ob
+use Rattle.machine.specs.Calls as C
+use Rattle.machine.specs.Objects as Ob
 use Rattle.machine.specs.Buffers as Bu
 use Rattle.machine.specs.Blackboards as Bb
 use Rattle.machine.specs.Services as Sv

@@ -15,8 +15,7 @@ use Rattle.machine.specs.Limits.{time_limit}
 use Rattle.machine.specs.Partition.{partition_after}
 use Rattle.machine.specs.Module.{part, current, with_part, with_message}
 use Rattle.machine.specs.Ticks.{tick_module}
-use Rattle.machine.specs.Channels.{port_of}
-use Rattle.machine.specs.Queuing.{passed}
+use Rattle.machine.specs.Channels.{port_of, passed}
 use Rattle.machine.specs.Decisions.{checked}
 use Rattle.machine.specs.Services.{call_decision}
 use Rattle.machine.specs.Places.{malformed, no_caller, ticks}

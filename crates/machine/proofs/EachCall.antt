@@ -32,14 +32,13 @@ use Rattle.machine.specs.Limits.{call_limit, duration_limit, time_limit, greates
 use Rattle.machine.specs.Fields.{field, request_of, is_number, is_timeout, time_of, number_of}
 use Rattle.machine.specs.Process.{later, is_never, carried, next_release, entered, start_rule, started_early, ready, periodic, waits_for_normal, created_process, blank_process, object, served, handed, resumed, suspended_until, waiting_for, on_object, with_current, with_suspended}
 use Rattle.machine.specs.Partition.{normal_mode, entered_normal, with_mode, by_id, no_semaphore, no_event, no_buffer, no_blackboard, process, semaphore, event, buffer, blackboard, first_waiter, stored, stored_semaphore, stored_event, stored_buffer, moved_in, stored_blackboard, waiters, applied, running, with_lock, each_from, nothing_created, with_mode_and_lock}
-use Rattle.machine.specs.Semaphores as Ob
+use Rattle.machine.specs.Objects as Ob
 use Rattle.machine.specs.Blackboards as Bb
 use Rattle.machine.specs.Buffers as Bu
 use Rattle.machine.specs.Channels as Ch
-use Rattle.machine.specs.Queuing as Qu
 use Rattle.machine.specs.Decisions as D
 use Rattle.machine.specs.Decisions.{reply_of}
-use Rattle.machine.specs.Scheduling as C
+use Rattle.machine.specs.Calls as C
 use Rattle.machine.specs.Services.{Service, no_service, services, service_of, call_decision}
 use Rattle.machine.specs.Messages.{held, sent, received, first, no_queue, queue_of}
 use Rattle.machine.specs.Places.{malformed, stray_field}
@@ -551,7 +550,7 @@ module _ (m : Module) (k : ℕ) (u : SoundModule m) (h : Calling m k) where
   read_law (negsuc j) = by_none 22 j (pos 0) (pos 0) (pos 0) (omega arith) (omega arith) count few_channels _ _ refl (rw ((lossless (negsuc j)).between 1 count few_channels))
 
   send_law : Send m k
-  unfolding call_decision services stray_field D.checked Passed D.awaiting Ch.channel_checks Qu.send sent
+  unfolding call_decision services stray_field D.checked Passed D.awaiting Ch.channel_checks Ch.send sent
   send_law (pos j) b a = by_then 30 j b a (pos 0) (omega arith) (omega arith) count few_channels _ _ refl (λ t. rw ((lossless (pos j)).between 1 count few_channels, t)) (λ f r.
       let c = channel m.table (j - 1) in
       waiting 30 (pos j) b a (pos 0) (omega arith) (omega arith) refl a ((not (ltb 0 c.size), 3) ∷ (not (eqb c.source k) && not (eqb c.destination k), 3) ∷ (not (eqb c.source k), 5) ∷ []) (in_d b && in_t a)
@@ -580,7 +579,7 @@ module _ (m : Module) (k : ℕ) (u : SoundModule m) (h : Calling m k) where
   send_law (negsuc j) b a = by_none 30 j b a (pos 0) (omega arith) (omega arith) count few_channels _ _ refl (rw ((lossless (negsuc j)).between 1 count few_channels))
 
   receive_law : Receive m k
-  unfolding call_decision services stray_field D.checked Passed D.awaiting Ch.channel_checks Qu.receive received
+  unfolding call_decision services stray_field D.checked Passed D.awaiting Ch.channel_checks Ch.receive received
   receive_law (pos j) a = by_then 31 j a (pos 0) (pos 0) (omega arith) (omega arith) count few_channels _ _ refl (λ t. rw ((lossless (pos j)).between 1 count few_channels, t)) (λ f r.
       let c = channel m.table (j - 1) in
       let id = first_waiter (object (Source (j - 1 + 1) 0)) (own m c.source) in

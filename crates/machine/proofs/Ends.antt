@@ -22,6 +22,7 @@ use Rattle.machine.specs.declared.Decision.{Decision}
 use Rattle.machine.specs.declared.Decision.TheVariants.{Refused, Unchanged, Ticked, Blocked, Changed, Restarted, Written, Passed}
 use Rattle.machine.specs.declared.Request.{Request}
 use Rattle.machine.specs.declared.Module.{Module}
+use Rattle.machine.specs.declared.Wait.{Wait}
 use Rattle.machine.specs.Limits.{mode_limit, channel_limit, message_limit, partition_limit}
 use Rattle.machine.specs.Fields.{request_of, number_of}
 use Rattle.machine.specs.Messages.{no_queue, sent, received, moved, ends_wait}
@@ -30,8 +31,7 @@ use Rattle.machine.specs.Partition.{process, waiters, first_waiter, stored, norm
 use Rattle.machine.specs.Ids.{kept}
 use Rattle.machine.specs.Module.{no_partition, empty_table, empty_module, fresh_module, channel, part, queue, with_part, with_time}
 use Rattle.machine.specs.Ticks.{partition_count, tick_module}
-use Rattle.machine.specs.Channels.{queuing, queuing_at, leads_into, apart, other_end, other_queue, port_of, erased_to}
-use Rattle.machine.specs.Queuing.{passed}
+use Rattle.machine.specs.Channels.{queuing, queuing_at, leads_into, apart, other_end, other_queue, port_of, passed, erased_to}
 use Rattle.machine.specs.Table.{read_table}
 use Rattle.machine.specs.Step.{context_of, decision, restarted, module_after, step}
 use Rattle.machine.specs.Theorems.Valid.{Between, contains, KnownWait, setting_of, SoundDecision, SoundModule, SoundMove, SoundEnd, Reached}
@@ -47,7 +47,7 @@ use Rattle.machine.proofs.Kept.{Caller, normal_caller, nothing_valid, waiters_cr
 use Rattle.machine.proofs.Reached.{at_set, place, context_sound, made, made_sound, made_body, valid_sound, reached_valid, part_sound, erased_sound, Fills, fills, Channelled, on_queue_holds, transfer_sound, queuing_plain, empty_step}
 use Rattle.machine.proofs.Answers.{decided_table}
 use Rattle.machine.proofs.Tables.{table_read}
-use Rattle.machine.proofs.Orders.{joins_last, Orderly}
+use Rattle.machine.proofs.Orders.{Part, joins_last, Orderly}
 use Rattle.machine.proofs.EveryCall.{call_order}
 use Rattle.machine.proofs.Queues.{Parts, tick_parts, decided_parts}
 use Rattle.machine.proofs.Fairness.{AtEnd, Fair, part_none, none_first, counts_low}

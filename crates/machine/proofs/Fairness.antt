@@ -28,7 +28,7 @@ use Rattle.machine.specs.Messages.{sent, received, moved}
 use Rattle.machine.specs.Process.{Class, class_of, object_in, object, carried, served, handed, entered}
 use Rattle.machine.specs.Partition.{within, by_id, no_semaphore, no_event, no_buffer, no_blackboard, process, buffer, normal_mode, moved_in, ended_by, first_waiter, with_mode, stored_semaphore, stored_event, stored_buffer, stored_blackboard, created, arrived_last, waiters, changed_all, entered_normal, applied}
 use Rattle.machine.specs.Decisions.{changed}
-use Rattle.machine.specs.Semaphores.{signalled}
+use Rattle.machine.specs.Objects.{signalled}
 use Rattle.machine.specs.Buffers.{has_room, holds}
 use Rattle.machine.specs.Channels.{queuing}
 use Rattle.machine.specs.Ids.{kept}

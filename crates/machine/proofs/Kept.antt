@@ -35,8 +35,8 @@ use Rattle.machine.specs.Ids.{members}
 use Rattle.machine.specs.Fields.{is_number, between, is_duration, is_minus_one, is_timeout, is_name, number_of, time_of}
 use Rattle.machine.specs.Process.{created_process, blank_process, later, object, on_object, periodic, ready, carried, served, handed, entered, ticked}
 use Rattle.machine.specs.Partition.{normal_mode, idle_mode, locked, by_id, nothing_created, no_semaphore, no_event, no_buffer, no_blackboard, process, semaphore, buffer, blackboard, empty_buffer, moved_in, ended_by, with_mode, stored, waits_on, waiters, first_waiter, changed_all, each, running, tick_partition, entered_normal, created, stored_semaphore, stored_event, stored_buffer, stored_blackboard, applied, partition_after, fresh_partition}
-use Rattle.machine.specs.Scheduling.{is_multiple, above, is_priority, admissible, reaches, status}
-use Rattle.machine.specs.Semaphores.{with_value, with_up, one_more, signalled}
+use Rattle.machine.specs.Calls.{is_multiple, above, is_priority, admissible, reaches, status}
+use Rattle.machine.specs.Objects.{with_value, with_up, one_more, signalled}
 use Rattle.machine.specs.Theorems.Valid.{counted, Between, contains, Distinct, Tracks, Timeout, Ahead, SoundPeriod, SoundCapacity, NotAbove, Below, SoundGiven, SoundProcess, SoundSemaphore, SoundEvent, SoundBuffer, SoundBlackboard, AllMessages, SoundQueue, Numbered, Family, KnownOrNext, ObjectsIn, ListedIn, setting_of, SoundLock, LockIn, HolderReady, Valid, SoundContext, SoundMessage, SoundMove, SoundEnd, SoundChange, SoundDecision, NotAfter}
 use Rattle.machine.proofs.Tests.{by_test, by_tests, not_both}
 use Rattle.machine.proofs.Bounds.{not_so, or_false_parts, and_true_parts, within_in, named_same, named_other, named_replicate, created_in, semaphore_in, event_in, buffer_in, blackboard_in}

@@ -8,7 +8,7 @@ use Rattle.machine.specs.declared.Change.TheVariants.{LevelSet}
 use Rattle.machine.specs.Limits.{level_limit}
 use Rattle.machine.specs.Process.{ready}
 use Rattle.machine.specs.Partition.{normal_mode, locked, process}
-use Rattle.machine.specs.Scheduling.{lock_preemption, unlock_preemption, get_ticks_left}
+use Rattle.machine.specs.Calls.{lock_preemption, unlock_preemption, get_ticks_left}
 use Rattle.machine.specs.Services.{services}
 use Rattle.machine.proofs.Tests.{by_test, Passed}
 use Rattle.machine.proofs.Kept.{normal_caller}

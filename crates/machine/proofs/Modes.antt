@@ -19,7 +19,7 @@ use Rattle.machine.specs.Fields.{field, number_of, is_number, between}
 use Rattle.machine.specs.Process.{entered}
 use Rattle.machine.specs.Partition.{normal_mode, entered_normal, with_mode}
 use Rattle.machine.specs.Decisions.{reply_of}
-use Rattle.machine.specs.Scheduling.{set_mode}
+use Rattle.machine.specs.Calls.{set_mode}
 use Rattle.machine.specs.Services.{call_decision, services}
 use Rattle.machine.specs.Places.{stray_field}
 use Rattle.machine.specs.Step.{context_of, module_after, step}

@@ -9,7 +9,7 @@ use Rattle.machine.specs.Limits.{semaphore_limit, event_limit, name_limit, value
 use Rattle.machine.specs.Fields.{between, is_name, number_of}
 use Rattle.machine.specs.Process.{object, served}
 use Rattle.machine.specs.Partition.{semaphore, waiters, applied, event, no_event, no_semaphore}
-use Rattle.machine.specs.Semaphores.{create_semaphore, create_event, with_up, wait_semaphore, wait_event, signal, set_event, reset_event}
+use Rattle.machine.specs.Objects.{create_semaphore, create_event, with_up, wait_semaphore, wait_event, signal, set_event, reset_event}
 use Rattle.machine.specs.Theorems.Valid.{ListedIn}
 use mathlib.Core.Logic.{inl, inr, ⊎_elim}
 use Rattle.machine.specs.Services.{services}

@@ -25,7 +25,7 @@ use Rattle.machine.specs.Limits.{process_limit, semaphore_limit, event_limit, bu
 use Rattle.machine.specs.Ids.{members, kept, other}
 use Rattle.machine.specs.Process.{Class, class_of, object_in, for_normal, blank_process, object, on_object, periodic, ready, due, waits_for_normal, only_marked, served, handed, woken, expired, ticked, entered, start_rule}
 use Rattle.machine.specs.Partition.{within, normal_mode, process, stored, created, stored_semaphore, stored_event, stored_buffer, stored_blackboard, empty_buffer, moved_in, ended_by, buffer, arrived_last, with_lock, changed_all, waits_on, waiters, applied, tick_partition, entered_normal, with_mode, each}
-use Rattle.machine.specs.Semaphores.{signalled}
+use Rattle.machine.specs.Objects.{signalled}
 use Rattle.machine.specs.Theorems.Valid.{Between, contains, ListedIn, Valid, SoundEnd, SoundChange}
 use Rattle.machine.specs.Theorems.Plain.{plain_by_id, followed, plain_stored}
 use Rattle.machine.specs.Theorems.Queues.{SameObjects, Queue, KeepsOrEnds, NotExchanged, QueueChanges}

@@ -35,11 +35,10 @@ use Rattle.machine.specs.Ids.{members, ids_of, kept, other, removed}
 use Rattle.machine.specs.Process.{blank_process, later, is_never, periodic, ready, object, carried, served, handed, due, only_marked, woken, expired, ticked, entered}
 use Rattle.machine.specs.Partition.{normal_mode, no_semaphore, no_event, no_buffer, no_blackboard, process, buffer, empty_buffer, moved_in, ended_by, with_mode, with_processes, stored, stored_buffer, arrived_last, waiters, changed_all, each, tick_partition, entered_normal, applied}
 use Rattle.machine.specs.Decisions.{checked, unknown}
-use Rattle.machine.specs.Semaphores.{one_more}
+use Rattle.machine.specs.Objects.{one_more}
 use Rattle.machine.specs.Windows.{lookup, release_after, next_start}
 use Rattle.machine.specs.Module.{no_partition, empty_table, empty_module, channel, part, queue, with_part, with_queue, with_time}
-use Rattle.machine.specs.Channels.{queuing_at, other_end, port_of, leads_into, erased_to}
-use Rattle.machine.specs.Queuing.{admitted, refilled_at, refilled_to}
+use Rattle.machine.specs.Channels.{queuing_at, other_end, port_of, leads_into, erased_to, admitted, refilled_at, refilled_to}
 use Rattle.machine.specs.Ticks.{tick_to, tick_module}
 use Rattle.machine.specs.Places.{malformed}
 use Rattle.machine.specs.Step.{context_of, decision, module_after, sees, step}

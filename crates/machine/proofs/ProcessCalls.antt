@@ -18,7 +18,7 @@ use Rattle.machine.specs.Limits.{process_limit, priority_limit, mode_limit, dura
 use Rattle.machine.specs.Fields.{is_number, number_of, is_name}
 use Rattle.machine.specs.Process.{class_of, object, ready, with_current, object_in, waits_for_nothing, start_rule, blank_process}
 use Rattle.machine.specs.Partition.{normal_mode, process, stored}
-use Rattle.machine.specs.Scheduling.{set_mode, create_process, reaches, start, stop, stop_self, suspend, suspend_self, timed_wait, periodic_wait, resume, set_priority, get_status}
+use Rattle.machine.specs.Calls.{set_mode, create_process, reaches, start, stop, stop_self, suspend, suspend_self, timed_wait, periodic_wait, resume, set_priority, get_status}
 use Rattle.machine.specs.Theorems.Valid.{SoundProcess, setting_of, SoundChange, latest_deadline}
 use Rattle.machine.specs.Decisions.{blocked, start_mode}
 use mathlib.Core.Logic.{inl, inr, ◌⊎◌}

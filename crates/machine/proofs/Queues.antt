@@ -30,7 +30,7 @@ use Rattle.machine.specs.Process.{object, on_object, ready, served, handed}
 use Rattle.machine.specs.Partition.{nothing_created, idle_mode, normal_mode, no_semaphore, no_event, process, semaphore, event, stored, stored_semaphore, stored_event, ended_by, changed_all, waits_on, waiters, running, applied, with_events}
 use Rattle.machine.specs.Fields.{field, request_of, is_timeout, is_message, number_of}
 use Rattle.machine.specs.Decisions.{checked, reply_of, changed}
-use Rattle.machine.specs.Semaphores.{one_more, with_up, signalled, signal, set_event}
+use Rattle.machine.specs.Objects.{one_more, with_up, signalled, signal, set_event}
 use Rattle.machine.specs.Channels.{other_end, port_of, erased_to}
 use Rattle.machine.specs.Services.{services, call_decision}
 use Rattle.machine.specs.Places.{stray_field}

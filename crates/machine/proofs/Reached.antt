@@ -32,8 +32,7 @@ use Rattle.machine.specs.Decisions.{checked, no_message}
 use Rattle.machine.specs.Services.{call_decision}
 use Rattle.machine.specs.Module.{no_partition, empty_table, empty_module, fresh_module, channel, part, with_part, message, queue, with_messages, with_message, with_queue, with_time}
 use Rattle.machine.specs.Ticks.{tick_at, tick_to, partition_count, tick_module}
-use Rattle.machine.specs.Channels.{queuing, queuing_at, seen_at, apart, other_end, other_queue, traffic_of, sees_traffic, traffic_at, port_of, leads_into, kept_to, erased_to}
-use Rattle.machine.specs.Queuing.{passed, admitted, refilled_at, refilled_to}
+use Rattle.machine.specs.Channels.{queuing, queuing_at, seen_at, apart, other_end, other_queue, traffic_of, sees_traffic, traffic_at, port_of, passed, leads_into, kept_to, erased_to, admitted, refilled_at, refilled_to}
 use Rattle.machine.specs.Places.{no_caller}
 use Rattle.machine.specs.Step.{context_of, decision, module_after, step}
 use Rattle.machine.specs.Table.{read_table}

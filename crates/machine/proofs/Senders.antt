@@ -18,8 +18,7 @@ use Rattle.machine.specs.Fields.{number_of}
 use Rattle.machine.specs.Messages.{sent, received, ends_wait}
 use Rattle.machine.specs.Process.{object, carried, served}
 use Rattle.machine.specs.Partition.{process, ended_by, first_waiter, waiters, changed_all, nothing_created}
-use Rattle.machine.specs.Channels.{other_end, other_queue, port_of, erased_to}
-use Rattle.machine.specs.Queuing.{passed}
+use Rattle.machine.specs.Channels.{other_end, other_queue, port_of, passed, erased_to}
 use Rattle.machine.specs.Theorems.Valid.{SoundModule}
 use Rattle.machine.specs.Theorems.Queues.{queue_number}
 use Rattle.machine.proofs.Tests.{by_test}

@@ -34,8 +34,8 @@ use Rattle.machine.specs.Process.{due, object, carried, on_object, ready, only_m
 use Rattle.machine.specs.Partition.{process, semaphore, event, waits_on, waiters, tick_partition, nothing_created}
 use Rattle.machine.specs.Services.{services, call_decision}
 use Rattle.machine.specs.Decisions as D
-use Rattle.machine.specs.Scheduling as C
-use Rattle.machine.specs.Semaphores as Ob
+use Rattle.machine.specs.Calls as C
+use Rattle.machine.specs.Objects as Ob
 use Rattle.machine.specs.Module as M
 use Rattle.machine.specs.Ticks as Ti
 use Rattle.machine.specs.Channels as Ch

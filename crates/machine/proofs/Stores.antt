@@ -24,7 +24,7 @@ use Rattle.machine.specs.Fields.{is_number, is_name, between, number_of}
 use Rattle.machine.specs.Process.{waits_for_nothing, waits_for_normal, periodic, start_rule, entered, due, only_marked, woken, expired, ticked, resumed}
 use Rattle.machine.specs.Partition.{by_id, process, semaphore, event, buffer, blackboard, applied}
 use Rattle.machine.specs.Decisions.{name_taken}
-use Rattle.machine.specs.Semaphores.{signalled}
+use Rattle.machine.specs.Objects.{signalled}
 use Rattle.machine.specs.Theorems.Valid.{Between, Numbered}
 use Rattle.machine.proofs.Tests.{by_test, not_both, or_left, or_right}
 use Rattle.machine.proofs.Bounds.{within_in, named_in}

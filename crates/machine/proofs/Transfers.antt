@@ -27,8 +27,7 @@ use Rattle.machine.specs.Messages.{no_queue, held, first, sent, received, moved}
 use Rattle.machine.specs.Process.{object, carried, served, handed}
 use Rattle.machine.specs.Partition.{process, stored, waiters}
 use Rattle.machine.specs.Decisions.{checked, awaiting}
-use Rattle.machine.specs.Channels.{queuing, channel_checks}
-use Rattle.machine.specs.Queuing.{send, receive, passed}
+use Rattle.machine.specs.Channels.{queuing, channel_checks, send, receive, passed}
 use Rattle.machine.specs.Services.{services, call_decision}
 use Rattle.machine.specs.Places.{stray_field}
 use Rattle.machine.specs.Module.{no_partition, channel, queue, with_part, with_queue}

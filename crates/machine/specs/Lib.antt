@@ -6,15 +6,14 @@ pub mod Process
 pub mod Partition
 pub mod Decisions
 pub mod Questions
-pub mod Scheduling
-pub mod Semaphores
+pub mod Calls
+pub mod Objects
 pub mod Buffers
 pub mod Blackboards
 pub mod Windows
 pub mod Module
 pub mod Ticks
 pub mod Channels
-pub mod Queuing
 pub mod Services
 pub mod Places
 pub mod Step

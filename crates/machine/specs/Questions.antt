@@ -1,7 +1,7 @@
 -- What the code asks of a decision, for the contracts of `decisions`. The machine asks none of it.
-use Rattle.std.specs.Prelude.{ℕ, Bool, true, false, cond}
+use Rattle.std.specs.Prelude.{ℕ, Bool, true, false}
 use Rattle.machine.specs.declared.Change.{Change}
-use Rattle.machine.specs.declared.Change.TheVariants.{Nothing, Stored, Created, Last, StoredSemaphore, StoredEvent, CreatedBuffer, Moved, StoredBlackboard, Ended, Handed, LevelSet, Entered}
+use Rattle.machine.specs.declared.Change.TheVariants.{Nothing, Stored}
 use Rattle.machine.specs.declared.Message.{Message}
 use Rattle.machine.specs.declared.Transfer.{Transfer}
 use Rattle.machine.specs.declared.Transfer.TheVariants.{Taken}
@@ -63,26 +63,6 @@ second_change (Changed a b value) = b
 second_change (Restarted mode) = Nothing
 second_change (Written i x) = Nothing
 second_change (Passed i a value) = Nothing
-
--- a change that changes nothing
-abbrev pub nothing : Change → Bool
-nothing Nothing = true
-nothing (Stored id x) = false
-nothing (Created id x) = false
-nothing (Last id) = false
-nothing (StoredSemaphore k x) = false
-nothing (StoredEvent k x) = false
-nothing (CreatedBuffer k name limit) = false
-nothing (Moved k a) = false
-nothing (StoredBlackboard k x) = false
-nothing (Ended o) = false
-nothing (Handed o m) = false
-nothing (LevelSet n h) = false
-nothing (Entered c) = false
-
--- how many changes are to be made: one where the partition's tick is due, else the decision's own
-abbrev pub turns_of : Decision → Bool → ℕ
-turns_of d due = cond due 1 (cond (changes d) (cond (nothing (second_change d)) 1 2) 0)
 
 -- the place of the channel on which it leaves a message; past the last for none
 abbrev pub message_at : Decision → ℕ

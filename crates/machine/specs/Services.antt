@@ -9,10 +9,9 @@ use Rattle.machine.specs.declared.Request.{Request}
 use Rattle.machine.specs.declared.Field.TheVariants.{Number}
 use Rattle.machine.specs.Fields.{number_of}
 use Rattle.machine.specs.Decisions.{checked, no_caller_as}
-use Rattle.machine.specs.Scheduling.{set_mode, create_process, start, stop, stop_self, suspend, suspend_self, timed_wait, periodic_wait, resume, set_priority, get_status, lock_preemption, unlock_preemption, get_ticks_left}
-use Rattle.machine.specs.Semaphores.{create_semaphore, create_event, wait_semaphore, wait_event, signal, set_event, reset_event}
-use Rattle.machine.specs.Channels.{write, read}
-use Rattle.machine.specs.Queuing.{send, receive}
+use Rattle.machine.specs.Calls.{set_mode, create_process, start, stop, stop_self, suspend, suspend_self, timed_wait, periodic_wait, resume, set_priority, get_status, lock_preemption, unlock_preemption, get_ticks_left}
+use Rattle.machine.specs.Objects.{create_semaphore, create_event, wait_semaphore, wait_event, signal, set_event, reset_event}
+use Rattle.machine.specs.Channels.{write, read, send, receive}
 use Rattle.machine.specs.Buffers.{create_buffer, send_buffer, receive_buffer}
 use Rattle.machine.specs.Blackboards.{create_blackboard, show, read_blackboard, clear}
 

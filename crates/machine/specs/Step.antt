@@ -17,8 +17,7 @@ use Rattle.machine.specs.Decisions.{checked, reply_of}
 use Rattle.machine.specs.Windows.{release_point}
 use Rattle.machine.specs.Module.{part, current, ticks_left, running_in, with_part, with_message}
 use Rattle.machine.specs.Ticks.{tick_module}
-use Rattle.machine.specs.Channels.{port_of, erased_to}
-use Rattle.machine.specs.Queuing.{passed, refilled_to}
+use Rattle.machine.specs.Channels.{port_of, passed, erased_to, refilled_to}
 use Rattle.machine.specs.Services.{called}
 use Rattle.machine.specs.Places.{ticks, first_checks}
 

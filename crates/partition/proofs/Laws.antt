@@ -2,7 +2,7 @@
 -- nothing.
 use Prim.Native.Nat.{ℕ, zero, suc, ◌+◌, ◌-◌, ◌≤◌, ◌<◌, max}
 use mathlib.Core.Path.{◌≡◌, refl, sym, ap, ap₂, ◌∙◌}
-use mathlib.Core.Bool.{Bool, true, false, cond, ◌||◌}
+use mathlib.Core.Bool.{Bool, true, false, ◌||◌}
 use mathlib.Core.List.{List, [], ◌∷◌, ◌++◌, map, map-append}
 use native.Mathlib.Omega.{arith}
 use native.Mathlib.Numerals.{add-one}
@@ -24,7 +24,7 @@ use Rattle.machine.specs.Limits.{message_limit, process_limit, semaphore_limit, 
 use Rattle.machine.specs.Ids.{members, ids_of, kept, appended, follow}
 use Rattle.machine.specs.Messages.{queue_of, put}
 use Rattle.machine.specs.Process.{blank_process, due, ticked, ready, on_object}
-use Rattle.machine.specs.Partition.{within, by_id, process, buffer, no_buffer, moved_in, with_processes, with_semaphores, with_events, with_buffers, with_blackboards, stored, created, stored_semaphore, stored_event, stored_buffer, stored_blackboard, ended_by, applied, each_from, tick_partition}
+use Rattle.machine.specs.Partition.{within, by_id, process, buffer, no_buffer, moved_in, with_processes, with_semaphores, with_events, with_buffers, with_blackboards, stored, created, stored_semaphore, stored_event, stored_buffer, stored_blackboard, ended_by, applied, each_from}
 use Rattle.machine.proofs.Bounds.{inside, outside_zero, outside_high, named_in, named_out, stored_in, created_in, semaphore_in, event_in, buffer_in, blackboard_in, stored_out}
 use Rattle.machine.proofs.Either.{either}
 use Rattle.machine.proofs.Lists.{scan_next, next_member, no_member, members_of, put_queue_of}
@@ -100,13 +100,13 @@ module _ (f : ℕ → ℕ) (q : Ids) (i : ℕ) where
 
 -- ---------------------------------------------------------------- the place of an id
 -- inside a list the default does not matter
-pub any_default : {A : Type 0} (l : List A) (k : ℕ) (d e : A) → k < length l → get_or l k d ≡ get_or l k e
+any_default : {A : Type 0} (l : List A) (k : ℕ) (d e : A) → k < length l → get_or l k d ≡ get_or l k e
 any_default [] k d e h = absurd (omega arith)
 any_default (x ∷ l) zero d e h = refl
 any_default (x ∷ l) (suc k) d e h = any_default l k d e (omega arith)
 
 -- nothing is stored past its end
-pub set_default : {A : Type 0} (f : A → A) (l : List A) (k : ℕ) (d e : A) → set l k (f (get_or l k d)) ≡ set l k (f (get_or l k e))
+set_default : {A : Type 0} (f : A → A) (l : List A) (k : ℕ) (d e : A) → set l k (f (get_or l k d)) ≡ set l k (f (get_or l k e))
 set_default f [] k d e = refl
 set_default f (x ∷ l) zero d e = refl
 set_default f (x ∷ l) (suc k) d e = ap (λ (r : List _). x ∷ r) (set_default f l k d e)
@@ -191,7 +191,7 @@ module _ (id k : ℕ) (p : Partition) where
 
 -- ---------------------------------------------------------------- a transfer
 -- it ends the wait of the process that it names
-pub ended_stored : (a : Transfer) (p : Partition) → stored (ended_id a) (ended_as a (process (ended_id a) p)) p ≡ ended_by a p
+ended_stored : (a : Transfer) (p : Partition) → stored (ended_id a) (ended_as a (process (ended_id a) p)) p ≡ ended_by a p
 ended_stored (Put m) p = stored_out 0 _ p (outside_zero process_limit 0 refl)
 ended_stored (HandedTo id m) p = refl
 ended_stored Taken p = stored_out 0 _ p (outside_zero process_limit 0 refl)
@@ -215,6 +215,16 @@ left zero c b q = applied b (applied c q)
 left (suc zero) c b q = applied c q
 left (suc (suc n)) c b q = q
 
+pub left_more : (n : ℕ) (c b : Change) (q r w : Partition) → n < 2 → r ≡ applied c q → left n c b q ≡ w → left (n + 1) b b r ≡ w
+left_more zero c b q r w h e s = rw e s
+left_more (suc zero) c b q r w h e s = e ∙ s
+left_more (suc (suc n)) c b q r w h e s = absurd (omega arith)
+
+pub left_done : (n : ℕ) (c b : Change) (q w : Partition) → 2 ≤ n → left n c b q ≡ w → q ≡ w
+left_done zero c b q w h s = absurd (omega arith)
+left_done (suc zero) c b q w h s = absurd (omega arith)
+left_done (suc (suc n)) c b q w h s = s
+
 -- a process of which nothing is due is as a tick leaves it
 pub untouched : (t id : ℕ) (x : Process) (p : Partition) → x ≡ process id p → (due t x.times.wake || due t x.times.deadline) ≡ false → stored id (ticked t (process id p)) p ≡ p
 untouched t id x p e h =
@@ -222,10 +232,3 @@ untouched t id x p e h =
     let w : due t (process id p).times.wake ≡ false = or_left (due t (process id p).times.wake) (due t (process id p).times.deadline) a in
     let d : due t (process id p).times.deadline ≡ false = or_right (due t (process id p).times.wake) (due t (process id p).times.deadline) a in
     rw (ticked_same t (process id p) w d) (stored_same id p)
-
--- a tick looks at every process in NORMAL, else at none
-pub tick_counted : (t n : ℕ) (p : Partition) → n ≡ cond (eqb p.mode 3) p.processCount 0 → each_from (ticked t) n 1 p ≡ tick_partition t p
-unfolding tick_partition each_from
-tick_counted t n p e = either (eqb p.mode 3)
-    (λ z. let a : n ≡ p.processCount = rw z at e in rw (z, a))
-    (λ z. let a : n ≡ 0 = rw z at e in rw (z, a))

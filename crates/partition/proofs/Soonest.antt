@@ -1,23 +1,30 @@
 -- Before the soonest wake time or deadline of a partition a tick leaves it as it is; the loop that finds that time goes from the last process
 -- down. Assumes nothing.
 use Prim.Native.Nat.{ℕ, zero, suc, ◌+◌, ◌-◌, ◌≤◌, ◌<◌}
-use mathlib.Core.Path.{◌≡◌, refl, ap₂, ◌∙◌}
+use mathlib.Core.List.{List, [], ◌∷◌}
+use mathlib.Core.Path.{◌≡◌, refl, sym, ap, ap₂, ◌∙◌, subst}
 use mathlib.Core.Bool.{false}
 use native.Mathlib.Omega.{arith}
-use borrow.Author.Tests.{lt-leb}
+use lib.Dec.{eqb}
+use lib.ListN.{get_or, set}
+use borrow.Author.Tests.{lt-leb, eqb-true, eqb-false}
 use Rattle.machine.specs.declared.Time.{Time}
 use Rattle.machine.specs.declared.Time.TheVariants.{Never, At}
 use Rattle.machine.specs.declared.Partition.{Partition}
-use Rattle.machine.specs.Limits.{greatest_time}
-use Rattle.machine.specs.Process.{due, ticked}
-use Rattle.machine.specs.Partition.{normal_mode, process, each_from, tick_partition}
+use Rattle.machine.specs.declared.Process.{Process}
+use Rattle.machine.specs.Limits.{process_limit, greatest_time}
+use Rattle.machine.specs.Process.{blank_process, due, ticked}
+use Rattle.machine.specs.Partition.{within, normal_mode, process, stored, each_from, tick_partition}
+use Rattle.machine.proofs.Bounds.{named_in, stored_in, stored_out}
+use Rattle.machine.proofs.Either.{either}
+use Rattle.machine.proofs.Keeping.{stored_rest, process_other}
 use Rattle.machine.proofs.Tests.{by_test}
 use Rattle.machine.proofs.Quiet.{stored_same, ticked_same}
 use Rattle.partition.specs.Soonest.{sooner, soonest_from, soonest_of}
 
 -- ---------------------------------------------------------------- the tick
 -- before the sooner of a time and a number that time has not come, nor that number
-pub not_due : (t : ℕ) (w : Time) (n : ℕ) → t < sooner w n → (due t w ≡ false) × (t < n)
+not_due : (t : ℕ) (w : Time) (n : ℕ) → t < sooner w n → (due t w ≡ false) × (t < n)
 not_due t Never n h = (refl, h)
 not_due t (At w) n h = (lt-leb w t (omega arith), omega arith)
 
@@ -52,3 +59,60 @@ soonest_whole n m id s p z q e =
     let a : n - id ≡ m = omega arith in
     let b : id + 1 ≡ 1 = omega arith in
     e ∙ ap₂ (λ (x y : ℕ). soonest_from x y p) a b
+
+-- ---------------------------------------------------------------- a process stored
+-- a number that no time of a partition comes before is one still where a process is stored, with the times of its new record
+own_times : (w d : Time) (n r : ℕ) → sooner w (sooner d n) ≤ r → sooner w (sooner d n) ≤ sooner w (sooner d r)
+own_times Never Never n r h = h
+own_times Never (At b) n r h = omega arith
+own_times (At a) Never n r h = omega arith
+own_times (At a) (At b) n r h = omega arith
+
+other_times : (w d : Time) (s n r r' : ℕ) → s ≤ n → n ≤ sooner w (sooner d r) → s ≤ r' → s ≤ sooner w (sooner d r')
+other_times Never Never s n r r' l h k = k
+other_times Never (At b) s n r r' l h k = omega arith
+other_times (At a) Never s n r r' l h k = omega arith
+other_times (At a) (At b) s n r r' l h k = omega arith
+
+rest_times : (w d : Time) (n r : ℕ) → n ≤ sooner w (sooner d r) → n ≤ r
+rest_times Never Never n r h = h
+rest_times Never (At b) n r h = omega arith
+rest_times (At a) Never n r h = omega arith
+rest_times (At a) (At b) n r h = omega arith
+
+no_later : (w d : Time) (n : ℕ) → sooner w (sooner d n) ≤ n
+no_later Never Never n = omega arith
+no_later Never (At b) n = omega arith
+no_later (At a) Never n = omega arith
+no_later (At a) (At b) n = omega arith
+
+set_either : {A : Type 0} (P : A → Type 0) (l : List A) (i : ℕ) (x d : A) → P x → P (get_or l i d) → P (get_or (set l i x) i d)
+set_either P [] i x d a b = b
+set_either P (y ∷ l) zero x d a b = a
+set_either P (y ∷ l) (suc i) x d a b = set_either P l i x d a b
+
+module _ (id : ℕ) (x : Process) (p : Partition) where
+  abbrev least : ℕ → ℕ
+  least n = sooner x.times.wake (sooner x.times.deadline n)
+
+  -- what is stored is the new record, or nothing was stored
+  either_stored : (P : Process → Type 0) → P x → P (process id p) → P (process id (stored id x p))
+  either_stored P a b = either (within process_limit id)
+      (λ t. subst P (sym (ap (process id) (stored_in id x p t) ∙ named_in process_limit id blank_process (set p.processes (id - 1) x) t)) (set_either P p.processes (id - 1) x blank_process a (subst P (named_in process_limit id blank_process p.processes t) b)))
+      (λ f. subst P (sym (ap (process id) (stored_out id x p f))) b)
+
+  soonest_from_holds : (k j n : ℕ) → n ≤ soonest_from k j p → least n ≤ soonest_from k j (stored id x p)
+  unfolding soonest_from
+  soonest_from_holds zero j n h = let l = no_later x.times.wake x.times.deadline n in omega (arith, l, h)
+  soonest_from_holds (suc k) j n h =
+      let y = process j p in
+      let r = soonest_from k (j + 1) (stored id x p) in
+      let more = soonest_from_holds k (j + 1) n (rest_times y.times.wake y.times.deadline n _ h) in
+      let other = other_times y.times.wake y.times.deadline (least n) n _ r (no_later x.times.wake x.times.deadline n) h more in
+      let P : Process → Type 0 = λ z. least n ≤ sooner z.times.wake (sooner z.times.deadline r) in
+      either (eqb j id)
+      (λ t. let e = eqb-true j id t in subst (λ (i : ℕ). P (process i (stored id x p))) (sym e) (either_stored P (own_times x.times.wake x.times.deadline n r more) (subst (λ (i : ℕ). P (process i p)) e other)))
+      (λ f. subst P (sym (process_other p id x j (eqb-false j id f))) other)
+
+  pub soonest_stored : (n : ℕ) → n ≤ soonest_of p → least n ≤ soonest_of (stored id x p)
+  soonest_stored n h = subst (λ (k : ℕ). least n ≤ soonest_from k 1 (stored id x p)) (sym (ap (λ (q : Partition). q.processCount) (stored_rest p id x))) (soonest_from_holds p.processCount 1 n h)

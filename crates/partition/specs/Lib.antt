@@ -1,4 +1,3 @@
-pub mod Changes
 pub mod Places
 pub mod Soonest
 pub mod Waits

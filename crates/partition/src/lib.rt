@@ -1,19 +1,17 @@
 // A partition's record: its processes, the lists that follow them, the running process and the tick.
 ghost use Rattle.std.specs.Prelude.{◌≡◌, ◌≤◌, max, cond, ◌||◌, map, length, take, eqb};
-ghost use Rattle.partition.specs.Places.{slot_of, place_of, in_byte};
-ghost use Rattle.partition.specs.Changes.{object_id, semaphore_as, event_as, buffer_as, blackboard_as, semaphores_as, events_as, buffers_as, blackboards_as, stored_as, order, level_as, holder_as, arrival_as, whole, whole_as};
+ghost use Rattle.partition.specs.Places.{slot_of, in_byte};
 ghost use Rattle.partition.specs.Soonest.{sooner, soonest_of};
 ghost use Rattle.partition.specs.Waits.{served_with, ended_id, ended_as};
-ghost use Rattle.machine.specs.Limits.{process_limit, semaphore_limit, event_limit, buffer_limit, blackboard_limit};
+ghost use Rattle.machine.specs.Limits.{process_limit};
 ghost use Rattle.machine.specs.Ids.{members, ids_of, appended, removed, follow};
 ghost use Rattle.machine.specs.Messages.{queue_of};
 ghost use Rattle.machine.specs.Process as Pr;
-ghost use Rattle.machine.specs.Process.{blank_process, carried, due, ready, on_object, ticked, served, entered};
-ghost use Rattle.machine.specs.Partition.{within, no_semaphore, no_event, no_buffer, no_blackboard, moved_in, process, stored, preferred, running, waiters, first_waiter, changed_all, tick_partition, entered_normal, nothing_created, empty_buffer, created, ended_by};
+ghost use Rattle.machine.specs.Process.{carried, due, ready, on_object, ticked, served, entered};
+ghost use Rattle.machine.specs.Partition.{process, stored, arrived_last, preferred, running, waiters, first_waiter, changed_all, tick_partition, entered_normal, nothing_created, stored_event, stored_buffer, empty_buffer, created, ended_by, applied, partition_after};
 
 use machine::{
-    Blackboard, Buffer, Change, Choice, Context, EventState, Ids, Module, Partition, Process,
-    Queue, Semaphore, Time, Transfer,
+    Buffer, Choice, Context, EventState, Ids, Module, Partition, Process, Queue, Time, Transfer,
 };
 
 fn wide(id: u8) -> u32
@@ -23,7 +21,7 @@ fn wide(id: u8) -> u32
 }
 
 // An id in a byte; no record has one past 255.
-pub fn narrow(id: u32) -> u8
+fn narrow(id: u32) -> u8
     ensures { result ≡ in_byte id }
 {
     if id < 255 { id as u8 } else { 255 }
@@ -110,88 +108,6 @@ pub fn slot(id: u32, limit: usize) -> usize
         return limit;
     }
     (id - 1) as usize
-}
-
-// The place of an id in an array of this length; the first place where there is none.
-pub fn place(id: u32, limit: usize) -> usize
-    ensures { result ≡ place_of limit id }
-{
-    if id == 0 {
-        return 0;
-    }
-    let k = (id - 1) as usize;
-    if k < limit { k } else { 0 }
-}
-
-// What an id names, where x is read at its place: nothing of its kind for an id that has none.
-fn is_within(id: u32, limit: u32) -> bool
-    ensures { result ≡ within limit id }
-{
-    if id == 0 { false } else { id <= limit }
-}
-
-pub fn process_read(id: u32, x: Process) -> Process
-    ensures { result ≡ cond (within process_limit id) x blank_process }
-{
-    let mut r = x;
-    if !is_within(id, Module::PROCESSES as u32) {
-        r = Process::blank();
-    }
-    r
-}
-
-pub fn carried_read(id: u8, x: Process) -> u32
-    ensures { result ≡ carried (cond (within process_limit id) x blank_process) }
-{
-    process::carried_by(process_read(wide(id), x))
-}
-
-pub fn semaphore_read(id: u32, x: Semaphore) -> Semaphore
-    ensures { result ≡ cond (within semaphore_limit id) x no_semaphore }
-{
-    if is_within(id, Module::SEMAPHORES as u32) {
-        x
-    } else {
-        Semaphore {
-            name: 0,
-            value: 0,
-            max: 0,
-        }
-    }
-}
-
-pub fn event_read(id: u32, x: EventState) -> EventState
-    ensures { result ≡ cond (within event_limit id) x no_event }
-{
-    if is_within(id, Module::EVENTS as u32) {
-        x
-    } else {
-        EventState { name: 0, up: false }
-    }
-}
-
-pub fn buffer_read(id: u32, x: Buffer) -> Buffer
-    ensures { result ≡ cond (within buffer_limit id) x no_buffer }
-{
-    if is_within(id, Module::BUFFERS as u32) {
-        x
-    } else {
-        Buffer::blank()
-    }
-}
-
-pub fn blackboard_read(id: u32, x: Blackboard) -> Blackboard
-    ensures { result ≡ cond (within blackboard_limit id) x no_blackboard }
-{
-    if is_within(id, Module::BLACKBOARDS as u32) {
-        x
-    } else {
-        Blackboard {
-            name: 0,
-            shown: false,
-            message: 0,
-        }
-    }
 }
 
 pub fn process_at(p: Partition, id: u32) -> Process
@@ -335,7 +251,7 @@ fn sooner_of(a: Time, n: u32) -> u32
 }
 
 // The sooner of a process's wake time and deadline, and a number.
-pub fn soonest_with(x: Process, n: u32) -> u32
+fn soonest_with(x: Process, n: u32) -> u32
     ensures { result ≡ sooner x.times.wake (sooner x.times.deadline n) }
 {
     let times = x.times;
@@ -420,6 +336,21 @@ pub fn create(p: Partition, id: u32, x: Process) -> Partition
     q
 }
 
+// Buffer k is created, with nothing in it.
+pub fn create_buffer(p: Partition, k: u32, name: u16, limit: u8) -> Partition
+    ensures { result ≡ stored_buffer k (empty_buffer name limit) p }
+{
+    let i = slot(k, Module::BUFFERS);
+    if Module::BUFFERS <= i {
+        return p;
+    }
+    let b = Buffer::blank();
+    let mut q = p;
+    q.buffers[i] = Buffer { name, limit, ..b };
+    q.bufferCount = counted(p.bufferCount, k);
+    q
+}
+
 // ---------------------------------------------------------------- many records stored
 // The wait of a process ends with wake code 0; where one is handed over, the message stays in its record.
 fn serve(x: Process, hands: bool, m: u32) -> Process
@@ -454,6 +385,13 @@ fn end_waits(p: Partition, ids: Ids, hands: bool, m: u32) -> Partition
         i = i + 1;
     }
     q
+}
+
+// The waits of the queue of an object end.
+pub fn end_queue(p: Partition, object: u16, hands: bool, m: u32) -> Partition
+    ensures { result ≡ changed_all (served_with hands m) (waiters object p) p }
+{
+    end_waits(p, queue_of(p, object), hands, m)
 }
 
 // The waits of the first n of the queue of an object end with wake code 0.
@@ -491,17 +429,9 @@ pub fn ended_as(x: Process, a: Transfer) -> Process
 pub fn after_transfer(p: Partition, a: Transfer) -> Partition
     ensures { result ≡ ended_by a p }
 {
-    let mut q = p;
     let id = ended_id(a);
-    let k = slot(id, Module::PROCESSES);
-    if k < Module::PROCESSES {
-        let old = q.processes[k];
-        let x = ended_as(old, a);
-        q.processes[k] = x;
-        q.arrival = arrival_with(q.arrival, old, x, id);
-        q.waiting = waiting_with(q.waiting, old, x, id);
-    }
-    q
+    let x = process_at(p, id);
+    store(p, id, ended_as(x, a))
 }
 
 // Whether a wake time or a deadline has come.
@@ -518,31 +448,25 @@ fn is_touched(x: Process, t: u32) -> bool
     }
 }
 
-// How many processes a tick looks at: all of them in NORMAL, else none.
-fn touched_count(mode: u8, count: u8) -> u32
-    ensures { result ≡ cond (eqb mode 3) count 0 }
-{
-    if mode == 3 { wide(count) } else { 0 }
-}
-
 // A tick of a partition.
 pub fn ticked(p: Partition, t: u32) -> Partition
     ensures { result ≡ tick_partition t p }
 {
-    let n = touched_count(p.mode, p.processCount);
+    if p.mode != 3 {
+        return p;
+    }
+    let n = wide(p.processCount);
     let mut q = p;
     let mut id: u32 = 0;
     while id < n {
         id = id + 1;
         let k = slot(id, Module::PROCESSES);
+        let mut x = Process::blank();
         if k < Module::PROCESSES {
-            let old = q.processes[k];
-            if is_touched(old, t) {
-                let x = process::tick(old, t);
-                q.processes[k] = x;
-                q.arrival = arrival_with(q.arrival, old, x, id);
-                q.waiting = waiting_with(q.waiting, old, x, id);
-            }
+            x = q.processes[k];
+        }
+        if is_touched(x, t) {
+            q = store(q, id, process::tick(x, t));
         }
     }
     q
@@ -570,348 +494,6 @@ pub fn enter_normal(p: Partition, c: Context) -> Partition
         q = enter_process(q, c, id);
     }
     q
-}
-
-// ---------------------------------------------------------------- a change, part by part
-// The record of a process that a change stores.
-pub fn stored_as(c: Change, old: Process) -> Process
-    ensures { result ≡ stored_as c old }
-{
-    match c {
-        Change::Nothing => old,
-        Change::Stored(_, x) => x,
-        Change::Created(_, _) => old,
-        Change::Last(_) => old,
-        Change::StoredSemaphore(_, _) => old,
-        Change::StoredEvent(_, _) => old,
-        Change::CreatedBuffer(_, _, _) => old,
-        Change::Moved(_, a) => ended_as(old, a),
-        Change::StoredBlackboard(_, _) => old,
-        Change::Ended(_) => serve(old, false, 0),
-        Change::Handed(_, m) => serve(old, true, m),
-        Change::LevelSet(_, _) => old,
-        Change::Entered(_) => old,
-    }
-}
-
-// The object that it stores, 0 for none, and what then stands at its place, of each kind.
-pub fn object_id(c: Change) -> u32
-    ensures { result ≡ object_id c }
-{
-    match c {
-        Change::Nothing => 0,
-        Change::Stored(_, _) => 0,
-        Change::Created(_, _) => 0,
-        Change::Last(_) => 0,
-        Change::StoredSemaphore(k, _) => k,
-        Change::StoredEvent(k, _) => k,
-        Change::CreatedBuffer(k, _, _) => k,
-        Change::Moved(k, _) => k,
-        Change::StoredBlackboard(k, _) => k,
-        Change::Ended(_) => 0,
-        Change::Handed(_, _) => 0,
-        Change::LevelSet(_, _) => 0,
-        Change::Entered(_) => 0,
-    }
-}
-
-pub fn semaphore_as(c: Change, old: Semaphore) -> Semaphore
-    ensures { result ≡ semaphore_as c old }
-{
-    match c {
-        Change::Nothing => old,
-        Change::Stored(_, _) => old,
-        Change::Created(_, _) => old,
-        Change::Last(_) => old,
-        Change::StoredSemaphore(_, x) => x,
-        Change::StoredEvent(_, _) => old,
-        Change::CreatedBuffer(_, _, _) => old,
-        Change::Moved(_, _) => old,
-        Change::StoredBlackboard(_, _) => old,
-        Change::Ended(_) => old,
-        Change::Handed(_, _) => old,
-        Change::LevelSet(_, _) => old,
-        Change::Entered(_) => old,
-    }
-}
-
-pub fn event_as(c: Change, old: EventState) -> EventState
-    ensures { result ≡ event_as c old }
-{
-    match c {
-        Change::Nothing => old,
-        Change::Stored(_, _) => old,
-        Change::Created(_, _) => old,
-        Change::Last(_) => old,
-        Change::StoredSemaphore(_, _) => old,
-        Change::StoredEvent(_, x) => x,
-        Change::CreatedBuffer(_, _, _) => old,
-        Change::Moved(_, _) => old,
-        Change::StoredBlackboard(_, _) => old,
-        Change::Ended(_) => old,
-        Change::Handed(_, _) => old,
-        Change::LevelSet(_, _) => old,
-        Change::Entered(_) => old,
-    }
-}
-
-pub fn blackboard_as(c: Change, old: Blackboard) -> Blackboard
-    ensures { result ≡ blackboard_as c old }
-{
-    match c {
-        Change::Nothing => old,
-        Change::Stored(_, _) => old,
-        Change::Created(_, _) => old,
-        Change::Last(_) => old,
-        Change::StoredSemaphore(_, _) => old,
-        Change::StoredEvent(_, _) => old,
-        Change::CreatedBuffer(_, _, _) => old,
-        Change::Moved(_, _) => old,
-        Change::StoredBlackboard(_, x) => x,
-        Change::Ended(_) => old,
-        Change::Handed(_, _) => old,
-        Change::LevelSet(_, _) => old,
-        Change::Entered(_) => old,
-    }
-}
-
-fn moved_in(b: Buffer, a: Transfer) -> Buffer
-    ensures { result ≡ moved_in a b }
-{
-    let mut r = b;
-    r.queue = messages::change(r.queue, a);
-    r
-}
-
-fn empty_buffer(name: u16, limit: u8) -> Buffer
-    ensures { result ≡ empty_buffer name limit }
-{
-    let b = Buffer::blank();
-    Buffer { name, limit, ..b }
-}
-
-pub fn buffer_as(c: Change, old: Buffer) -> Buffer
-    ensures { result ≡ buffer_as c old }
-{
-    match c {
-        Change::Nothing => old,
-        Change::Stored(_, _) => old,
-        Change::Created(_, _) => old,
-        Change::Last(_) => old,
-        Change::StoredSemaphore(_, _) => old,
-        Change::StoredEvent(_, _) => old,
-        Change::CreatedBuffer(_, name, limit) => empty_buffer(name, limit),
-        Change::Moved(_, a) => moved_in(old, a),
-        Change::StoredBlackboard(_, _) => old,
-        Change::Ended(_) => old,
-        Change::Handed(_, _) => old,
-        Change::LevelSet(_, _) => old,
-        Change::Entered(_) => old,
-    }
-}
-
-// How many there are of each kind.
-pub fn semaphores_as(c: Change, n: u8) -> u8
-    ensures { result ≡ semaphores_as c n }
-{
-    match c {
-        Change::Nothing => n,
-        Change::Stored(_, _) => n,
-        Change::Created(_, _) => n,
-        Change::Last(_) => n,
-        Change::StoredSemaphore(k, _) => counted(n, k),
-        Change::StoredEvent(_, _) => n,
-        Change::CreatedBuffer(_, _, _) => n,
-        Change::Moved(_, _) => n,
-        Change::StoredBlackboard(_, _) => n,
-        Change::Ended(_) => n,
-        Change::Handed(_, _) => n,
-        Change::LevelSet(_, _) => n,
-        Change::Entered(_) => n,
-    }
-}
-
-pub fn events_as(c: Change, n: u8) -> u8
-    ensures { result ≡ events_as c n }
-{
-    match c {
-        Change::Nothing => n,
-        Change::Stored(_, _) => n,
-        Change::Created(_, _) => n,
-        Change::Last(_) => n,
-        Change::StoredSemaphore(_, _) => n,
-        Change::StoredEvent(k, _) => counted(n, k),
-        Change::CreatedBuffer(_, _, _) => n,
-        Change::Moved(_, _) => n,
-        Change::StoredBlackboard(_, _) => n,
-        Change::Ended(_) => n,
-        Change::Handed(_, _) => n,
-        Change::LevelSet(_, _) => n,
-        Change::Entered(_) => n,
-    }
-}
-
-pub fn buffers_as(c: Change, n: u8) -> u8
-    ensures { result ≡ buffers_as c n }
-{
-    match c {
-        Change::Nothing => n,
-        Change::Stored(_, _) => n,
-        Change::Created(_, _) => n,
-        Change::Last(_) => n,
-        Change::StoredSemaphore(_, _) => n,
-        Change::StoredEvent(_, _) => n,
-        Change::CreatedBuffer(k, _, _) => counted(n, k),
-        Change::Moved(k, _) => counted(n, k),
-        Change::StoredBlackboard(_, _) => n,
-        Change::Ended(_) => n,
-        Change::Handed(_, _) => n,
-        Change::LevelSet(_, _) => n,
-        Change::Entered(_) => n,
-    }
-}
-
-pub fn blackboards_as(c: Change, n: u8) -> u8
-    ensures { result ≡ blackboards_as c n }
-{
-    match c {
-        Change::Nothing => n,
-        Change::Stored(_, _) => n,
-        Change::Created(_, _) => n,
-        Change::Last(_) => n,
-        Change::StoredSemaphore(_, _) => n,
-        Change::StoredEvent(_, _) => n,
-        Change::CreatedBuffer(_, _, _) => n,
-        Change::Moved(_, _) => n,
-        Change::StoredBlackboard(k, _) => counted(n, k),
-        Change::Ended(_) => n,
-        Change::Handed(_, _) => n,
-        Change::LevelSet(_, _) => n,
-        Change::Entered(_) => n,
-    }
-}
-
-// The preemption lock, and the arrival list.
-pub fn level_as(c: Change, n: u8) -> u8
-    ensures { result ≡ level_as c n }
-{
-    match c {
-        Change::Nothing => n,
-        Change::Stored(_, _) => n,
-        Change::Created(_, _) => n,
-        Change::Last(_) => n,
-        Change::StoredSemaphore(_, _) => n,
-        Change::StoredEvent(_, _) => n,
-        Change::CreatedBuffer(_, _, _) => n,
-        Change::Moved(_, _) => n,
-        Change::StoredBlackboard(_, _) => n,
-        Change::Ended(_) => n,
-        Change::Handed(_, _) => n,
-        Change::LevelSet(n, _) => n,
-        Change::Entered(_) => n,
-    }
-}
-
-pub fn holder_as(c: Change, n: u8) -> u8
-    ensures { result ≡ holder_as c n }
-{
-    match c {
-        Change::Nothing => n,
-        Change::Stored(_, _) => n,
-        Change::Created(_, _) => n,
-        Change::Last(_) => n,
-        Change::StoredSemaphore(_, _) => n,
-        Change::StoredEvent(_, _) => n,
-        Change::CreatedBuffer(_, _, _) => n,
-        Change::Moved(_, _) => n,
-        Change::StoredBlackboard(_, _) => n,
-        Change::Ended(_) => n,
-        Change::Handed(_, _) => n,
-        Change::LevelSet(_, n) => n,
-        Change::Entered(_) => n,
-    }
-}
-
-pub fn arrival_as(c: Change, q: Ids) -> Ids
-    ensures { result ≡ arrival_as c q }
-{
-    match c {
-        Change::Nothing => q,
-        Change::Stored(_, _) => q,
-        Change::Created(_, _) => q,
-        Change::Last(id) => last_in(q, id),
-        Change::StoredSemaphore(_, _) => q,
-        Change::StoredEvent(_, _) => q,
-        Change::CreatedBuffer(_, _, _) => q,
-        Change::Moved(_, _) => q,
-        Change::StoredBlackboard(_, _) => q,
-        Change::Ended(_) => q,
-        Change::Handed(_, _) => q,
-        Change::LevelSet(_, _) => q,
-        Change::Entered(_) => q,
-    }
-}
-
-// Whether it changes these.
-pub fn is_order(c: Change) -> bool
-    ensures { result ≡ order c }
-{
-    match c {
-        Change::Nothing => false,
-        Change::Stored(_, _) => false,
-        Change::Created(_, _) => false,
-        Change::Last(_) => true,
-        Change::StoredSemaphore(_, _) => false,
-        Change::StoredEvent(_, _) => false,
-        Change::CreatedBuffer(_, _, _) => false,
-        Change::Moved(_, _) => false,
-        Change::StoredBlackboard(_, _) => false,
-        Change::Ended(_) => false,
-        Change::Handed(_, _) => false,
-        Change::LevelSet(_, _) => true,
-        Change::Entered(_) => false,
-    }
-}
-
-// Whether it changes more than these, and the partition then.
-pub fn is_whole(c: Change) -> bool
-    ensures { result ≡ whole c }
-{
-    match c {
-        Change::Nothing => false,
-        Change::Stored(_, _) => false,
-        Change::Created(_, _) => true,
-        Change::Last(_) => false,
-        Change::StoredSemaphore(_, _) => false,
-        Change::StoredEvent(_, _) => false,
-        Change::CreatedBuffer(_, _, _) => false,
-        Change::Moved(_, _) => false,
-        Change::StoredBlackboard(_, _) => false,
-        Change::Ended(_) => false,
-        Change::Handed(_, _) => false,
-        Change::LevelSet(_, _) => false,
-        Change::Entered(_) => true,
-    }
-}
-
-pub fn whole_as(c: Change, p: Partition) -> Partition
-    ensures { result ≡ whole_as c p }
-{
-    match c {
-        Change::Nothing => p,
-        Change::Stored(_, _) => p,
-        Change::Created(id, x) => create(p, id, x),
-        Change::Last(_) => p,
-        Change::StoredSemaphore(_, _) => p,
-        Change::StoredEvent(_, _) => p,
-        Change::CreatedBuffer(_, _, _) => p,
-        Change::Moved(_, _) => p,
-        Change::StoredBlackboard(_, _) => p,
-        Change::Ended(_) => p,
-        Change::Handed(_, _) => p,
-        Change::LevelSet(_, _) => p,
-        Change::Entered(c) => enter_normal(p, c),
-    }
 }
 
 // A partition in this mode with nothing created.

@@ -1,6 +1,6 @@
 -- Places of queuing channels, the checks of a call that may wait at one, and the queues that a restart fills, channel by channel. Assumes
 -- nothing.
-use Prim.Native.Nat.{ℕ, suc, ◌+◌, ◌≤◌, ◌<◌}
+use Prim.Native.Nat.{ℕ, zero, suc, ◌+◌, ◌≤◌, ◌<◌}
 use mathlib.Core.Path.{◌≡◌, refl, ap, sym, ◌∙◌}
 use mathlib.Core.Bool.{Bool, true, false, cond, not, ◌&&◌, true≢false}
 use mathlib.Core.List.{List, [], ◌∷◌, ◌++◌}
@@ -17,20 +17,17 @@ use Rattle.machine.specs.declared.Field.{Field}
 use Rattle.machine.specs.declared.Module.{Module}
 use Rattle.machine.specs.declared.Partition.{Partition}
 use Rattle.machine.specs.declared.Port.{Port}
-use Rattle.machine.specs.declared.Queue.{Queue}
 use Rattle.machine.specs.declared.Table.{Table}
 use Rattle.machine.specs.declared.Transfer.{Transfer}
 use Rattle.machine.specs.declared.Wait.TheVariants.{Source, Destination}
 use Rattle.machine.specs.Limits.{partition_limit, channel_limit}
 use Rattle.machine.specs.Fields.{is_message, is_timeout, number_of}
-use Rattle.machine.specs.Ids.{kept}
-use Rattle.machine.specs.Messages.{first, sent, received}
+use Rattle.machine.specs.Messages.{sent, received}
 use Rattle.machine.specs.Decisions.{checked, code_of, start_mode, wait_checks, queued, awaiting}
-use Rattle.machine.specs.Partition.{within, by_id, waiters}
+use Rattle.machine.specs.Partition.{within}
 use Rattle.machine.specs.Module.{no_channel, channel}
-use Rattle.machine.specs.Channels.{queuing, queuing_at, sees_traffic, traffic_of, channel_checks, leads_into}
-use Rattle.machine.specs.Queuing.{queuing_port, send, receive, refilled_at, refilled_to}
-use Rattle.machine.proofs.Tests.{codes_in, Passed, and_left, and_right}
+use Rattle.machine.specs.Channels.{queuing, queuing_at, sees_traffic, queuing_port, channel_checks, send, receive, leads_into, refilled_at, refilled_to}
+use Rattle.machine.proofs.Tests.{codes_in, Passed, and_left, and_right, by_test}
 use Rattle.machine.proofs.Bounds.{within_out}
 use Rattle.machine.proofs.Either.{either}
 use Rattle.machine.proofs.Reached.{refilled_table}
@@ -46,10 +43,13 @@ placed T i long h = either (leb channel_limit i)
 pub numbered : (i n : ℕ) → n ≡ number_at i → i < channel_limit → n ≡ i + 1
 numbered i n e h = e ∙ rw (lt-ltb i channel_limit h)
 
--- a queuing channel c at place i
-module _ (T : Table) (i : ℕ) (c : Channel) (is : queuing_at T i ≡ true) (ec : c ≡ channel T i) where
+-- a channel c at place i, of which b says that it is queuing
+module _ (T : Table) (i : ℕ) (b : Bool) (c : Channel) (eb : b ≡ queuing_at T i) (t : not b ≡ false) (ec : c ≡ channel T i) where
   kind : queuing (channel T i) ≡ true
-  kind = and_right (ltb i T.channelCount) _ is
+  kind = and_right (ltb i T.channelCount) _ (sym eb ∙ not-false b t)
+
+  pub at_place : length T.channels ≡ channel_limit → i < channel_limit
+  at_place long = placed T i long kind
 
   pub source_in : (1 ≤ c.source) × (c.source ≤ partition_limit)
   source_in = rw ec (within_out partition_limit (channel T i).source (and_left (within partition_limit (channel T i).source) _ (and_right (ltb 0 (channel T i).size) _ kind)))
@@ -63,11 +63,6 @@ none_at_zero T i = either (queuing_at T i)
     let d = within_out partition_limit (channel T i).destination (and_right (within partition_limit (channel T i).source) _ g) in
     rw (e, ne_eqb (channel T i).source 0 (λ z. omega (arith, s.0)), ne_eqb (channel T i).destination 0 (λ z. omega (arith, d.0))))
     (λ e. rw e)
-
--- who waits for a channel, in a partition where nobody waits
-pub unawaited_traffic : (q : Queue) (o : ℕ) (p : Partition) → p.waiting.len ≡ 0 → traffic_of q o p ≡ record { len = q.len; first = first q; waiter = 0; carried = 0 }
-unfolding waiters kept by_id
-unawaited_traffic q o p none = rw none
 
 -- ---------------------------------------------------------------- checks
 -- the code of two lists of checks, one after the other
@@ -118,11 +113,10 @@ module _ (k i : ℕ) (m r : Module) (e : r ≡ refilled_to k i m) where
       let step : refilled_to k (suc i) m ≡ cond b (refilled_at i h) h = ap (λ (t : Bool). cond t (refilled_at i h) h) u in
       ap (λ (n : ℕ). refilled_to k n m) (add-one i) ∙ step
 
-  pub table_kept : r.table ≡ m.table
-  table_kept = ap (λ (v : Module). v.table) e ∙ refilled_table k i m
-
-  pub refilled_here : leads m.table ≡ true → refilled_at i r ≡ refilled_to k (i + 1) m
-  refilled_here t = ap (refilled_at i) e ∙ sym (next true t)
+  pub refilled_here : leads m.table ≡ true → cond (queuing_at r.table i) (refilled_at i r) r ≡ refilled_to k (i + 1) m
+  refilled_here t =
+      let q : queuing_at r.table i ≡ true = rw (e, refilled_table k i m) (and_left (queuing_at m.table i) _ t) in
+      rw q (ap (refilled_at i) e ∙ sym (next true t))
 
   pub refilled_past : leads m.table ≡ false → r ≡ refilled_to k (i + 1) m
   refilled_past t = e ∙ sym (next false t)

@@ -1,19 +1,15 @@
-// Queuing channels: what a call sees of their traffic, calls 30 and 31, and what a restart of a partition makes of the module.
+// Queuing channels: what a call sees of their traffic, calls 30 and 31, and queues that a restart fills anew.
 ghost use Rattle.std.specs.Prelude.{◌≡◌, ℕ, ◌-◌, cond, ◌&&◌, [], eqb, ltb};
 ghost use Rattle.machine.specs.Limits.{partition_limit, channel_limit};
-ghost use Rattle.machine.specs.Messages.{first, ends_wait};
+ghost use Rattle.machine.specs.Messages.{ends_wait};
 ghost use Rattle.machine.specs.Decisions.{code_of, wait_checks};
 ghost use Rattle.machine.specs.Module.{channel};
-ghost use Rattle.machine.specs.Channels.{queuing_at, sees_traffic, other_end, other_queue, no_traffic, traffic_of, leads_into};
-ghost use Rattle.machine.specs.Queuing.{queuing_port, send, receive};
-ghost use Rattle.machine.specs.Partition.{nothing_created};
-ghost use Rattle.machine.specs.Step.{restarted};
+ghost use Rattle.machine.specs.Channels.{queuing_at, sees_traffic, other_end, other_queue, no_traffic, traffic_of, queuing_port, send, receive, leads_into, refilled_at, refilled_to};
 ghost use Rattle.machine.specs.declared.Table.{Table as TableT};
 ghost use Rattle.queuing.specs.Ports.{number_at};
 ghost use Rattle.machine.specs.declared.Partition.{Partition as PartitionT};
 ghost use Rattle.decisions.specs.Views.{Shows};
 
-use channels::Messages;
 use decisions::View;
 use machine::{
     Channel, Context, Decision, Field, Module, Partition, Port, Queue, Table, Traffic, Transfer,
@@ -144,18 +140,6 @@ pub fn traffic_of(q: Queue, object: u16, other: Partition) -> Traffic
     }
 }
 
-// The same, where nobody waits there.
-pub fn unawaited(q: Queue) -> Traffic
-    ensures { result ≡ record { len = q.len; first = first q; waiter = 0; carried = 0 } }
-{
-    Traffic {
-        len: q.len,
-        first: messages::first_of(q),
-        waiter: 0,
-        carried: 0,
-    }
-}
-
 // ---------------------------------------------------------------- the calls
 // Whether the channel that a call names is queuing.
 fn is_queuing_port(x: Port) -> bool
@@ -179,21 +163,21 @@ fn code_after(before: u8, start: bool, admitted: bool) -> u8
 
 // 30 SEND
 pub fn send_channel(v: View, c: Context, x: Port, m: Field, a: Field) -> Decision
-    ensures { (p : PartitionT) (id : ℕ) → Shows v id c.caller p → result ≡ send c x m a p }
+    ensures { (p : PartitionT) (id : ℕ) → Shows v c id p → result ≡ send c x m a p }
 {
     let channel = x.channel;
     let traffic = x.traffic;
     let ends = channels::end_code(x, !is_queuing_port(x), channel.source);
-    let code = code_after(ends, v.mode != 3, decisions::is_sending_admitted(m, a));
+    let code = code_after(ends, v.mode != 3, objects::is_sending_admitted(m, a));
     let n = fields::number_of(m);
     let success = Decision::Passed(x.place, messages::sent_to(traffic.waiter, n), 0);
     let wait = Wait::Source(number_at(x.place as usize), n);
-    decisions::awaited(v, c, code, a, traffic.len < channel.size, success, wait)
+    objects::awaited(v, c, code, a, traffic.len < channel.size, success, wait)
 }
 
 // 31 RECEIVE
 pub fn receive_channel(v: View, c: Context, x: Port, a: Field) -> Decision
-    ensures { (p : PartitionT) (id : ℕ) → Shows v id c.caller p → result ≡ receive c x a p }
+    ensures { (p : PartitionT) (id : ℕ) → Shows v c id p → result ≡ receive c x a p }
 {
     let channel = x.channel;
     let traffic = x.traffic;
@@ -205,7 +189,7 @@ pub fn receive_channel(v: View, c: Context, x: Port, a: Field) -> Decision
         traffic.first,
     );
     let wait = Wait::Destination(number_at(x.place as usize));
-    decisions::awaited(v, c, code, a, 0 < traffic.len, success, wait)
+    objects::awaited(v, c, code, a, 0 < traffic.len, success, wait)
 }
 
 // ---------------------------------------------------------------- restarts
@@ -220,42 +204,38 @@ fn is_refilled(table: Table, k: u32, i: usize) -> bool
     false
 }
 
-fn one_less(k: u32) -> u32
-    ensures { result ≡ k - 1 }
+// The queuing channel at this place holds the messages of its first waiting senders, whose waits end.
+fn refill_at(m: Module, i: usize) -> Module
+    ensures { result ≡ cond (queuing_at m.table i) (refilled_at i m) m }
 {
-    if k == 0 { 0 } else { k - 1 }
+    let table = m.table;
+    if !is_queuing_at(table, i) {
+        return m;
+    }
+    let c = channels::channel_at(table, i);
+    let slot = (c.source - 1) as usize;
+    let p = m.partitions[slot];
+    let o = process::object_of(Wait::Source(number_at(i), 0));
+    let queue = partition::waiting_messages(p, o, c.size);
+    let q = partition::let_in(p, o, c.size);
+    let mut r = m;
+    r.queues[i] = queue;
+    r.partitions[slot] = q;
+    r
 }
 
-// Partition k is restarted in this mode: nothing is created, the messages on channels into it are erased, and the queues into it filled
-// anew, channels by ascending number: each holds the messages of its first waiting senders, whose waits end. One function, since each
-// that takes a module by value has a place for it on the stack.
-pub fn restart(m: Module, k: u32, mode: u8) -> Module
-    ensures { result ≡ restarted k (nothing_created mode) m }
+// The queues into partition k filled anew, channels by ascending number.
+pub fn refill(m: Module, k: u32) -> Module
+    ensures { result ≡ refilled_to k channel_limit m }
 {
+    let table = m.table;
     let mut r = m;
-    let table = r.table;
-    let items = r.messages;
-    let e = channels::erase_into(Messages { items }, table, k);
-    let kept = e.items;
-    r.messages = kept;
-    let own = one_less(k) as usize;
-    if own < Module::PARTITIONS {
-        let p = partition::nothing_created(mode);
-        r.partitions[own] = p;
-    }
     let mut i: usize = 0;
     while i < Module::CHANNELS {
         if is_refilled(table, k, i) {
-            let c = channels::channel_at(table, i);
-            let slot = (c.source - 1) as usize;
-            let p = r.partitions[slot];
-            let o = process::object_of(Wait::Source(number_at(i), 0));
-            let queue = partition::waiting_messages(p, o, c.size);
-            let q = partition::let_in(p, o, c.size);
-            r.queues[i] = queue;
-            r.partitions[slot] = q;
+            r = refill_at(r, i);
         }
-        i += 1;
+        i = i + 1;
     }
     r
 }

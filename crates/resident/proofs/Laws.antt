@@ -6,21 +6,23 @@ use mathlib.Core.Path.{◌≡◌, refl, sym, ap, ap₂, ◌∙◌}
 use native.Mathlib.Numerals.{add-one}
 use native.Mathlib.Omega.{arith}
 use lib.Dec.{eqb}
-use lib.ListN.{length, get_or, set, take, drop, replicate, length-set, length-map, get_or-map}
+use lib.ListN.{length, get_or, set, take, drop, length-set, length-map, get_or-map}
 use lib.Seq.{take_all}
+use borrow.Author.Tests.{ne_eqb}
 use Rattle.machine.specs.Ids.{members, kept, kept_if, follow}
-use Rattle.machine.specs.Limits.{process_limit, greatest_time}
-use Rattle.machine.specs.Partition.{within, by_id, process, preferred, locked, chosen, running, waits_on, waiters, first_waiter, with_processes, stored, empty_partition}
+use Rattle.machine.specs.Limits.{process_limit}
+use Rattle.machine.specs.Partition.{within, by_id, process, preferred, locked, chosen, running, waits_on, waiters, first_waiter, with_processes, stored}
 use Rattle.machine.specs.Process.{blank_process, ready, on_object}
 use Rattle.machine.specs.declared.Choice.{Choice}
 use Rattle.machine.specs.declared.Ids.{Ids}
 use Rattle.machine.specs.declared.Partition.{Partition}
 use Rattle.machine.specs.declared.Process.{Process}
+use Rattle.machine.proofs.Bounds.{stored_out}
 use Rattle.machine.proofs.Either.{either}
 use Rattle.machine.proofs.Lists.{next_member, no_member}
 use Rattle.partition.specs.Places.{slot_of, in_byte}
-use Rattle.partition.proofs.Laws.{named_at, named_past, stored_at}
-use Rattle.resident.specs.Mirrors.{current_of, object_of, due_of, Mirrors, filled, is_on, queue_on, first_on, chosen_by, running_by}
+use Rattle.partition.proofs.Laws.{slot_out, named_at, named_past, stored_at}
+use Rattle.resident.specs.Mirrors.{current_of, object_of, Mirrors, filled, is_on, queue_on, first_on, chosen_by, running_by}
 
 -- ---------------------------------------------------------------- lists of numbers
 by_id_map : {A B : Type 0} (limit : ℕ) (f : A → B) (d : A) (id : ℕ) (l : List A) → by_id limit (f d) id (map f l) ≡ f (by_id limit d id l)
@@ -43,13 +45,10 @@ abbrev pub processes_of : Partition → List Process
 processes_of p = p.processes
 
 -- ---------------------------------------------------------------- what the numbers say
-module _ {p : Partition} {currents objects dues : List ℕ} (m : Mirrors p currents objects dues) where
+module _ {p : Partition} {currents objects : List ℕ} (m : Mirrors p currents objects) where
   -- as many as processes
-  pub mirrors_lengths : (length currents ≡ process_limit) × (length objects ≡ process_limit) × (length dues ≡ process_limit)
-  mirrors_lengths = (long current_of m.priorities, long object_of m.waits, long due_of m.times)
-    where
-      long : (f : Process → ℕ) {l : List ℕ} → l ≡ map f p.processes → length l ≡ process_limit
-      long f e = ap length e ∙ length-map p.processes f ∙ m.long
+  pub mirrors_lengths : (length currents ≡ process_limit) × (length objects ≡ process_limit)
+  mirrors_lengths = (ap length m.priorities ∙ length-map p.processes current_of ∙ m.long, ap length m.waits ∙ length-map p.processes object_of ∙ m.long)
 
   -- a process's own
   pub current_of_holds : (id : ℕ) → by_id process_limit 0 id currents ≡ (process id p).current
@@ -78,30 +77,37 @@ module _ {p : Partition} {currents objects dues : List ℕ} (m : Mirrors p curre
 
   -- ---------------------------------------------------------------- what keeps them
   -- the processes stay
-  pub mirrors_same : {q : Partition} → q.processes ≡ p.processes → Mirrors q currents objects dues
-  mirrors_same e = record { long = ap length e ∙ m.long; priorities = m.priorities ∙ ap (map current_of) (sym e); waits = m.waits ∙ ap (map object_of) (sym e); times = m.times ∙ ap (map due_of) (sym e) }
+  pub mirrors_same : {q : Partition} → q.processes ≡ p.processes → Mirrors q currents objects
+  mirrors_same e = record { long = ap length e ∙ m.long; priorities = m.priorities ∙ ap (map current_of) (sym e); waits = m.waits ∙ ap (map object_of) (sym e) }
 
   -- the process at place k has the record x, and the numbers there are its own
-  pub mirrors_set : {q : Partition} (k : ℕ) (x : Process) {c o d : ℕ} → q.processes ≡ set p.processes k x → c ≡ x.current → o ≡ object_of x → d ≡ due_of x → Mirrors q (set currents k c) (set objects k o) (set dues k d)
-  mirrors_set {q = q} k x e ec eo ed = record { long = ap length e ∙ length-set p.processes k x ∙ m.long; priorities = here current_of m.priorities ec; waits = here object_of m.waits eo; times = here due_of m.times ed }
-    where
-      here : (f : Process → ℕ) {l : List ℕ} {n : ℕ} → l ≡ map f p.processes → n ≡ f x → set l k n ≡ map f q.processes
-      here f el en = ap₂ (λ (l : List ℕ) (n : ℕ). set l k n) el en ∙ sym (map_set f p.processes k x) ∙ ap (map f) (sym e)
+  pub mirrors_set : {q : Partition} (k : ℕ) (x : Process) {c o : ℕ} → q.processes ≡ set p.processes k x → c ≡ x.current → o ≡ object_of x → Mirrors q (set currents k c) (set objects k o)
+  mirrors_set k x e ec eo = record {
+    long = ap length e ∙ length-set p.processes k x ∙ m.long;
+    priorities = ap₂ (λ (l : List ℕ) (n : ℕ). set l k n) m.priorities ec ∙ sym (map_set current_of p.processes k x) ∙ ap (map current_of) (sym e);
+    waits = ap₂ (λ (l : List ℕ) (n : ℕ). set l k n) m.waits eo ∙ sym (map_set object_of p.processes k x) ∙ ap (map object_of) (sym e);
+  }
 
   -- process id has the record x from now on, at its place or nowhere
   module _ (id k : ℕ) (x : Process) (e : k ≡ slot_of process_limit id) where
-    pub mirrors_stored : k < process_limit → {c o d : ℕ} → c ≡ x.current → o ≡ object_of x → d ≡ due_of x → Mirrors (stored id x p) (set currents k c) (set objects k o) (set dues k d)
-    mirrors_stored h ec eo ed = mirrors_set k x (sym (ap processes_of (stored_at id k p x e _ _ h refl refl))) ec eo ed
+    pub mirrors_stored : k < process_limit → {c o : ℕ} → c ≡ x.current → o ≡ object_of x → Mirrors (stored id x p) (set currents k c) (set objects k o)
+    mirrors_stored h ec eo = mirrors_set k x (sym (ap processes_of (stored_at id k p x e _ _ h refl refl))) ec eo
+
+    pub mirrors_none : process_limit ≤ k → Mirrors (stored id x p) currents objects
+    mirrors_none h = mirrors_same (ap processes_of (stored_out id x p (slot_out process_limit id k e h)))
 
     -- the same by what the code leaves of the partition and of the numbers
-    module _ {q : Partition} {cs os ds : List ℕ} where
-      pub stored_here : k < process_limit → {a w : Ids} {c o d : ℕ}
+    module _ {q : Partition} {cs os : List ℕ} where
+      pub stored_here : k < process_limit → {a w : Ids} {c o : ℕ}
           → a ≡ follow (ready (get_or p.processes k blank_process)) (ready x) (in_byte id) p.arrival
           → w ≡ follow (on_object (get_or p.processes k blank_process)) (on_object x) (in_byte id) p.waiting
-          → c ≡ x.current → o ≡ object_of x → d ≡ due_of x
-          → q ≡ with_processes (set p.processes k x) p.processCount a w p → cs ≡ set currents k c → os ≡ set objects k o → ds ≡ set dues k d
-          → (q ≡ stored id x p) × Mirrors q cs os ds
-      stored_here h ea ew ec eo ed eq ecs eos eds = (eq ∙ stored_at id k p x e _ _ h ea ew, rw (ecs, eos, eds) (mirrors_set k x (ap processes_of eq) ec eo ed))
+          → c ≡ x.current → o ≡ object_of x
+          → q ≡ with_processes (set p.processes k x) p.processCount a w p → cs ≡ set currents k c → os ≡ set objects k o
+          → (q ≡ stored id x p) × Mirrors q cs os
+      stored_here h ea ew ec eo eq ecs eos = (eq ∙ stored_at id k p x e _ _ h ea ew, rw (ecs, eos) (mirrors_set k x (ap processes_of eq) ec eo))
+
+      pub stored_nowhere : process_limit ≤ k → q ≡ p → cs ≡ currents → os ≡ objects → (q ≡ stored id x p) × Mirrors q cs os
+      stored_nowhere h eq ecs eos = (eq ∙ sym (stored_out id x p (slot_out process_limit id k e h)), rw (ecs, eos) (mirrors_same (ap processes_of eq)))
 
 -- all of them are written over a list that has as many
 filled_whole : (f : Process → ℕ) (ps : List Process) (l : List ℕ) → length l ≡ length ps → filled f ps l ≡ map f ps
@@ -111,20 +117,18 @@ filled_whole f [] (n ∷ l) h = absurd (omega arith)
 filled_whole f (x ∷ ps) [] h = absurd (omega arith)
 filled_whole f (x ∷ ps) (n ∷ l) h = ap (λ (r : List ℕ). f x ∷ r) (filled_whole f ps l (omega arith))
 
-pub mirrors_filled : {p : Partition} (currents objects dues : List ℕ) {cs os ds : List ℕ} → (length currents ≡ process_limit) × (length objects ≡ process_limit) × (length dues ≡ process_limit)
-    → (length p.processes ≡ process_limit) × (cs ≡ filled current_of p.processes currents) × (os ≡ filled object_of p.processes objects) × (ds ≡ filled due_of p.processes dues)
-    → Mirrors p cs os ds
-mirrors_filled {p} currents objects dues h e = record {
+pub mirrors_filled : {p : Partition} (currents objects : List ℕ) {cs os : List ℕ} → (length currents ≡ process_limit) × (length objects ≡ process_limit)
+    → (length p.processes ≡ process_limit) × (cs ≡ filled current_of p.processes currents) × (os ≡ filled object_of p.processes objects)
+    → Mirrors p cs os
+mirrors_filled {p} currents objects h e = record {
   long = e.0;
   priorities = e.1 ∙ filled_whole current_of p.processes currents (h.0 ∙ sym e.0);
   waits = e.2 ∙ filled_whole object_of p.processes objects (h.1 ∙ sym e.0);
-  times = e.3 ∙ filled_whole due_of p.processes dues (h.2 ∙ sym e.0);
 }
 
--- those of the partition that holds nothing
-pub mirrors_empty : Mirrors empty_partition (replicate process_limit 0) (replicate process_limit 0) (replicate process_limit greatest_time)
-unfolding empty_partition
-mirrors_empty = record { long = refl; priorities = refl; waits = refl; times = refl }
+-- the place of the id after k
+pub place_after : (k : ℕ) → k ≡ slot_of process_limit (k + 1)
+place_after k = rw (ne_eqb (k + 1) 0 (λ z. omega arith)) (omega arith)
 
 -- the number of process id, read at its place
 module _ (l : List ℕ) {w id k : ℕ} (s : w ≡ id) (e : k ≡ slot_of process_limit w) where

@@ -1,4 +1,2 @@
-pub mod Dues
-pub mod Changing
 pub mod Laws
 pub mod Settled

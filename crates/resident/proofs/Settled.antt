@@ -3,7 +3,7 @@ use Prim.Native.Nat.{ℕ, ◌≤◌, ◌<◌}
 use mathlib.Core.List.{List}
 use mathlib.Core.Logic.{◌≢◌}
 use mathlib.Core.Path.{◌≡◌, ap, ◌∙◌}
-use lib.ListN.{length, get_or}
+use lib.ListN.{length, get_or, length-set}
 use lib.Seq.{set-get_or, set-set, set_comm, set_out, get_or-set_same, get_or-set_other}
 use Rattle.machine.specs.Module.{part, no_partition}
 use Rattle.machine.specs.declared.Module.{Module}
@@ -22,6 +22,9 @@ module _ (i : ℕ) (p : Partition) (m : Module) where
   -- and the others at theirs
   pub settled_there : (j : ℕ) → j ≢ i → part (settled i p m) j ≡ part m j
   settled_there j n = get_or-set_other m.partitions i j p no_partition n
+
+  pub settled_length : length (settled i p m).partitions ≡ length m.partitions
+  settled_length = length-set m.partitions i p
 
   -- the last one counts
   pub settled_twice : (q : Partition) → settled i q (settled i p m) ≡ settled i q m

@@ -1,9 +1,9 @@
 -- What a call looks at by its number: whether a name is taken, and who waits first.
-use Rattle.std.specs.Prelude.{ℕ, Bool, false, cond, ◌||◌, eqb, ltb, take}
+use Rattle.std.specs.Prelude.{ℕ, Bool, false, cond, ◌||◌, eqb, take}
 use Rattle.machine.specs.Partition.{first_waiter}
 use Rattle.machine.specs.Process.{object}
-use Rattle.machine.specs.Scheduling.{process_named}
-use Rattle.machine.specs.Semaphores.{semaphore_named, event_named}
+use Rattle.machine.specs.Calls.{process_named}
+use Rattle.machine.specs.Objects.{semaphore_named, event_named}
 use Rattle.machine.specs.Buffers.{buffer_named}
 use Rattle.machine.specs.Blackboards.{blackboard_named}
 use Rattle.machine.specs.declared.Field.{Field}
@@ -32,27 +32,6 @@ object_for n id =
     (cond (eqb n 25) (object (Sending id 0))
     0))
 
--- the process that call n is about: the one that its field a names, the first waiter, or the caller
-abbrev pub subject_for : ℕ → ℕ → ℕ → ℕ → ℕ
-subject_for n id caller waiter =
-    cond (eqb n 3) id
-    (cond (eqb n 4) id
-    (cond (eqb n 5) id
-    (cond (eqb n 7) id
-    (cond (eqb n 11) id
-    (cond (eqb n 12) id
-    (cond (eqb n 13) id
-    (cond (eqb n 16) waiter
-    caller)))))))
-
 -- the first who waits for it, 0 for none
 abbrev pub waiter_for : ℕ → ℕ → Partition → ℕ
 waiter_for n id p = cond (eqb (object_for n id) 0) 0 (first_waiter (object_for n id) p)
-
--- the calls that name a channel: WRITE, READ, SEND, RECEIVE
-abbrev pub names_channel : ℕ → Bool
-names_channel n = eqb n 21 || (eqb n 22 || (eqb n 30 || eqb n 31))
-
--- whether call n looks at who waits at the other end of its channel, which may hold so many messages and holds so many: SEND where there is room, RECEIVE where there is a message
-abbrev pub asks_waiter : ℕ → ℕ → ℕ → Bool
-asks_waiter n size len = cond (eqb n 30) (ltb len size) (cond (eqb n 31) (ltb 0 len) false)

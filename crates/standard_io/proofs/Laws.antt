@@ -25,7 +25,7 @@ use Rattle.stream.specs.declared.Advance.{Advance}
 use Rattle.event_lines.specs.Blocks.{over}
 use Rattle.stream.specs.declared.Stage.{Stage}
 use Rattle.stream.specs.declared.Stage.TheVariants.{Table as TableStage, Events, Ended}
-use Rattle.stream.specs.declared.Progress.{Progress}
+use Rattle.stream.specs.declared.Place.{Place}
 use Rattle.stream.specs.Stream.{begun, turn_in, is_ended, run, advanced, closed, finished, finished_of, fed_all}
 use Rattle.stream.proofs.Chunks.{finished_closed, held_length}
 use Rattle.stream.proofs.Pieces.{run_within, run_some, run_room, fed_rest, fed_on}
@@ -165,7 +165,7 @@ fed_further s r q a b = record { read = a.read ++ b.read; is = b.is ∙ ap (λ (
 -- the stream goes on from s; reading ends with a refused table only where it is refused, and with a failed write only where one was made
 record Goes (prints : Bool) (s : Stream) (r : Turn) : Type 0 where
   fed : FedOn s r.stream
-  table : r.end ≡ Table → is_ended r.stream.progress.stage ≡ true
+  table : r.end ≡ Table → is_ended r.stream.place.stage ≡ true
   quiet : prints ≡ false → r.end ≡ Unwritten → ⊥
 
 table_refused : (written refused : Bool) → end_after written refused ≡ Table → refused ≡ true
@@ -181,7 +181,7 @@ write_ends false refused h e = no_end (cc)
 
 took_goes : (prints : Bool) (s : Stream) (got : Got) (bytes : List ℕ) (written : Bool) → Quiet prints written → Goes prints s (after_read s got bytes written)
 took_goes prints s (Bytes n) bytes written q =
-    let refused = is_ended (fed_all s (take n bytes)).stream.progress.stage in
+    let refused = is_ended (fed_all s (take n bytes)).stream.place.stage in
     record {
       fed = record { read = take n bytes; is = refl };
       table = λ e. table_refused written refused e;
@@ -198,23 +198,23 @@ reads_go prints _ _ (next n t u h going once) =
     record { fed = fed_further begun t.stream u.stream a.fed b.fed; table = b.table; quiet = b.quiet }
 
 -- a refused table leaves nothing to end
-refused_last : (stage : Stage) (x : Progress) (text : List ℕ) → is_ended stage ≡ true → (turn_in true stage x text).progress.executive ≡ x.executive
+refused_last : (stage : Stage) (x : Place) (text : List ℕ) → is_ended stage ≡ true → (turn_in true stage x text).place.executive ≡ x.executive
 refused_last TableStage x text e = no_end (cc)
 refused_last Events x text e = no_end (cc)
 refused_last Ended x text e = refl
 
-ended_closed : (s : Stream) → is_ended s.progress.stage ≡ true → (closed s).stream.progress.executive ≡ s.progress.executive
+ended_closed : (s : Stream) → is_ended s.place.stage ≡ true → (closed s).stream.place.executive ≡ s.place.executive
 unfolding closed
-ended_closed s e = refused_last s.progress.stage s.progress (take s.progress.count s.held) e
+ended_closed s e = refused_last s.place.stage s.place (take s.place.count s.held) e
 
 module _ (s : Stream) (k : FedOn begun s) where
-  so_far : s.progress.executive.inner ≡ (fed_all begun k.read).stream.progress.executive.inner
-  so_far = ap (λ (x : Stream). x.progress.executive.inner) k.is
+  so_far : s.place.executive.inner ≡ (fed_all begun k.read).stream.place.executive.inner
+  so_far = ap (λ (x : Stream). x.place.executive.inner) k.is
 
-  whole : (closed s).stream.progress.executive.inner ≡ replayed_record k.read
-  whole = ap (λ (x : Stream). (closed x).stream.progress.executive.inner) k.is ∙ stream_record k.read
+  whole : (closed s).stream.place.executive.inner ≡ replayed_record k.read
+  whole = ap (λ (x : Stream). (closed x).stream.place.executive.inner) k.is ∙ stream_record k.read
 
-  last_record : (n : End) → (n ≡ Table → is_ended s.progress.stage ≡ true) → (last_of n s).progress.executive.inner ≡ record_after n k.read
+  last_record : (n : End) → (n ≡ Table → is_ended s.place.stage ≡ true) → (last_of n s).place.executive.inner ≡ record_after n k.read
   last_record Going h = so_far
   last_record Input h = whole
   last_record Table h = sym (ap (λ (x : Executive). x.inner) (ended_closed s (h refl))) ∙ whole
@@ -230,7 +230,7 @@ last_quiet Table written h e = no_end (cc)
 last_quiet Unread written h e = no_end (cc)
 last_quiet Unwritten written h e = refl
 
-pub ends_after : (prints : Bool) (t : Turn) → ReadToEnd prints t → (last : Turn) → LastTurn prints t last → (e : Executive) → e ≡ last.stream.progress.executive → AfterInput prints (record { executive = e; end = last.end })
+pub ends_after : (prints : Bool) (t : Turn) → ReadToEnd prints t → (last : Turn) → LastTurn prints t last → (e : Executive) → e ≡ last.stream.place.executive → AfterInput prints (record { executive = e; end = last.end })
 ends_after prints t h last l e own =
     let g = reads_go prints h.count t h.reads in
     let s = ap (λ (x : Turn). x.stream) l.is in
@@ -244,7 +244,7 @@ ends_after prints t h last l e own =
       wrote = l.quiet;
       ends = n;
       quiet = λ p u. g.quiet p (last_quiet t.end l.written (l.quiet p) (sym n ∙ u));
-      is = ap (λ (x : Executive). x.inner) own ∙ ap (λ (x : Stream). x.progress.executive.inner) s ∙ last_record t.stream g.fed t.end g.table;
+      is = ap (λ (x : Executive). x.inner) own ∙ ap (λ (x : Stream). x.place.executive.inner) s ∙ last_record t.stream g.fed t.end g.table;
     }
 
 -- ---------------------------------------------------------------- the last line

@@ -32,7 +32,7 @@ abbrev pub end_after : Bool → Bool → End
 end_after written refused = cond written (cond refused Table Going) Unwritten
 
 abbrev pub after_shown : Shown → Turn
-after_shown p = record { stream = p.stream; end = end_after p.written (is_ended p.stream.progress.stage) }
+after_shown p = record { stream = p.stream; end = end_after p.written (is_ended p.stream.place.stage) }
 
 -- the stream and why reading ended, if it did, after a read that left these bytes in the buffer, and writes that succeeded or not
 abbrev pub after_read : Stream → Got → List ℕ → Bool → Turn
@@ -114,11 +114,11 @@ pub record LastTurn (prints : Bool) (t r : Turn) : Type 0 where
 -- the record after the bytes read: at the input's end and after a refused table that of the whole input; else that of the lines that are
 -- complete, since a line that a failure cut is no line of the input
 abbrev pub record_after : End → List ℕ → Module
-record_after Going read = (fed_all begun read).stream.progress.executive.inner
+record_after Going read = (fed_all begun read).stream.place.executive.inner
 record_after Input read = replayed_record read
 record_after Table read = replayed_record read
-record_after Unread read = (fed_all begun read).stream.progress.executive.inner
-record_after Unwritten read = (fed_all begun read).stream.progress.executive.inner
+record_after Unread read = (fed_all begun read).stream.place.executive.inner
+record_after Unwritten read = (fed_all begun read).stream.place.executive.inner
 
 -- a replay of the bytes read. Free are the reads up to where reading ended, with what was read, and whether the last line could be written;
 -- why the replay ended and the record are settled by them

@@ -29,14 +29,14 @@ use Rattle.event_lines.specs.Blocks.{good_then, good_events, line_count, printed
 use Rattle.event_lines.proofs.Blocks.{good_line, good_inside, answer_short, block_fits}
 use Rattle.stream.specs.declared.Stage.{Stage}
 use Rattle.stream.specs.declared.Stage.TheVariants.{Table, Events, Ended}
-use Rattle.stream.specs.declared.Progress.{Progress}
+use Rattle.stream.specs.declared.Place.{Place}
 use Rattle.stream.specs.declared.Stream.{Stream}
 use Rattle.stream.specs.Stream.{held_limit, at, turn, Fed, said, is_between, feed, Run, run}
 use Rattle.stream.proofs.Chunks.{further, Advancing, goes_further}
 
 -- at the events, where so many bytes are held
 abbrev held_at : Executive → ℕ → List ℕ → Stream
-held_at e n held = record { progress = at Events e n; held = held }
+held_at e n held = record { place = at Events e n; held = held }
 
 -- what the line that is held gives
 abbrev line_held : Executive → ℕ → List ℕ → Fed
@@ -195,8 +195,8 @@ module _ (chunk : List ℕ) (from : ℕ) (held₀ held : List ℕ) (i : ℕ) (k 
       k.bytes ∙ rw (n, l)
 
 -- ---------------------------------------------------------------- out of a chunk
-progress_between : (x : Progress) → is_between x.stage x.count ≡ true → x ≡ at Events x.executive 0
-progress_between x h = go x.stage refl h
+place_between : (x : Place) → is_between x.stage x.count ≡ true → x ≡ at Events x.executive 0
+place_between x h = go x.stage refl h
   where
     go : (s : Stage) → x.stage ≡ s → is_between s x.count ≡ true → x ≡ at Events x.executive 0
     go Table e h = absurd (true≢false (sym h))
@@ -204,12 +204,12 @@ progress_between x h = go x.stage refl h
     go Ended e h = absurd (true≢false (sym h))
 
 module _ (s₀ : Stream) (chunk out₀ : List ℕ) (s : Stream) (i to : ℕ) (out : List ℕ) (k : Advancing s₀ chunk out₀ s i to out) (r : Block)
-    (did : r ≡ block_of s.progress.executive.inner (block_events chunk i out to)) where
+    (did : r ≡ block_of s.place.executive.inner (block_events chunk i out to)) where
   abbrev es : List Event
   es = block_events chunk i out to
 
   abbrev m : Module
-  m = s.progress.executive.inner
+  m = s.place.executive.inner
 
   lines_is : r.lines ≡ length es
   lines_is = ap (λ (b : Block). b.lines) did
@@ -223,7 +223,7 @@ module _ (s₀ : Stream) (chunk out₀ : List ℕ) (s : Stream) (i to : ℕ) (ou
   pub block_room : to + r.printed ≤ length out
   block_room = omega (arith, printed_is, block_fits m chunk out i to k.room)
 
-  module _ (some : 0 < r.lines) (here : is_between s.progress.stage s.progress.count ≡ true) where
+  module _ (some : 0 < r.lines) (here : is_between s.place.stage s.place.count ≡ true) where
     last : held_after (length es) (drop i chunk) s.held ≡ over (take line_length (drop (i + r.lines * line_length - line_length) chunk)) s.held
     last = go (length es) lines_is
       where
@@ -234,12 +234,12 @@ module _ (s₀ : Stream) (chunk out₀ : List ℕ) (s : Stream) (i to : ℕ) (ou
             last_held n (drop i chunk) s.held (omega (arith, block_inside, length-drop i chunk)) ∙ rw (drop-drop (n * line_length) i chunk, place)
 
     pub block_taken : (held' : List ℕ) → held' ≡ over (take line_length (drop (i + r.lines * line_length - line_length) chunk)) s.held → (out' : List ℕ) → out' ≡ over_at to (block_text m es) out
-        → Advancing s₀ chunk out₀ (record { progress = at s.progress.stage r.executive s.progress.count; held = held' }) (i + r.lines * line_length) (to + r.printed) out'
+        → Advancing s₀ chunk out₀ (record { place = at s.place.stage r.executive s.place.count; held = held' }) (i + r.lines * line_length) (to + r.printed) out'
     block_taken held' e out' f =
-        let p = progress_between s.progress here in
-        let st : s.progress.stage ≡ Events = ap (λ (x : Progress). x.stage) p in
-        let ct : s.progress.count ≡ 0 = ap (λ (x : Progress). x.count) p in
-        let own : s ≡ between m s.held = ap (λ (x : Progress). record { progress = x; held = s.held }) p in
+        let p = place_between s.place here in
+        let st : s.place.stage ≡ Events = ap (λ (x : Place). x.stage) p in
+        let ct : s.place.count ≡ 0 = ap (λ (x : Place). x.count) p in
+        let own : s ≡ between m s.held = ap (λ (x : Place). record { place = x; held = s.held }) p in
         let ex : r.executive ≡ record { inner = after m es } = ap (λ (b : Block). b.executive) did in
         let l : List ℕ = take line_length (drop (i + r.lines * line_length - line_length) chunk) in
         let short : length l ≤ held_limit = omega (arith, length-take line_length (drop (i + r.lines * line_length - line_length) chunk)) in

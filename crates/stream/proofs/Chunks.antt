@@ -39,7 +39,7 @@ pub held_length : (held : List ℕ) (r : ℕ) → r ≤ length held → r ≡ le
 held_length held r h = sym (length-take-le r held h)
 
 pub put_length : (s : Stream) (b : ℕ) (p : Stream) → length s.held ≡ held_limit → p ≡ put s b → length p.held ≡ held_limit
-put_length s b p h e = ap (λ (q : Stream). length q.held) e ∙ length-set s.held s.progress.count b ∙ h
+put_length s b p h e = ap (λ (q : Stream). length q.held) e ∙ length-set s.held s.place.count b ∙ h
 
 -- ---------------------------------------------------------------- one byte
 -- all places are taken, or the byte is stored
@@ -47,27 +47,27 @@ store_held : (held : List ℕ) (n b : ℕ) → length held ≡ held_limit → co
 store_held held n b e = either (ltb n held_limit) (λ t. rw t) (λ t. let far : held_limit ≤ n = ltb-false n held_limit t in rw t (sym (set_out held n b (omega arith))))
 
 module _ (s : Stream) (b : ℕ) where
-  pub put_held : (n : ℕ) (held : List ℕ) → length s.held ≡ held_limit → n ≡ one_more s.progress.count → held ≡ cond (ltb s.progress.count held_limit) (set s.held s.progress.count b) s.held
-      → record { progress = at s.progress.stage s.progress.executive n; held = held } ≡ put s b
-  put_held n held h e f = rw (e, f, store_held s.held s.progress.count b h)
+  pub put_held : (n : ℕ) (held : List ℕ) → length s.held ≡ held_limit → n ≡ one_more s.place.count → held ≡ cond (ltb s.place.count held_limit) (set s.held s.place.count b) s.held
+      → record { place = at s.place.stage s.place.executive n; held = held } ≡ put s b
+  put_held n held h e f = rw (e, f, store_held s.held s.place.count b h)
 
-  fed_held : due (put s b).progress.stage (put s b).progress.count b ≡ false → feed s b ≡ record { stream = put s b; text = [] }
+  fed_held : due (put s b).place.stage (put s b).place.count b ≡ false → feed s b ≡ record { stream = put s b; text = [] }
   unfolding feed
   fed_held d = rw d
 
-  fed_due : due (put s b).progress.stage (put s b).progress.count b ≡ true → feed s b ≡ said (put s b) (turn false (put s b).progress (take (put s b).progress.count (put s b).held))
+  fed_due : due (put s b).place.stage (put s b).place.count b ≡ true → feed s b ≡ said (put s b) (turn false (put s b).place (take (put s b).place.count (put s b).held))
   unfolding feed
   fed_due d = rw d
 
   module _ (p : Stream) (e : p ≡ put s b) where
-    pub feed_held : due p.progress.stage p.progress.count b ≡ false → feed s b ≡ record { stream = p; text = [] }
+    pub feed_held : due p.place.stage p.place.count b ≡ false → feed s b ≡ record { stream = p; text = [] }
     feed_held d = fed_held (rw e at d) ∙ ap (λ (q : Stream). record { stream = q; text = [] }) (sym e)
 
-    pub feed_due : (n : ℕ) (y : Printout) → due p.progress.stage p.progress.count b ≡ true → length p.held ≡ held_limit → n ≡ min p.progress.count held_limit → y ≡ turn false p.progress (take n p.held) → feed s b ≡ said p y
+    pub feed_due : (n : ℕ) (y : Printout) → due p.place.stage p.place.count b ≡ true → length p.held ≡ held_limit → n ≡ min p.place.count held_limit → y ≡ turn false p.place (take n p.held) → feed s b ≡ said p y
     feed_due n y d h m t =
         fed_due (rw e at d)
-        ∙ ap (λ (q : Stream). said q (turn false q.progress (take q.progress.count q.held))) (sym e)
-        ∙ ap (said p) (ap (turn false p.progress) (sym (take_held p.held p.progress.count n h m)) ∙ sym t)
+        ∙ ap (λ (q : Stream). said q (turn false q.place (take q.place.count q.held))) (sym e)
+        ∙ ap (said p) (ap (turn false p.place) (sym (take_held p.held p.place.count n h m)) ∙ sym t)
 
 text_short : (b : Bool) (n : Numbers) → length (text_of b n) ≤ line_length
 text_short b n = by_test (λ (l : List ℕ). length l ≤ line_length) b (λ t. line_short n) (λ t. omega arith)
@@ -75,15 +75,15 @@ text_short b n = by_test (λ (l : List ℕ). length l ≤ line_length) b (λ t. 
 pub feed_short : (s : Stream) (b : ℕ) → length (feed s b).text ≤ line_length
 unfolding feed
 feed_short s b =
-    by_test (λ (f : Fed). length f.text ≤ line_length) (due (put s b).progress.stage (put s b).progress.count b)
-    (λ t. let y = turn false (put s b).progress (take (put s b).progress.count (put s b).held) in text_short y.prints y.numbers)
+    by_test (λ (f : Fed). length f.text ≤ line_length) (due (put s b).place.stage (put s b).place.count b)
+    (λ t. let y = turn false (put s b).place (take (put s b).place.count (put s b).held) in text_short y.prints y.numbers)
     (λ t. omega arith)
 
 feed_length : (s : Stream) (b : ℕ) → length s.held ≡ held_limit → length (feed s b).stream.held ≡ held_limit
 unfolding feed
 feed_length s b h =
-    let e : length (set s.held s.progress.count b) ≡ held_limit = length-set s.held s.progress.count b ∙ h in
-    by_test (λ (f : Fed). length f.stream.held ≡ held_limit) (due (put s b).progress.stage (put s b).progress.count b) (λ t. e) (λ t. e)
+    let e : length (set s.held s.place.count b) ≡ held_limit = length-set s.held s.place.count b ∙ h in
+    by_test (λ (f : Fed). length f.stream.held ≡ held_limit) (due (put s b).place.stage (put s b).place.count b) (λ t. e) (λ t. e)
 
 -- ---------------------------------------------------------------- the loop
 -- a run that has taken so many bytes more, for which a text is printed
@@ -173,9 +173,9 @@ module _ (s₀ : Stream) (chunk out₀ : List ℕ) (s : Stream) (i to : ℕ) (ou
         (goes_further 1 (feed s b).text (feed s b).stream (omega arith) (omega (arith, feed_short s b, k.room)) (feed_length s b k.held) unfolded))
 
 -- ---------------------------------------------------------------- the last line
-module _ (s : Stream) (out : List ℕ) (r : ℕ) (y : Printout) (h : length s.held ≡ held_limit) (m : r ≡ min s.progress.count held_limit) (c : y ≡ turn true s.progress (take r s.held)) where
+module _ (s : Stream) (out : List ℕ) (r : ℕ) (y : Printout) (h : length s.held ≡ held_limit) (m : r ≡ min s.place.count held_limit) (c : y ≡ turn true s.place (take r s.held)) where
   is_last : last s ≡ y
-  is_last = ap (turn true s.progress) (sym (take_held s.held s.progress.count r h m)) ∙ sym c
+  is_last = ap (turn true s.place) (sym (take_held s.held s.place.count r h m)) ∙ sym c
 
   pub finish_stuck : is_stuck y.prints (length out) ≡ true
       → (record { stream = s; taken = 0; printed = 0; code = line_refusal } ≡ finished_of s (length out)) × (out ≡ over (finished s (length out)).text out)
@@ -183,7 +183,7 @@ module _ (s : Stream) (out : List ℕ) (r : ℕ) (y : Printout) (h : length s.he
   finish_stuck t = rw (is_last, t) (refl, refl)
 
   pub finish_done : is_stuck y.prints (length out) ≡ false → (after : List ℕ) (k : ℕ) → Prints out 0 y.prints y.numbers k after
-      → (record { stream = record { progress = y.progress; held = s.held }; taken = 0; printed = k; code = 0 } ≡ finished_of s (length out)) × (after ≡ over (finished s (length out)).text out)
+      → (record { stream = record { place = y.place; held = s.held }; taken = 0; printed = k; code = 0 } ≡ finished_of s (length out)) × (after ≡ over (finished s (length out)).text out)
   unfolding finished closed
   finish_done t after k q = rw (is_last, t) (rw (← q.0), q.1)
 

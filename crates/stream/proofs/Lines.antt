@@ -51,17 +51,17 @@ read_held p = either (leb (length p) held_limit)
 -- of the bytes p the first ones
 pub record Holds (s : Stream) (p : List ℕ) : Type 0 where
   pub room : length s.held ≡ held_limit
-  pub count : s.progress.count ≡ length (take held_limit p)
-  pub bytes : take s.progress.count s.held ≡ take held_limit p
+  pub count : s.place.count ≡ length (take held_limit p)
+  pub bytes : take s.place.count s.held ≡ take held_limit p
 
-pub holds_none : (s : Stream) → length s.held ≡ held_limit → s.progress.count ≡ 0 → Holds s []
+pub holds_none : (s : Stream) → length s.held ≡ held_limit → s.place.count ≡ 0 → Holds s []
 holds_none s h e = record { room = h; count = rw e; bytes = rw e }
 
 pub holds_put : (s : Stream) (p : List ℕ) (b : ℕ) → Holds s p → Holds (put s b) (p ++ b ∷ [])
-holds_put s p b h = either (ltb s.progress.count held_limit) more full
+holds_put s p b h = either (ltb s.place.count held_limit) more full
   where
     n : ℕ
-    n = s.progress.count
+    n = s.place.count
 
     grown : length (p ++ b ∷ []) ≡ length p + 1
     grown = length-append p (b ∷ [])

@@ -140,6 +140,6 @@ pieces_fed (p ∷ ps) s =
 pub any_cutting : (ps : List Piece) → (pieces begun ps).text ++ (closed (pieces begun ps).stream).text ≡ replayed (pieces begun ps).bytes
 any_cutting ps = rw (pieces_fed ps begun) at (stream_printed (pieces begun ps).bytes)
 
-pub any_cutting_record : (ps : List Piece) → (closed (pieces begun ps).stream).stream.progress.executive.inner ≡ replayed_record (pieces begun ps).bytes
+pub any_cutting_record : (ps : List Piece) → (closed (pieces begun ps).stream).stream.place.executive.inner ≡ replayed_record (pieces begun ps).bytes
 any_cutting_record ps =
-    ap (λ (f : Fed). (closed f.stream).stream.progress.executive.inner) (sym (pieces_fed ps begun)) ∙ stream_record (pieces begun ps).bytes
+    ap (λ (f : Fed). (closed f.stream).stream.place.executive.inner) (sym (pieces_fed ps begun)) ∙ stream_record (pieces begun ps).bytes

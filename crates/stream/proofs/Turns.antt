@@ -16,15 +16,15 @@ use Rattle.event_lines.specs.Blocks.{roomed_line, over_at}
 use Rattle.event_lines.proofs.Blocks.{roomed_line_holds}
 use Rattle.stream.specs.declared.Stage.{Stage}
 use Rattle.stream.specs.declared.Printout.{Printout}
-use Rattle.stream.specs.declared.Progress.{Progress}
+use Rattle.stream.specs.declared.Place.{Place}
 use Rattle.stream.specs.Stream.{nothing_printed, refusal, missing, accepted, table_turn, text_of}
 
--- by the stage of a stream
+-- by the stage that a place has
 pub by_stage : (f : Stage → Printout) (a b : Stage) → a ≡ b → (y : Printout) → y ≡ f b → y ≡ f a
 by_stage f a b e y h = h ∙ ap f (sym e)
 
 -- ---------------------------------------------------------------- the table so far
-module _ (ended : Bool) (x : Progress) (text : List ℕ) (r : Opening) (e : r ≡ opened (read_table text)) where
+module _ (ended : Bool) (x : Place) (text : List ℕ) (r : Opening) (e : r ≡ opened (read_table text)) where
   same_code : (read_table text).code ≡ r.code
   same_code = sym (ap (λ (o : Opening). o.code) e)
 

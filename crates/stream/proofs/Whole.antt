@@ -56,12 +56,12 @@ module _ (s : Stream) (b : ℕ) (bs text : List ℕ) (m : Module) where
 abbrev ended_as : Stream → Fed
 ended_as s = record { stream = s; text = [] }
 
-ended_gives : (bs : List ℕ) (s : Stream) (m : Module) → s.progress.stage ≡ Ended → s.progress.executive.inner ≡ m → Gives s bs [] m
+ended_gives : (bs : List ℕ) (s : Stream) (m : Module) → s.place.stage ≡ Ended → s.place.executive.inner ≡ m → Gives s bs [] m
 unfolding fed_all closed feed
 ended_gives [] s m h e = record { prints = rw h; leaves = rw h e }
 ended_gives (b ∷ bs) s m h e =
-    either (due (put s b).progress.stage (put s b).progress.count b)
-    (λ t. gives_more s b bs [] m (ended_as (record { progress = at Ended s.progress.executive 0; held = (put s b).held })) (rw (t, h)) (ended_gives bs _ m refl e))
+    either (due (put s b).place.stage (put s b).place.count b)
+    (λ t. gives_more s b bs [] m (ended_as (record { place = at Ended s.place.executive 0; held = (put s b).held })) (rw (t, h)) (ended_gives bs _ m refl e))
     (λ t. gives_more s b bs [] m (ended_as (put s b)) (rw t) (ended_gives bs (put s b) m h e))
 
 -- ---------------------------------------------------------------- events
@@ -71,29 +71,29 @@ heard_text m l v = rw (line_in_range m l v)
 -- an event line with what is held of it
 abbrev line_done : Stream → Module → List ℕ → Fed
 line_done s m p = record {
-  stream = record { progress = at Events (record { inner = line_next m (read_line p) }) 0; held = s.held };
+  stream = record { place = at Events (record { inner = line_next m (read_line p) }) 0; held = s.held };
   text = line_text (line_answer m (read_line p));
 }
 
-line_done_holds : (s : Stream) (m : Module) (p : List ℕ) → s.progress.executive.inner ≡ m → ValidModule m → Holds s p
-    → said s (event_turn s.progress (take s.progress.count s.held)) ≡ line_done s m p
+line_done_holds : (s : Stream) (m : Module) (p : List ℕ) → s.place.executive.inner ≡ m → ValidModule m → Holds s p
+    → said s (event_turn s.place (take s.place.count s.held)) ≡ line_done s m p
 line_done_holds s m p own v h = rw (h.bytes, read_held p, own, heard_text m (read_line p) v)
 
-event_feed : (s : Stream) (m : Module) (p : List ℕ) (b : ℕ) → s.progress.stage ≡ Events → s.progress.executive.inner ≡ m → ValidModule m → Holds s p
+event_feed : (s : Stream) (m : Module) (p : List ℕ) (b : ℕ) → s.place.stage ≡ Events → s.place.executive.inner ≡ m → ValidModule m → Holds s p
     → eqb b line_feed ≡ true → feed s b ≡ line_done (put s b) m (p ++ b ∷ [])
 unfolding feed
 event_feed s m p b st own v h e = rw (e, st) (rw st at (line_done_holds (put s b) m (p ++ b ∷ []) own v (holds_put s p b h)))
 
-event_close : (s : Stream) (m : Module) (b : ℕ) (q : List ℕ) → s.progress.stage ≡ Events → s.progress.executive.inner ≡ m → ValidModule m → Holds s (b ∷ q)
+event_close : (s : Stream) (m : Module) (b : ℕ) (q : List ℕ) → s.place.stage ≡ Events → s.place.executive.inner ≡ m → ValidModule m → Holds s (b ∷ q)
     → closed s ≡ line_done s m (b ∷ q)
 unfolding closed
 event_close s m b q st own v h =
-    let some : length (take s.progress.count s.held) ≡ 0 → ⊥ = λ e. omega (arith, ap length h.bytes, length-take held_limit (b ∷ q)) in
+    let some : length (take s.place.count s.held) ≡ 0 → ⊥ = λ e. omega (arith, ap length h.bytes, length-take held_limit (b ∷ q)) in
     rw (st, ne_eqb _ 0 some) (line_done_holds s m (b ∷ q) own v h)
 
 -- the events after an accepted table; p are bytes of the line so far
 abbrev EventsGive : List ℕ → Type 0
-EventsGive bs = (s : Stream) (m : Module) (p : List ℕ) → s.progress.stage ≡ Events → s.progress.executive.inner ≡ m → ValidModule m → Holds s p → no_feed p ≡ true
+EventsGive bs = (s : Stream) (m : Module) (p : List ℕ) → s.place.stage ≡ Events → s.place.executive.inner ≡ m → ValidModule m → Holds s p → no_feed p ≡ true
     → Gives s bs (texts (replies line_next line_answer m (map read_line (lines (p ++ bs))))) (final line_next line_answer m (map read_line (lines (p ++ bs))))
 
 event_fed : (b : ℕ) (bs : List ℕ) → EventsGive bs → eqb b line_feed ≡ true → EventsGive (b ∷ bs)
@@ -113,14 +113,14 @@ event_held b bs next e s m p st own v h u =
     rw (← append_snoc p b bs)
     (gives_more s b bs _ _ (ended_as (put s b)) (rw (e, st)) (next (put s b) m (p ++ b ∷ []) st own v (holds_put s p b h) (unfed_more p b u e)))
 
-events_none : (s : Stream) (m : Module) → s.progress.stage ≡ Events → s.progress.executive.inner ≡ m → Holds s [] → Gives s [] [] m
+events_none : (s : Stream) (m : Module) → s.place.stage ≡ Events → s.place.executive.inner ≡ m → Holds s [] → Gives s [] [] m
 unfolding fed_all closed
 events_none s m st own h = record { prints = rw (st, h.bytes); leaves = rw (st, h.bytes) own }
 
-events_last : (s : Stream) (m : Module) (b : ℕ) (q : List ℕ) → s.progress.stage ≡ Events → s.progress.executive.inner ≡ m → ValidModule m → Holds s (b ∷ q)
+events_last : (s : Stream) (m : Module) (b : ℕ) (q : List ℕ) → s.place.stage ≡ Events → s.place.executive.inner ≡ m → ValidModule m → Holds s (b ∷ q)
     → Gives s [] (line_text (line_answer m (read_line (b ∷ q)))) (line_next m (read_line (b ∷ q)))
 unfolding fed_all
-events_last s m b q st own v h = let c = event_close s m b q st own v h in record { prints = ap (λ (f : Fed). f.text) c; leaves = ap (λ (f : Fed). f.stream.progress.executive.inner) c }
+events_last s m b q st own v h = let c = event_close s m b q st own v h in record { prints = ap (λ (f : Fed). f.text) c; leaves = ap (λ (f : Fed). f.stream.place.executive.inner) c }
 
 no_lines : lines [] ≡ []
 unfolding lines
@@ -170,46 +170,46 @@ module _ (input : List ℕ) (r : Reading) (same : read_table input ≡ r) (bad :
   refused_record = rw (same, ne_eqb r.code 0 bad) (sym (ap (λ (x : Reading). x.state) same) ∙ refused_state input (λ e. bad (sym (ap (λ (x : Reading). x.code) same) ∙ e)))
 
 abbrev refused_as : Stream → List ℕ → Fed
-refused_as s p = record { stream = record { progress = at Ended s.progress.executive 0; held = s.held }; text = bad_table_line (read_table p) }
+refused_as s p = record { stream = record { place = at Ended s.place.executive 0; held = s.held }; text = bad_table_line (read_table p) }
 
 -- the table p is looked at
-module _ (s : Stream) (p : List ℕ) (stage : s.progress.stage ≡ Table) (own : s.progress.executive.inner ≡ empty_module) (h : Holds s p) (short : length p ≤ held_limit) where
-  text_held : take s.progress.count s.held ≡ p
+module _ (s : Stream) (p : List ℕ) (stage : s.place.stage ≡ Table) (own : s.place.executive.inner ≡ empty_module) (h : Holds s p) (short : length p ≤ held_limit) where
+  text_held : take s.place.count s.held ≡ p
   text_held = h.bytes ∙ take_all held_limit p short
 
-  turn_refused : ((read_table p).code ≡ 0 → ⊥) → missing (read_table p).code (read_table p).value (length p) ≡ false → said s (turn false s.progress (take s.progress.count s.held)) ≡ refused_as s p
+  turn_refused : ((read_table p).code ≡ 0 → ⊥) → missing (read_table p).code (read_table p).value (length p) ≡ false → said s (turn false s.place (take s.place.count s.held)) ≡ refused_as s p
   turn_refused bad m = rw (stage, text_held, ne_eqb _ 0 bad, m, refused_text p)
 
   close_refused : ((read_table p).code ≡ 0 → ⊥) → closed s ≡ refused_as s p
   unfolding closed
   close_refused bad = rw (stage, text_held, ne_eqb _ 0 bad, refused_text p)
 
-  turn_missing : ((read_table p).code ≡ 0 → ⊥) → missing (read_table p).code (read_table p).value (length p) ≡ true → said s (turn false s.progress (take s.progress.count s.held)) ≡ ended_as s
+  turn_missing : ((read_table p).code ≡ 0 → ⊥) → missing (read_table p).code (read_table p).value (length p) ≡ true → said s (turn false s.place (take s.place.count s.held)) ≡ ended_as s
   turn_missing bad m = rw (stage, text_held, ne_eqb _ 0 bad, m)
 
-  turn_accepted : (read_table p).code ≡ 0 → said s (turn false s.progress (take s.progress.count s.held))
-      ≡ ended_as (record { progress = at Events (record { inner = (read_table p).state }) 0; held = s.held })
+  turn_accepted : (read_table p).code ≡ 0 → said s (turn false s.place (take s.place.count s.held))
+      ≡ ended_as (record { place = at Events (record { inner = (read_table p).state }) 0; held = s.held })
   turn_accepted good = rw (stage, text_held, eq-eqb _ 0 good)
 
   rest_refused : (bs : List ℕ) → Gives (refused_as s p).stream bs [] empty_module
   rest_refused bs = ended_gives bs (refused_as s p).stream empty_module refl own
 
 -- ---------------------------------------------------------------- one more byte of a table
-module _ (s : Stream) (p : List ℕ) (b : ℕ) (bs : List ℕ) (stage : s.progress.stage ≡ Table) (own : s.progress.executive.inner ≡ empty_module) (h : Holds s p) (short : length p < held_limit) where
+module _ (s : Stream) (p : List ℕ) (b : ℕ) (bs : List ℕ) (stage : s.place.stage ≡ Table) (own : s.place.executive.inner ≡ empty_module) (h : Holds s p) (short : length p < held_limit) where
   grown : length (p ++ b ∷ []) ≡ length p + 1
   grown = length-append p (b ∷ [])
 
   on : Holds (put s b) (p ++ b ∷ [])
   on = holds_put s p b h
 
-  counted : (put s b).progress.count ≡ length p + 1
+  counted : (put s b).place.count ≡ length p + 1
   counted = on.count ∙ ap length (take_all held_limit (p ++ b ∷ []) (omega (arith, grown))) ∙ grown
 
   abbrev seen : Reading
   seen = read_table (p ++ b ∷ [])
 
   -- the table is looked at, and refused
-  byte_refused : due Table (put s b).progress.count b ≡ true → (seen.code ≡ 0 → ⊥) → missing seen.code seen.value (length p + 1) ≡ false → read_table (p ++ b ∷ bs) ≡ seen → Replays s (b ∷ bs) (p ++ b ∷ bs)
+  byte_refused : due Table (put s b).place.count b ≡ true → (seen.code ≡ 0 → ⊥) → missing seen.code seen.value (length p + 1) ≡ false → read_table (p ++ b ∷ bs) ≡ seen → Replays s (b ∷ bs) (p ++ b ∷ bs)
   unfolding feed
   byte_refused d bad m same =
       rw (refused_replay (p ++ b ∷ bs) seen same bad, refused_record (p ++ b ∷ bs) seen same bad)
@@ -218,21 +218,21 @@ module _ (s : Stream) (p : List ℕ) (b : ℕ) (bs : List ℕ) (stage : s.progre
       (rest_refused (put s b) (p ++ b ∷ []) stage own on (omega (arith, grown)) bs)))
 
   -- it goes on
-  byte_missing : due Table (put s b).progress.count b ≡ true → (seen.code ≡ 0 → ⊥) → missing seen.code seen.value (length p + 1) ≡ true → Replays (put s b) bs (p ++ b ∷ bs) → Replays s (b ∷ bs) (p ++ b ∷ bs)
+  byte_missing : due Table (put s b).place.count b ≡ true → (seen.code ≡ 0 → ⊥) → missing seen.code seen.value (length p + 1) ≡ true → Replays (put s b) bs (p ++ b ∷ bs) → Replays s (b ∷ bs) (p ++ b ∷ bs)
   unfolding feed
   byte_missing d bad m g =
       gives_more s b bs _ _ (ended_as (put s b)) (rw (stage, d) (rw stage at (turn_missing (put s b) (p ++ b ∷ []) stage own on (omega (arith, grown)) bad (rw (← grown) at m)))) g
 
   -- it is not looked at
-  byte_held : due Table (put s b).progress.count b ≡ false → Replays (put s b) bs (p ++ b ∷ bs) → Replays s (b ∷ bs) (p ++ b ∷ bs)
+  byte_held : due Table (put s b).place.count b ≡ false → Replays (put s b) bs (p ++ b ∷ bs) → Replays s (b ∷ bs) (p ++ b ∷ bs)
   unfolding feed
   byte_held d g = gives_more s b bs _ _ (ended_as (put s b)) (rw (stage, d)) g
 
   -- it is accepted, and the events follow
-  byte_accepted : due Table (put s b).progress.count b ≡ true → seen.code ≡ 0 → read_table (p ++ b ∷ bs) ≡ seen → drop seen.lines (map read_line (lines (p ++ b ∷ bs))) ≡ map read_line (lines bs) → Replays s (b ∷ bs) (p ++ b ∷ bs)
+  byte_accepted : due Table (put s b).place.count b ≡ true → seen.code ≡ 0 → read_table (p ++ b ∷ bs) ≡ seen → drop seen.lines (map read_line (lines (p ++ b ∷ bs))) ≡ map read_line (lines bs) → Replays s (b ∷ bs) (p ++ b ∷ bs)
   unfolding feed replayed replayed_record no_feed
   byte_accepted d good same events =
-      let x : Stream = record { progress = at Events (record { inner = seen.state }) 0; held = (put s b).held } in
+      let x : Stream = record { place = at Events (record { inner = seen.state }) 0; held = (put s b).held } in
       rw (same, eq-eqb _ 0 good, events)
       (gives_more s b bs _ _ (ended_as x) (rw (stage, d) (rw stage at (turn_accepted (put s b) (p ++ b ∷ []) stage own on (omega (arith, grown)) good)))
       (events_gives bs x seen.state [] refl refl (reached_valid _ (Reached.read (p ++ b ∷ []))) (holds_none x on.room refl) refl))
@@ -356,7 +356,7 @@ module _ (p : List ℕ) (t : TableHeld p) where
 -- ---------------------------------------------------------------- a table and what follows
 -- p are the bytes of the table so far
 abbrev TableGives : List ℕ → Type 0
-TableGives bs = (s : Stream) (p : List ℕ) → s.progress.stage ≡ Table → s.progress.executive.inner ≡ empty_module → Holds s p → length p < held_limit → TableHeld p → Replays s bs (p ++ bs)
+TableGives bs = (s : Stream) (p : List ℕ) → s.place.stage ≡ Table → s.place.executive.inner ≡ empty_module → Holds s p → length p < held_limit → TableHeld p → Replays s bs (p ++ bs)
 
 table_ends : TableGives []
 unfolding fed_all
@@ -366,7 +366,7 @@ table_ends s p st own h short t =
     rw append-nil
     (record {
       prints = ap (λ (f : Fed). f.text) c ∙ sym (refused_replay p (read_table p) refl bad);
-      leaves = ap (λ (f : Fed). f.stream.progress.executive.inner) c ∙ own ∙ sym (refused_record p (read_table p) refl bad);
+      leaves = ap (λ (f : Fed). f.stream.place.executive.inner) c ∙ own ∙ sym (refused_record p (read_table p) refl bad);
     })
 
 not_missing : (code value n : ℕ) → (code ≡ line_refusal → value * line_length ≡ n + line_length → ⊥) → missing code value n ≡ false
@@ -419,21 +419,21 @@ table_fed bs next s p st own h short t = go ((known p t).next (line p t))
 table_held : (b : ℕ) (bs : List ℕ) → TableGives bs → eqb b line_feed ≡ false → TableGives (b ∷ bs)
 unfolding held_more
 table_held b bs next e s p st own h short t =
-    either (leb held_limit (put s b).progress.count) full (λ l.
+    either (leb held_limit (put s b).place.count) full (λ l.
     byte_held s p b bs st own h short (rw (e, l))
-    (rw (← append_snoc p b bs) (next (put s b) (p ++ b ∷ []) st own (holds_put s p b h) (omega (arith, leb-false held_limit (put s b).progress.count l, counted s p b bs st own h short, grown s p b bs st own h short)) k)))
+    (rw (← append_snoc p b bs) (next (put s b) (p ++ b ∷ []) st own (holds_put s p b h) (omega (arith, leb-false held_limit (put s b).place.count l, counted s p b bs st own h short, grown s p b bs st own h short)) k)))
   where
     k : TableHeld (p ++ b ∷ [])
     k = held_more p t b e
 
-    full : leb held_limit (put s b).progress.count ≡ true → Replays s (b ∷ bs) (p ++ b ∷ bs)
+    full : leb held_limit (put s b).place.count ≡ true → Replays s (b ∷ bs) (p ++ b ∷ bs)
     full l =
         let n = counted s p b bs st own h short in
-        let long : line_length ≤ length k.rest = omega (arith, leb-true held_limit (put s b).progress.count l, n, grown s p b bs st own h short, size_p (p ++ b ∷ []) k, (known (p ++ b ∷ []) k).short, count_xs (p ++ b ∷ []) k) in
+        let long : line_length ≤ length k.rest = omega (arith, leb-true held_limit (put s b).place.count l, n, grown s p b bs st own h short, size_p (p ++ b ∷ []) k, (known (p ++ b ∷ []) k).short, count_xs (p ++ b ∷ []) k) in
         let one : read_table (p ++ b ∷ []) ≡ refused_table line_refusal (length (xs p t) + 1) = rw append-nil at (long_read (p ++ b ∷ []) k [] long) in
         let all : read_table (p ++ b ∷ bs) ≡ refused_table line_refusal (length (xs p t) + 1) = rw (append_snoc p b bs) at (long_read (p ++ b ∷ []) k bs long) in
         byte_refused s p b bs st own h short (rw (e, l)) (λ c. omega (arith, ap (λ (r : Reading). r.code) one))
-        (not_missing (read_table (p ++ b ∷ [])).code (read_table (p ++ b ∷ [])).value (length p + 1) (λ c v. omega (arith, ap (λ (r : Reading). r.value) one, v, (known p t).short, leb-true held_limit (put s b).progress.count l, n)))
+        (not_missing (read_table (p ++ b ∷ [])).code (read_table (p ++ b ∷ [])).value (length p + 1) (λ c v. omega (arith, ap (λ (r : Reading). r.value) one, v, (known p t).short, leb-true held_limit (put s b).place.count l, n)))
         (all ∙ sym one)
 
 table_gives : (bs : List ℕ) → TableGives bs

@@ -11,7 +11,7 @@ use Rattle.executive.specs.declared.Executive.{Executive}
 use Rattle.event_lines.specs.Blocks.{printed_line}
 use Rattle.stream.specs.declared.Stage.{Stage}
 use Rattle.stream.specs.declared.Stage.TheVariants.{Table, Events, Ended}
-use Rattle.stream.specs.declared.Progress.{Progress}
+use Rattle.stream.specs.declared.Place.{Place}
 use Rattle.stream.specs.declared.Printout.{Printout}
 use Rattle.stream.specs.declared.Stream.{Stream}
 use Rattle.stream.specs.declared.Advance.{Advance}
@@ -23,21 +23,21 @@ held_limit = (1 + window_limit + channel_limit) * line_length
 -- before the first byte: no table yet, so the empty record
 abbrev pub begun : Stream
 begun = record {
-  progress = record { stage = Table; executive = record { inner = empty_module }; count = 0 };
+  place = record { stage = Table; executive = record { inner = empty_module }; count = 0 };
   held = replicate held_limit 0;
 }
 
 -- ---------------------------------------------------------------- a line is complete
-abbrev pub at : Stage → Executive → ℕ → Progress
+abbrev pub at : Stage → Executive → ℕ → Place
 at s e n = record { stage = s; executive = e; count = n }
 
 -- nothing is printed
-abbrev pub nothing_printed : Progress → Printout
-nothing_printed x = record { progress = x; prints = false; numbers = numbers_of [] }
+abbrev pub nothing_printed : Place → Printout
+nothing_printed x = record { place = x; prints = false; numbers = numbers_of [] }
 
 -- A bad table prints one line: code, line number, four 0, and ends there.
-abbrev pub refusal : Progress → ℕ → ℕ → Printout
-refusal x code value = record { progress = at Ended x.executive 0; prints = true; numbers = numbers_of (refusal_numbers code value) }
+abbrev pub refusal : Place → ℕ → ℕ → Printout
+refusal x code value = record { place = at Ended x.executive 0; prints = true; numbers = numbers_of (refusal_numbers code value) }
 
 -- so many bytes are good lines, and the table's next line is missing
 abbrev pub missing : ℕ → ℕ → ℕ → Bool
@@ -47,30 +47,30 @@ abbrev pub accepted : Executive → Printout
 accepted e = nothing_printed (at Events e 0)
 
 -- the table so far is accepted, or goes on, or is refused; at the input's end it does not go on
-abbrev pub table_turn : Bool → Progress → List ℕ → Printout
+abbrev pub table_turn : Bool → Place → List ℕ → Printout
 table_turn ended x text =
     let r = read_table text in
     cond (eqb r.code 0) (accepted (record { inner = r.state }))
     (cond (not ended && missing r.code r.value (length text)) (nothing_printed x) (refusal x r.code r.value))
 
 -- one answer line per event, 11 too
-abbrev pub event_turn : Progress → List ℕ → Printout
+abbrev pub event_turn : Place → List ℕ → Printout
 event_turn x text =
     let m = x.executive.inner in
     let l = read_line text in
-    record { progress = at Events (record { inner = line_next m l }) 0; prints = true; numbers = numbers_of (line_answer m l) }
+    record { place = at Events (record { inner = line_next m l }) 0; prints = true; numbers = numbers_of (line_answer m l) }
 
 -- bytes after the last LF are a line; nothing after it is none
-abbrev pub events_turn : Bool → Progress → List ℕ → Printout
+abbrev pub events_turn : Bool → Place → List ℕ → Printout
 events_turn ended x text = cond (ended && eqb (length text) 0) (nothing_printed x) (event_turn x text)
 
 -- a line is complete, or the input has ended
-abbrev pub turn_in : Bool → Stage → Progress → List ℕ → Printout
+abbrev pub turn_in : Bool → Stage → Place → List ℕ → Printout
 turn_in ended Table x text = table_turn ended x text
 turn_in ended Events x text = events_turn ended x text
 turn_in ended Ended x text = nothing_printed (at Ended x.executive 0)
 
-abbrev pub turn : Bool → Progress → List ℕ → Printout
+abbrev pub turn : Bool → Place → List ℕ → Printout
 turn ended x text = turn_in ended x.stage x text
 
 -- ---------------------------------------------------------------- one byte
@@ -84,14 +84,14 @@ abbrev pub text_of : Bool → Numbers → List ℕ
 text_of prints n = cond prints (printed_line (number_list n)) []
 
 abbrev pub said : Stream → Printout → Fed
-said s y = record { stream = record { progress = y.progress; held = s.held }; text = text_of y.prints y.numbers }
+said s y = record { stream = record { place = y.place; held = s.held }; text = text_of y.prints y.numbers }
 
 -- the byte is held; past the limit none is
 abbrev pub one_more : ℕ → ℕ
 one_more n = cond (ltb n held_limit) (n + 1) n
 
 abbrev pub put : Stream → ℕ → Stream
-put s b = record { progress = at s.progress.stage s.progress.executive (one_more s.progress.count); held = set s.held s.progress.count b }
+put s b = record { place = at s.place.stage s.place.executive (one_more s.place.count); held = set s.held s.place.count b }
 
 abbrev pub is_table : Stage → Bool
 is_table Table = true
@@ -117,7 +117,7 @@ due stage n b = eqb b line_feed || (is_table stage && leb held_limit n)
 unfoldable pub feed : Stream → ℕ → Fed
 feed s b =
     let p = put s b in
-    cond (due p.progress.stage p.progress.count b) (said p (turn false p.progress (take p.progress.count p.held))) (record { stream = p; text = [] })
+    cond (due p.place.stage p.place.count b) (said p (turn false p.place (take p.place.count p.held))) (record { stream = p; text = [] })
 
 -- ---------------------------------------------------------------- a chunk
 pub record Run : Type 0 where
@@ -146,7 +146,7 @@ advanced s room chunk = let r = run s room chunk in advance_of r (ltb r.taken (l
 
 -- the last line
 abbrev pub last : Stream → Printout
-last s = turn true s.progress (take s.progress.count s.held)
+last s = turn true s.place (take s.place.count s.held)
 
 unfoldable pub closed : Stream → Fed
 closed s = said s (last s)
@@ -176,7 +176,7 @@ abbrev pub streamed : Stream → List ℕ → List ℕ
 streamed s input = (fed_all s input).text ++ (closed (fed_all s input).stream).text
 
 abbrev pub stream_end : Stream → List ℕ → Module
-stream_end s input = (closed (fed_all s input).stream).stream.progress.executive.inner
+stream_end s input = (closed (fed_all s input).stream).stream.place.executive.inner
 
 -- An input in pieces: a chunk each, with room for output. What is taken of all of them, and what is printed for it.
 pub record Piece : Type 0 where

@@ -25,7 +25,7 @@ pub enum Stage {
 
 // Where a replay stands: its stage, its executive, and how many bytes it holds.
 #[derive(Drop)]
-pub struct Progress {
+pub struct Place {
     stage: Stage,
     executive: Executive,
     count: usize,
@@ -33,7 +33,7 @@ pub struct Progress {
 
 #[derive(Drop)]
 pub struct Stream {
-    progress: Progress,
+    place: Place,
     held: [u8; HELD],
 }
 
@@ -50,7 +50,7 @@ pub struct Advance {
 // Where a line leads, and the numbers that it prints, if it does.
 #[derive(Drop)]
 struct Printout {
-    progress: Progress,
+    place: Place,
     prints: bool,
     numbers: Numbers,
 }
@@ -68,11 +68,11 @@ fn no_numbers() -> Numbers
     }
 }
 
-fn print_nothing(progress: Progress) -> Printout
-    ensures { result ≡ nothing_printed progress }
+fn print_nothing(place: Place) -> Printout
+    ensures { result ≡ nothing_printed place }
 {
     Printout {
-        progress,
+        place,
         prints: false,
         numbers: no_numbers(),
     }
@@ -82,7 +82,7 @@ fn print_nothing(progress: Progress) -> Printout
 fn accept(executive: Executive) -> Printout
     ensures { result ≡ accepted executive }
 {
-    print_nothing(Progress {
+    print_nothing(Place {
         stage: Stage::Events,
         executive,
         count: 0,
@@ -90,12 +90,12 @@ fn accept(executive: Executive) -> Printout
 }
 
 // A bad table prints one line and ends there.
-fn refuse(x: Progress, code: u8, value: u32) -> Printout
+fn refuse(x: Place, code: u8, value: u32) -> Printout
     ensures { result ≡ refusal x code value }
 {
     let executive = x.executive;
     Printout {
-        progress: Progress {
+        place: Place {
             stage: Stage::Ended,
             executive,
             count: 0,
@@ -125,7 +125,7 @@ fn is_awaited(ended: bool, code: u8, value: u32, n: usize) -> bool
 }
 
 // The table so far.
-fn table_turn(ended: bool, x: Progress, text: &[u8]) -> Printout
+fn table_turn(ended: bool, x: Place, text: &[u8]) -> Printout
     requires { length text.now ≤ held_limit }
     ensures { result ≡ table_turn ended x text.now }
 {
@@ -141,7 +141,7 @@ fn table_turn(ended: bool, x: Progress, text: &[u8]) -> Printout
 }
 
 // ---------------------------------------------------------------- events
-fn event_turn(x: Progress, text: &[u8]) -> Printout
+fn event_turn(x: Place, text: &[u8]) -> Printout
     ensures { result ≡ event_turn x text.now }
 {
     let e = x.executive;
@@ -149,7 +149,7 @@ fn event_turn(x: Progress, text: &[u8]) -> Printout
     let executive = h.executive;
     let answer = h.answer;
     Printout {
-        progress: Progress {
+        place: Place {
             stage: Stage::Events,
             executive,
             count: 0,
@@ -160,7 +160,7 @@ fn event_turn(x: Progress, text: &[u8]) -> Printout
 }
 
 // Bytes after the last LF are a line; nothing after it is none.
-fn events_turn(ended: bool, x: Progress, text: &[u8]) -> Printout
+fn events_turn(ended: bool, x: Place, text: &[u8]) -> Printout
     ensures { result ≡ events_turn ended x text.now }
 {
     if ended && text.len() == 0 {
@@ -171,7 +171,7 @@ fn events_turn(ended: bool, x: Progress, text: &[u8]) -> Printout
 
 // ---------------------------------------------------------------- by stage
 // A line is complete, or the input has ended.
-fn turn_of(ended: bool, x: Progress, text: &[u8]) -> Printout
+fn turn_of(ended: bool, x: Place, text: &[u8]) -> Printout
     requires { length text.now ≤ held_limit }
     ensures { result ≡ turn ended x text.now }
 {
@@ -179,7 +179,7 @@ fn turn_of(ended: bool, x: Progress, text: &[u8]) -> Printout
     match stage {
         Stage::Table => table_turn(ended, x, text),
         Stage::Events => events_turn(ended, x, text),
-        Stage::Ended => print_nothing(Progress { count: 0, ..x }),
+        Stage::Ended => print_nothing(Place { count: 0, ..x }),
     }
 }
 
@@ -274,7 +274,7 @@ impl Stream {
         let r = Executive::open(&held[..0]);
         let executive = r.executive;
         Stream {
-            progress: Progress {
+            place: Place {
                 stage: Stage::Table,
                 executive,
                 count: 0,
@@ -289,7 +289,7 @@ impl Stream {
         ensures { (result ≡ advanced self (length out.old) chunk.now) × (out.new ≡ over (run self (length out.old) chunk.now).text out.old) }
     {
         let mut held = self.held;
-        let mut x = self.progress;
+        let mut x = self.place;
         let mut at: usize = 0;
         let mut to: usize = 0;
         while at < chunk.len() {
@@ -315,12 +315,12 @@ impl Stream {
                 let n = held_count(x.count);
                 let y = turn_of(false, x, &held[..n]);
                 to += print(out, to, y.prints, y.numbers);
-                let next = y.progress;
+                let next = y.place;
                 x = next;
             }
         }
         Advance {
-            stream: Stream { progress: x, held },
+            stream: Stream { place: x, held },
             taken: at,
             printed: to,
             code: left_code(at < chunk.len()),
@@ -331,7 +331,7 @@ impl Stream {
     pub fn finish(self, out: &mut [u8]) -> Advance
         ensures { (result ≡ finished_of self (length out.old)) × (out.new ≡ over (finished self (length out.old)).text out.old) }
     {
-        let x = self.progress;
+        let x = self.place;
         let held = self.held;
         let n = held_count(x.count);
         let y = turn_of(true, x, &held[..n]);
@@ -345,9 +345,9 @@ impl Stream {
         }
         let numbers = y.numbers;
         let printed = print(out, 0, y.prints, numbers);
-        let progress = y.progress;
+        let place = y.place;
         Advance {
-            stream: Stream { progress, held },
+            stream: Stream { place, held },
             taken: 0,
             printed,
             code: 0,
@@ -356,9 +356,9 @@ impl Stream {
 
     // Whether nothing more is read: after a refused table.
     pub fn is_ended(self) -> bool
-        ensures { result ≡ is_ended self.progress.stage }
+        ensures { result ≡ is_ended self.place.stage }
     {
-        let x = self.progress;
+        let x = self.place;
         let stage = x.stage;
         match stage {
             Stage::Table => false,
@@ -369,9 +369,9 @@ impl Stream {
 
     // The executive after the lines so far.
     pub fn executive(self) -> Executive
-        ensures { result ≡ self.progress.executive }
+        ensures { result ≡ self.place.executive }
     {
-        let x = self.progress;
+        let x = self.place;
         x.executive
     }
 }

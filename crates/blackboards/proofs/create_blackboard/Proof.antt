@@ -2,7 +2,7 @@ use mathlib.Core.Path.{refl, sym, ◌∙◌}
 use native.Mathlib.Omega.{arith}
 use Rattle.machine.specs.Blackboards.{create_blackboard}
 use Rattle.decisions.proofs.Laws.{refused_code, passed_code, admitted_code}
-use Rattle.decisions.proofs.Laws.{named_low}
+use Rattle.objects.proofs.Laws.{named_low}
 use borrow.Author.Rules.{rules}
 use Rattle.blackboards.proofs.create_blackboard.Statement.{statement}
 use Rattle.blackboards.proofs.create_blackboard.Tie as tie

@@ -4,7 +4,7 @@ use Rattle.machine.specs.Decisions.{awaiting}
 use Rattle.machine.specs.Blackboards.{read_blackboard}
 use Rattle.machine.proofs.Tests.{Passed}
 use Rattle.decisions.proofs.Laws.{by_code}
-use Rattle.decisions.proofs.Laws.{short_known}
+use Rattle.objects.proofs.Laws.{short_known}
 use Rattle.blackboards.proofs.read_blackboard.Statement.{statement}
 use Rattle.blackboards.proofs.read_blackboard.Tie as tie
 

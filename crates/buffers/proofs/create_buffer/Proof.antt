@@ -6,7 +6,7 @@ use Rattle.machine.specs.Buffers.{create_buffer}
 use Rattle.machine.proofs.Tests.{and_left, and_right}
 use Rattle.machine.proofs.Fields.{in_limits}
 use Rattle.decisions.proofs.Laws.{refused_code, passed_code, admitted_code}
-use Rattle.decisions.proofs.Laws.{named_low}
+use Rattle.objects.proofs.Laws.{named_low}
 use borrow.Author.Rules.{rules}
 use Rattle.buffers.proofs.create_buffer.Statement.{statement}
 use Rattle.buffers.proofs.create_buffer.Tie as tie

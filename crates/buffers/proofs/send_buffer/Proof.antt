@@ -4,7 +4,7 @@ use Rattle.machine.specs.Decisions.{awaiting}
 use Rattle.machine.specs.Buffers.{send_buffer}
 use Rattle.machine.proofs.Tests.{Passed}
 use Rattle.decisions.proofs.Laws.{by_code}
-use Rattle.decisions.proofs.Laws.{short_known}
+use Rattle.objects.proofs.Laws.{short_known}
 use Rattle.buffers.proofs.send_buffer.Statement.{statement}
 use Rattle.buffers.proofs.send_buffer.Tie as tie
 

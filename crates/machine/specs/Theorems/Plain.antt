@@ -34,13 +34,12 @@ use Rattle.machine.specs.Messages.{held, queue_of, ends_wait}
 use Rattle.machine.specs.Process.{blank_process, later, carried, ready, on_object, waits_for_nothing, entered}
 use Rattle.machine.specs.Partition.{normal_mode, nothing_created, no_semaphore, no_event, no_buffer, no_blackboard, process, semaphore, event, buffer, blackboard, empty_buffer, with_mode, with_lock, with_processes, with_semaphores, with_events, with_buffers, with_blackboards, waiters}
 use Rattle.machine.specs.Decisions.{reply_of, unknown}
-use Rattle.machine.specs.Semaphores.{one_more}
+use Rattle.machine.specs.Objects.{one_more}
 use Rattle.machine.specs.Windows.{windows, any_window, flagged_for, starts_from, first_start, ahead_of, next_start, covering, lookup, release_point}
 use Rattle.machine.specs.Table.{has_flagged}
 use Rattle.machine.specs.Module.{empty_module, channel, part, queue, with_part, with_message, with_queue}
 use Rattle.machine.specs.Ticks.{partition_count}
-use Rattle.machine.specs.Channels.{queuing, other_end, leads_into, erased_to}
-use Rattle.machine.specs.Queuing.{admitted}
+use Rattle.machine.specs.Channels.{queuing, other_end, leads_into, erased_to, admitted}
 use Rattle.machine.specs.Step.{decision, answer_to, step}
 use Rattle.machine.specs.Theorems.Valid.{Between, plain_later}
 

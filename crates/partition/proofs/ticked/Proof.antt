@@ -1,13 +1,13 @@
-use Prim.Native.Nat.{◌+◌, ◌-◌, ◌≤◌, ◌<◌}
+use Prim.Native.Nat.{ℕ, ◌+◌, ◌-◌, ◌≤◌}
 use mathlib.Core.Path.{◌≡◌, refl, sym, ap, ◌∙◌}
+use mathlib.Core.Logic.{⊎_elim}
 use native.Mathlib.Omega.{arith}
 use borrow.Author.Rules.{rules}
-use Rattle.machine.specs.Limits.{process_limit}
-use Rattle.machine.specs.Process.{blank_process, ticked}
-use Rattle.machine.specs.Partition.{stored, each_from}
-use Rattle.machine.proofs.Bounds.{stored_out}
+use borrow.Author.Tests.{eq-eqb, ne_eqb}
+use Rattle.machine.specs.Process.{ticked}
+use Rattle.machine.specs.Partition.{each_from, tick_partition}
 use Rattle.machine.proofs.Folds.{each_more, each_done}
-use Rattle.partition.proofs.Laws.{each_start, named_at, slot_out, stored_at, untouched, tick_counted}
+use Rattle.partition.proofs.Laws.{each_start, read_in, read_out, untouched}
 use Rattle.partition.proofs.ticked.Statement.{statement}
 use Rattle.partition.proofs.ticked.Tie as tie
 
@@ -17,45 +17,36 @@ invariant_loop t n q₀ id₀ q id = (id ≤ n) × (each_from (ticked t) (n - id
 abbrev decreases_loop : tie.decreases-loop
 decreases_loop t n q₀ id₀ q id = n - id
 
+returns : tie.Need-returns invariant_loop decreases_loop
+unfolding tick_partition
+returns c = rw (ne_eqb _ _ c.if1.true)
+
 loop_holds : tie.Need-loop-init invariant_loop decreases_loop
 loop_holds c = (omega arith, each_start _ _ 0 _ refl)
 
-loop_less : tie.Need-loop-smaller invariant_loop decreases_loop
-loop_less c = omega (arith, c.before.before.before.before.before.before.before.before.before.before.loop-test.true)
-
 loop_again : tie.Need-loop-preserved invariant_loop decreases_loop
 loop_again c =
-    let l = c.before.before.before.before.before.before.before.before.before.before.before.loop in
-    let t = c.before.before.before.before.before.before.before.before.before.before.before.before.before.args.t in
-    let id = l.id + 1 in
-    let k = c.before.before.before.before.before.before.before.before.before.slot in
-    let more : l.id < c.before.before.before.before.before.before.before.before.before.before.before.before.touched-count.result = omega (arith, c.before.before.before.before.before.before.before.before.before.before.loop-test.true) in
-    let h = c.before.before.before.before.before.before.before.before.if1.true in
-    let x = c.before.before.before.before.tick.ensures ∙ ap (ticked t) (named_at process_limit id k.result k.ensures blank_process l.q.processes h) in
-    (omega (arith, more), ap (each_from (ticked t) _ _) (stored_at id k.result l.q c.before.before.before.before.tick.result k.ensures _ _ h c.before.before.arrival-with.ensures c.waiting-with.ensures ∙ ap (λ y. stored id y l.q) x) ∙ sym (each_more c.before.before.before.before.before.before.before.before.before.before.before.before.touched-count.result l.id l.q (ticked t) more) ∙ l.invariant.1)
+    let l = c.before.before.before.before.before.before.before.before.loop in
+    let t = c.before.before.before.before.before.before.before.before.before.before.before.before.args.t in
+    let k = c.before.before.before.before.before.before.slot in
+    let x = ⊎_elim (λ w. read_in (l.id + 1) k.result l.q c.before.before.before.before.if2.x k.ensures w.0.taken w.2) (λ w. read_out (l.id + 1) k.result l.q c.before.before.before.before.if2.x k.ensures w.0.left (w.1 ∙ c.before.before.before.before.before.blank.ensures)) c.before.before.before.before.if2.branch in
+    (omega arith, rw (c.store.ensures, c.before.tick.ensures, x) (sym (each_more c.before.before.before.before.before.before.before.before.before.wide.result l.id l.q (ticked t) (omega arith)) ∙ l.invariant.1))
 
 loop_again_2 : tie.Need-loop-preserved-2 invariant_loop decreases_loop
 loop_again_2 c =
     let l = c.before.before.before.before.before.before.loop in
-    let t = c.before.before.before.before.before.before.before.before.args.t in
-    let id = l.id + 1 in
+    let t = c.before.before.before.before.before.before.before.before.before.before.args.t in
     let k = c.before.before.before.before.slot in
-    let x = named_at process_limit id k.result k.ensures blank_process l.q.processes c.before.before.before.if1.true in
-    (omega arith, sym (each_more c.before.before.before.before.before.before.before.touched-count.result l.id l.q (ticked t) (omega arith) ∙ ap (each_from (ticked t) _ _) (untouched t _ _ l.q x (sym c.before.is-touched.ensures ∙ c.if2.false))) ∙ l.invariant.1)
+    let x = ⊎_elim (λ w. read_in (l.id + 1) k.result l.q c.before.before.if2.x k.ensures w.0.taken w.2) (λ w. read_out (l.id + 1) k.result l.q c.before.before.if2.x k.ensures w.0.left (w.1 ∙ c.before.before.before.blank.ensures)) c.before.before.if2.branch in
+    (omega arith, sym (each_more c.before.before.before.before.before.before.before.wide.result l.id l.q (ticked t) (omega arith) ∙ ap (each_from (ticked t) _ _) (untouched t _ _ l.q x (sym c.before.is-touched.ensures ∙ c.if3.false))) ∙ l.invariant.1)
 
-loop_again_3 : tie.Need-loop-preserved-3 invariant_loop decreases_loop
-loop_again_3 c =
-    let l = c.before.before.before.loop in
-    let t = c.before.before.before.before.before.args.t in
-    let id = l.id + 1 in
-    (omega arith, sym (each_more c.before.before.before.before.touched-count.result l.id l.q (ticked t) (omega arith) ∙ ap (each_from (ticked t) _ _) (stored_out id _ l.q (slot_out process_limit id _ c.before.slot.ensures c.if1.false))) ∙ l.invariant.1)
-
-returns : tie.Need-returns invariant_loop decreases_loop
-returns c =
-    let a = c.before.before.before.args in
-    let n = c.before.before.touched-count in
+returns_2 : tie.Need-returns-2 invariant_loop decreases_loop
+unfolding tick_partition
+returns_2 c =
+    let a = c.before.before.before.before.before.args in
     let l = c.before.loop in
-    sym (each_done n.result l.id l.q (ticked a.t) (omega arith)) ∙ l.invariant.1 ∙ tick_counted a.t n.result a.p n.ensures
+    rw (eq-eqb _ _ c.before.before.before.if1.false)
+    (sym (each_done c.before.before.wide.result l.id l.q (ticked a.t) (omega arith)) ∙ l.invariant.1 ∙ ap (λ (x : ℕ). each_from (ticked a.t) x 1 a.p) c.before.before.wide.ensures)
 
 pub ticked-spec : {M : Type 1} → statement M
 ticked-spec =
@@ -63,22 +54,19 @@ ticked-spec =
     (tie.spec
     invariant_loop
     decreases_loop
-    (λ _ _. tt)
+    returns
+    (λ c κs. tt)
     loop_holds
     (λ c. omega arith)
-    (λ _ _. tt)
+    (λ c κs. tt)
+    (λ c κs. tt)
     (λ c. search rules)
     (λ c. search rules)
-    (λ _ _. tt)
-    (λ _ _. tt)
-    (λ c. search rules)
-    (λ c. search rules)
-    (λ _ _. tt)
-    (λ _ _. tt)
-    loop_less
+    (λ c κs. tt)
+    (λ c κs. tt)
+    (λ c κs. tt)
+    (λ c. omega arith)
     loop_again
     (λ c. omega arith)
     loop_again_2
-    (λ c. omega arith)
-    loop_again_3
-    returns)
+    returns_2)

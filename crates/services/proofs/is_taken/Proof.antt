@@ -4,9 +4,9 @@ use Rattle.services.proofs.is_taken.Statement.{statement}
 use Rattle.services.proofs.is_taken.Tie as tie
 use Rattle.blackboards.proofs.is_blackboard_named.Reads as is-blackboard-named-reads
 use Rattle.buffers.proofs.is_buffer_named.Reads as is-buffer-named-reads
-use Rattle.scheduling.proofs.is_process_named.Reads as is-process-named-reads
-use Rattle.semaphores.proofs.is_event_named.Reads as is-event-named-reads
-use Rattle.semaphores.proofs.is_semaphore_named.Reads as is-semaphore-named-reads
+use Rattle.calls.proofs.is_process_named.Reads as is-process-named-reads
+use Rattle.objects.proofs.is_event_named.Reads as is-event-named-reads
+use Rattle.objects.proofs.is_semaphore_named.Reads as is-semaphore-named-reads
 
 is_process_named_requires : tie.Need-is-process-named-requires
 is_process_named_requires c κs = search rules

@@ -15,7 +15,7 @@ use Rattle.stream.proofs.Stream.advance.Statement.{statement}
 use Rattle.stream.proofs.Stream.advance.Tie as tie
 
 abbrev invariant_loop : tie.invariant-loop
-invariant_loop chunk out₀ held₀ x₀ at₀ to₀ out held x at to = Advancing (record { progress = x₀; held = held₀ }) chunk out₀ (record { progress = x; held = held }) at to out
+invariant_loop chunk out₀ held₀ x₀ at₀ to₀ out held x at to = Advancing (record { place = x₀; held = held₀ }) chunk out₀ (record { place = x; held = held }) at to out
 
 abbrev decreases_loop : tie.decreases-loop
 decreases_loop chunk out₀ held₀ x₀ at₀ to₀ out held x at to = length chunk - at
@@ -31,7 +31,7 @@ same c =
 
 -- the stream before the byte
 abbrev before : tie.Joined2 invariant_loop decreases_loop → Stream
-before c = record { progress = c.before.before.before.before.loop.x; held = c.before.before.before.before.loop.held }
+before c = record { place = c.before.before.before.before.loop.x; held = c.before.before.before.before.loop.held }
 
 here : (c : tie.Joined2 invariant_loop decreases_loop) → let start = c.before.before.before.before.before.before.before.before.before in
     Advancing start.args.self start.args.chunk.now start.args.out.now (before c) c.before.before.before.before.loop.at c.before.before.before.before.loop.to c.if2.out
@@ -54,7 +54,7 @@ abbrev held : Held → List ℕ
 held c = c.hold.new.0
 
 abbrev after : Held → Stream
-after c = record { progress = at (before (joined c)).progress.stage (before (joined c)).progress.executive c.hold.result; held = held c }
+after c = record { place = at (before (joined c)).place.stage (before (joined c)).place.executive c.hold.result; held = held c }
 
 stored : (c : Held) → after c ≡ put (before (joined c)) (byte c)
 stored c = put_held (before (joined c)) (byte c) c.hold.result (held c) (joined c).before.before.before.before.loop.invariant.held c.hold.ensures.0 c.hold.ensures.1

@@ -1,4 +1,6 @@
 // A lent list of event records, run in one call.
+#![tactic(auto)]
+
 ghost use Rattle.std.specs.Prelude.{◌≡◌};
 ghost use Rattle.batch.specs.Batch.{answered, after_list, answered_list};
 
@@ -6,7 +8,7 @@ use executive::Executive;
 use machine::EventRecord;
 
 // What the event of a record gives: the executive after it, and the record with its answer.
-#[derive(Drop)]
+#[derive(Clone, Copy)]
 struct Answered {
     executive: Executive,
     event: EventRecord,

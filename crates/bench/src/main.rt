@@ -1,5 +1,7 @@
 // Runs a lent list of events again and again, for tests/bench. Standard input has a line whose first number is how often, a
 // table, and event lines; the answers of the last run are printed.
+#![tactic(auto)]
+
 ghost use Rattle.std.specs.Prelude.{◌≡◌};
 ghost use Rattle.batch.specs.Batch.{answered_list};
 
@@ -14,7 +16,7 @@ const INPUT: usize = 262144;
 const EVENTS: usize = 4096;
 
 // A list of events with their answers.
-#[derive(Drop)]
+#[derive(Clone, Copy)]
 struct Answered {
     records: [EventRecord; EVENTS],
 }
@@ -29,7 +31,7 @@ fn run(m: Executive, list: [EventRecord; EVENTS]) -> Answered
 }
 
 // The executives to start from, in turn: what is known of a record when the program is compiled would shorten the run.
-#[derive(Drop)]
+#[derive(Clone, Copy)]
 struct Starts {
     executives: [Executive; 2],
 }

@@ -1,4 +1,6 @@
 // Blackboards of a partition: calls 26 to 29.
+#![tactic(auto)]
+
 ghost use Rattle.std.specs.Prelude.{◌≡◌, take, ℕ};
 ghost use Rattle.machine.specs.Partition.{empty_blackboard, blackboard};
 ghost use Rattle.machine.specs.Blackboards.{blackboard_named, create_blackboard, show, read_blackboard, clear};

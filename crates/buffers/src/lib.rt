@@ -1,4 +1,6 @@
 // Buffers of a partition: calls 23 to 25.
+#![tactic(auto)]
+
 ghost use Rattle.std.specs.Prelude.{◌≡◌, ◌&&◌, take, ℕ};
 ghost use Rattle.machine.specs.Limits.{message_limit};
 ghost use Rattle.machine.specs.Fields.{is_name, between};

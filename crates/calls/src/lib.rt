@@ -1,4 +1,6 @@
 // Calls 1 to 13 and 32 to 34: what each decides.
+#![tactic(auto)]
+
 ghost use Rattle.std.specs.Prelude.{◌≡◌, ℕ, cond, not, ◌&&◌, ◌||◌, eqb, take};
 ghost use Rattle.machine.specs.Limits.{duration_limit};
 ghost use Rattle.machine.specs.Fields.{is_number, is_minus_one, between, is_duration, number_of};

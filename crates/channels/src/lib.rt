@@ -1,4 +1,6 @@
 // What a call sees of a channel; sampling channels: calls 21 and 22, and what a restart erases.
+#![tactic(auto)]
+
 ghost use Rattle.std.specs.Prelude.{◌≡◌, ◌-◌, cond, leb};
 ghost use Rattle.machine.specs.Limits.{partition_limit, channel_limit};
 ghost use Rattle.machine.specs.Fields.{number_of};
@@ -11,7 +13,7 @@ ghost use Rattle.machine.specs.Channels.{queuing, seen_at, port_at, apart, chann
 use machine::{Channel, Context, Decision, Field, Message, Module, Port, Table, Time, Traffic};
 
 // What the channels hold, in the order of their numbers.
-#[derive(Drop)]
+#[derive(Clone, Copy)]
 pub struct Messages {
     pub items: [Message; Module::CHANNELS],
 }

@@ -1,5 +1,7 @@
 // Reads named cases from standard input and prints for each what table reading gives, NAME CODE VALUE LINES, and after an
 // accepted table the code of each line that follows it.
+#![tactic(auto)]
+
 ghost use Rattle.std.specs.Prelude.{◌≡◌, ◌-◌, min, ◌+◌, ◌*◌};
 ghost use Rattle.machine.specs.Line.{base, zero_digit, line_code};
 ghost use Rattle.damaged_lines.specs.Container.{place_of, longest, size_of, case_at};
@@ -14,14 +16,14 @@ const INPUT: usize = 262144;
 const LONGEST: usize = 1000000;
 
 // The bytes of a case: its name ends at name, and it is body..end.
-#[derive(Drop)]
+#[derive(Clone, Copy)]
 struct Case {
     name: usize,
     body: usize,
     end: usize,
 }
 
-#[derive(Drop)]
+#[derive(Clone, Copy)]
 enum Found {
     At(Case),
     Nothing,

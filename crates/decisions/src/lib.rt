@@ -1,4 +1,6 @@
 // What an event decides: its reply, what it changes, and the checks that several calls share.
+#![tactic(auto)]
+
 ghost use Rattle.std.specs.Prelude.{◌≡◌, ◌&&◌, ◌||◌, [], ◌∷◌, eqb, ltb};
 ghost use Rattle.machine.specs.Fields.{is_number};
 ghost use Rattle.machine.specs.Decisions.{coded, code_of, reply_of, no_message, changed, blocked, creation_checks, wait_checks, unknown};
@@ -283,7 +285,7 @@ pub fn has_no_caller(mode: u8, running: u8) -> bool
 // ---------------------------------------------------------------- what a call sees of its partition
 // Mode and preemption lock; how many there are of each kind; whether the name in field a is taken among its kind; the records of what field a
 // names, of a buffer its limit, how many messages it holds and the first of them, and the caller's; the first process that waits for the object that the call looks at, 0 for none, and its record.
-#[derive(Drop)]
+#[derive(Clone, Copy)]
 pub struct View {
     pub mode: u8,
     pub level: u8,

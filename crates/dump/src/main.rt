@@ -1,6 +1,8 @@
 // Reads a table and event lines from standard input and prints the whole record at the end, one item a line
 // (tests/separate/README.md, "The dump format"). Each function that prints gives whether everything was written; after a failed write
 // nothing more is.
+#![tactic(auto)]
+
 use libc::STDOUT_FILENO;
 use machine::{
     Blackboard, Buffer, Channel, EventState, Ids, Message, Module, Partition, Process, Queue,
@@ -8,7 +10,7 @@ use machine::{
 };
 
 // What a partition has a line of for each id.
-#[derive(Drop)]
+#[derive(Clone, Copy)]
 enum Item {
     Process,
     Semaphore,
@@ -23,7 +25,7 @@ enum Item {
 }
 
 // An end of a channel.
-#[derive(Drop)]
+#[derive(Clone, Copy)]
 enum End {
     Source,
     Destination,

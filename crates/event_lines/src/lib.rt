@@ -1,4 +1,6 @@
 // Event lines and answer lines: what a line gets, and the numbers of an answer.
+#![tactic(auto)]
+
 ghost use Rattle.std.specs.Prelude.{◌≡◌, ◌+◌, ◌-◌, ◌*◌, ◌/◌, ◌≤◌, length, take, drop};
 ghost use Rattle.std.proofs.lemmas.List.Edits.{sets};
 ghost use Rattle.machine.specs.Limits.{line_length};
@@ -21,7 +23,7 @@ const SIX: usize = 6;
 const NUMBERS: usize = BLOCK * SIX;
 
 // What a block of event lines gives: the executive after them, how many lines they are, and how many bytes their answers have.
-#[derive(Drop)]
+#[derive(Clone, Copy)]
 pub struct Block {
     pub executive: Executive,
     pub lines: usize,

@@ -1,4 +1,6 @@
 // What an event does before its partition is looked at, and its answer.
+#![tactic(auto)]
+
 ghost use Rattle.std.specs.Prelude.{◌≡◌};
 ghost use Rattle.machine.specs.Fields.{number_of};
 ghost use Rattle.machine.specs.Step.{sees};
@@ -12,7 +14,7 @@ use places::Placed;
 // The code of the places that need no partition, the time, the current partition and the ticks left after the event, how many
 // partitions are ticked, and where these lie: the channel that a call may name, the current partition, the one that makes a call,
 // the one whose running process is shown; past the last for none.
-#[derive(Drop)]
+#[derive(Clone, Copy)]
 pub struct Plan {
     pub request: Request,
     pub own: u32,

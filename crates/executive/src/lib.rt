@@ -1,4 +1,6 @@
 // The executive: a module that comes only from table reading and from events.
+#![tactic(auto)]
+
 ghost use Rattle.std.specs.Prelude.{◌≡◌, ◌+◌, ◌-◌, ◌≤◌, length};
 ghost use Rattle.std.proofs.lemmas.List.Edits.{sets};
 ghost use Rattle.machine.specs.Partition.{nothing_created};
@@ -16,20 +18,20 @@ use machine::{
     Answer, Change, Context, Decision, Event, Module, Partition, Process, Time, Waiting,
 };
 
-#[derive(Drop)]
+#[derive(Clone, Copy)]
 pub struct Executive {
     inner: Module,
 }
 
 // What an event gives: the executive after it, and its answer.
-#[derive(Drop)]
+#[derive(Clone, Copy)]
 pub struct Turn {
     pub executive: Executive,
     pub answer: Answer,
 }
 
 // What reading a table gives: the executive, or an empty one with 11 or 12 and the line's number; and how many lines it took.
-#[derive(Drop)]
+#[derive(Clone, Copy)]
 pub struct Opening {
     pub executive: Executive,
     pub code: u8,

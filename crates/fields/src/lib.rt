@@ -1,4 +1,6 @@
 // The numbers of an event or a table line, as the rules look at them.
+#![tactic(auto)]
+
 ghost use Rattle.std.specs.Prelude.{◌≡◌};
 ghost use Rattle.machine.specs.Fields.{field, row_of, request_of, is_number, between, is_duration, is_message, is_minus_one, is_timeout, is_name, number_of, time_of};
 

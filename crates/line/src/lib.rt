@@ -1,4 +1,6 @@
 // Text lines: one is read out of an input, one is written into an output.
+#![tactic(auto)]
+
 ghost use Rattle.std.specs.Prelude.{◌≡◌, true, ◌+◌, ◌-◌, ◌*◌, ◌≤◌, length, get_or, take, drop, pos};
 ghost use Rattle.std.proofs.lemmas.List.Edits.{sets};
 ghost use Rattle.machine.specs.Limits.{line_length};
@@ -22,7 +24,7 @@ const BASE: u64 = 10;
 const REFUSED: u8 = 11;
 
 // What a field holds.
-#[derive(Drop)]
+#[derive(Clone, Copy)]
 enum Found {
     Number(i64),
     Nothing,

@@ -29,7 +29,7 @@ use Rattle.machine.proofs.Lists.{members_ids_of}
 use Rattle.machine.proofs.Flows.{kept_append}
 use Rattle.machine.proofs.Tracking.{kept_same, kept_kept, kept_all, contains_kept}
 use Rattle.machine.proofs.Keeping.{AllCreated, process_created, each_changed, from_range, distinct_from}
-use Rattle.machine.proofs.Kept.{change_valid, end_same, waiters_created, waiters_distinct}
+use Rattle.machine.proofs.Kept.{change_valid, end_stored, waiters_created, waiters_distinct}
 use Rattle.machine.proofs.Queues.{ready_in, arrive_all}
 use Rattle.machine.proofs.Acts.{last_of, touches}
 use Rattle.machine.proofs.Plain.{arrived_plain}
@@ -129,7 +129,7 @@ module _ (c : Context) {o : Partition} (k : SoundContext c o) (p : Partition) (v
   change_keeps (Moved j a) h z =
       let b = moved_in a (buffer j p) in
       let is = buffer_in j b p (within_in buffer_limit j h.0.0 (omega (arith, h.0.1, v.objects.buffers.numbered.few))) in
-      keeps_from p (stored_buffer j b p) _ (buffer_arrival j b p) (keeps_ended (stored_buffer j b p) (rw is v.lists) a (rw is (end_same p _ a refl refl h.2)))
+      keeps_from p (stored_buffer j b p) _ (buffer_arrival j b p) (keeps_ended (stored_buffer j b p) (rw is v.lists) a (end_stored j b p a is h.2))
   change_keeps (StoredBlackboard j b) h z = keeps_same p _ (change_valid c k p v (StoredBlackboard j b) h).lists (idle_arrival c (StoredBlackboard j b) p v.lists h refl z)
   change_keeps (Ended u) h z = keeps_all served (waiters u p) p v.lists (waiters_created p v.lists u) (waiters_distinct p v.lists u)
   change_keeps (Handed u m) h z = keeps_all (handed m) (waiters u p) p v.lists (waiters_created p v.lists u) (waiters_distinct p v.lists u)

@@ -1,10 +1,10 @@
 -- What a change, a decision and a tick leave of who waits to send, and of its buffer. Assumes nothing.
-use Prim.Native.Nat.{ℕ, ◌≤◌, ◌<◌}
+use Prim.Native.Nat.{ℕ, ◌≤◌, ◌<◌, max, ◌-◌}
 use mathlib.Core.Path.{◌≡◌, refl, ap, sym, ◌∙◌}
 use mathlib.Core.Bool.{true, false, not, ◌&&◌}
 use mathlib.Core.List.{List, [], ◌∷◌}
 use native.Mathlib.Omega.{arith}
-use lib.ListN.{take}
+use lib.ListN.{take, set}
 use lib.Dec.{eqb, leb}
 use borrow.Author.Tests.{eq-eqb, ne_eqb, eqb-true, eqb-false, le-leb, leb-true}
 use Rattle.machine.specs.declared.Process.{Process}
@@ -26,7 +26,7 @@ use Rattle.machine.specs.Messages.{sent, received}
 use Rattle.machine.specs.Ids.{members}
 use Rattle.machine.specs.Fields.{is_number, between}
 use Rattle.machine.specs.Process.{class_of, blank_process, object, on_object, ready, served, handed, entered, ticked, due, waits_for_normal, woken}
-use Rattle.machine.specs.Partition.{normal_mode, no_buffer, process, buffer, empty_buffer, moved_in, ended_by, with_mode, stored, waits_on, waiters, first_waiter, changed_all, each, tick_partition, entered_normal, stored_semaphore, stored_event, stored_buffer, stored_blackboard, applied, within, arrived_last}
+use Rattle.machine.specs.Partition.{normal_mode, no_buffer, process, buffer, empty_buffer, moved_in, ended_by, with_mode, stored, waits_on, waiters, first_waiter, changed_all, each, tick_partition, entered_normal, stored_semaphore, stored_event, stored_buffer, stored_blackboard, applied, within, arrived_last, with_buffers}
 use Rattle.machine.specs.Objects.{signalled}
 use Rattle.machine.specs.Theorems.Valid.{Between, contains, Distinct, ListedIn, Valid, SoundContext, SoundMove, SoundEnd, SoundChange}
 use mathlib.Core.Logic.{◌⊎◌, inl, inr, ⊎_elim}
@@ -38,7 +38,7 @@ use Rattle.machine.proofs.Either.{either}
 use Rattle.machine.proofs.Tracking.{contains_kept}
 use Rattle.machine.proofs.Keeping.{process_created, Rest, stored_rest, process_other, process_stored, AllCreated, rest_count, changed_rest, changed_process, each_rest, each_listed, each_process_holds}
 use Rattle.machine.proofs.Sound.{ready_off}
-use Rattle.machine.proofs.Kept.{waiters_distinct, waiters_created, first_in, take_in, firsts_created, firsts_distinct, let_in_valid, ended_valid, end_same, change_valid, normal_caller}
+use Rattle.machine.proofs.Kept.{waiters_distinct, waiters_created, first_in, take_in, firsts_created, firsts_distinct, let_in_valid, ended_valid, end_stored, change_valid, normal_caller}
 use Rattle.machine.proofs.Orders.{Part, part_whole, part_trans, all_part, expired_wait, ticked_object, start_object, normal_off, ended_part}
 
 -- 0..3 and not 3
@@ -219,7 +219,7 @@ module _ (kind j : ℕ) (of : OfSenders kind) (low : j ≤ 16) where
   change_stays n c p v (Moved k a) h g =
       let b = moved_in a (buffer k p) in
       let is = buffer_in k b p (within_in buffer_limit k h.0.0 (omega (arith, h.0.1, v.objects.buffers.numbered.few))) in
-      stays_along n p (stored_buffer k b p) _ (other_stays n k b p g.0) (end_stays n (stored_buffer k b p) (rw is v.lists) a (rw is (end_same p _ a refl refl h.2)) (rw is (calm_same n p _ a refl g.1)))
+      stays_along n p (stored_buffer k b p) _ (other_stays n k b p g.0) (end_stays n (stored_buffer k b p) (rw is v.lists) a (end_stored k b p a is h.2) (rw is (calm_same n p (with_buffers (set p.buffers (k - 1) b) (max p.bufferCount k) p) a refl g.1)))
   change_stays n c p v (StoredBlackboard k b) h g = by_test (Stays n p) (within blackboard_limit k) (λ _. record { same = λ _. refl; count = omega arith; waits = λ id. keeps_same n (process id p).wait }) (λ _. stays_same n p)
   change_stays n c p v (Ended o) h g = ended_stays n served (λ _. refl) o p v.lists g
   change_stays n c p v (Handed o m) h g = ended_stays n (handed m) (λ _. refl) o p v.lists g

@@ -39,7 +39,7 @@ use Rattle.machine.proofs.Bounds.{same_or_not, within_in, within_out, named_out,
 use Rattle.machine.proofs.Either.{either}
 use Rattle.machine.proofs.Messages.{let_in_length}
 use Rattle.machine.proofs.Keeping.{AllCreated, stored_rest, changed_rest, each_rest}
-use Rattle.machine.proofs.Kept.{waiters_created, waiters_exact, sent_sound, received_sound, end_same}
+use Rattle.machine.proofs.Kept.{waiters_created, waiters_exact, sent_sound, received_sound, end_stored}
 use Rattle.machine.proofs.Orders.{rest_objects, same_objects, Part, ended_part, semaphore_queue, buffer_queue, ended_queue}
 
 -- ---------------------------------------------------------------- objects that stay
@@ -337,7 +337,7 @@ module _ (c : Context) (p : Partition) (v : Valid c.frame c.time p) (s : SoundCo
       let q = stored_buffer j m p in
       let is = buffer_in j m p (within_in buffer_limit j b.0 (omega (arith, b.1, v.objects.buffers.numbered.few))) in
       let w : ListedIn q = rw is lists in
-      let end : SoundEnd q a = rw is (end_same p _ a refl refl sound) in
+      let end : SoundEnd q a = end_stored j m p a is sound in
       let stays : (o : ℕ) → (o ≡ 0 → ⊥) → waiters o p ≡ [] → waiters o (ended_by a q) ≡ [] = λ o some e. part_none _ _ (buffer_queue p lists o some j m ∙ e) (ended_part o some q w a end) in
       ⊎_elim inl
       (⊎_elim

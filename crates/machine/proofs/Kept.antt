@@ -34,7 +34,7 @@ use Rattle.machine.specs.Messages.{queue_of, sent, received}
 use Rattle.machine.specs.Ids.{members}
 use Rattle.machine.specs.Fields.{is_number, between, is_duration, is_minus_one, is_timeout, is_name, number_of, time_of}
 use Rattle.machine.specs.Process.{created_process, blank_process, later, object, on_object, periodic, ready, carried, served, handed, entered, ticked}
-use Rattle.machine.specs.Partition.{normal_mode, idle_mode, locked, by_id, nothing_created, no_semaphore, no_event, no_buffer, no_blackboard, process, semaphore, buffer, blackboard, empty_buffer, moved_in, ended_by, with_mode, stored, waits_on, waiters, first_waiter, changed_all, each, running, tick_partition, entered_normal, created, stored_semaphore, stored_event, stored_buffer, stored_blackboard, applied, partition_after, fresh_partition}
+use Rattle.machine.specs.Partition.{normal_mode, idle_mode, locked, by_id, nothing_created, no_semaphore, no_event, no_buffer, no_blackboard, process, semaphore, buffer, blackboard, empty_buffer, moved_in, ended_by, with_mode, stored, waits_on, waiters, first_waiter, changed_all, each, running, tick_partition, entered_normal, created, stored_semaphore, stored_event, stored_buffer, stored_blackboard, applied, partition_after, fresh_partition, with_buffers}
 use Rattle.machine.specs.Calls.{is_multiple, above, is_priority, admissible, reaches, status}
 use Rattle.machine.specs.Objects.{with_value, with_up, one_more, signalled}
 use Rattle.machine.specs.Theorems.Valid.{counted, Between, contains, Distinct, Tracks, Timeout, Ahead, SoundPeriod, SoundCapacity, NotAbove, Below, SoundGiven, SoundProcess, SoundSemaphore, SoundEvent, SoundBuffer, SoundBlackboard, AllMessages, SoundQueue, Numbered, Family, KnownOrNext, ObjectsIn, ListedIn, setting_of, SoundLock, LockIn, HolderReady, Valid, SoundContext, SoundMessage, SoundMove, SoundEnd, SoundChange, SoundDecision, NotAfter}
@@ -345,6 +345,10 @@ end_same p q (HandedTo id m) e f h = rw (e, f) h
 end_same p q Taken e f h = tt
 end_same p q (LetIn id m) e f h = rw (e, f) h
 
+-- or with a buffer stored
+pub end_stored : (j : ℕ) (q : Buffer) (p : Partition) (a : Transfer) → stored_buffer j q p ≡ with_buffers (set p.buffers (j - 1) q) (max p.bufferCount j) p → SoundEnd p a → SoundEnd (stored_buffer j q p) a
+end_stored j q p a is h = rw is (end_same p (with_buffers (set p.buffers (j - 1) q) (max p.bufferCount j) p) a refl refl h)
+
 -- each change keeps a partition valid; k says that the call was made at a sound time
 pub change_valid : (c : Context) {o : Partition} → SoundContext c o → (p : Partition) → Valid c.frame c.time p → (a : Change) → SoundChange c p a → Valid c.frame c.time (applied a p)
 change_valid c k p v Nothing h = v
@@ -359,7 +363,7 @@ change_valid c k p v (Moved j a) h =
     let few = v.objects.buffers.numbered.few in
     let w = buffer_valid c.frame c.time p v j (known_next buffer_limit p.bufferCount j h.0 few) q (moved_in_sound (buffer j p) (v.objects.buffers.each j h.0) a h.1) in
     let is = buffer_in j q p (within_in buffer_limit j h.0.0 (omega (arith, h.0.1, few))) in
-    ended_valid c.frame c.time _ w (buffer j p).limit (buffer j p).queue a h.1 (rw is (end_same p _ a refl refl h.2))
+    ended_valid c.frame c.time _ w (buffer j p).limit (buffer j p).queue a h.1 (end_stored j q p a is h.2)
 change_valid c k p v (StoredBlackboard j s) h = blackboard_valid c.frame c.time p v j h.0 s h.1
 change_valid c k p v (Ended o) h = all_valid c.frame c.time p v served (λ x g on. ended_sound _ x g on) o
 change_valid c k p v (Handed o m) h = all_valid c.frame c.time p v (handed m) (λ x g on. handed_sound _ x g on m h) o

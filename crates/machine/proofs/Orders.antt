@@ -36,7 +36,7 @@ use Rattle.machine.proofs.Lists.{members_ids_of, kept_snoc}
 use Rattle.machine.proofs.Tracking.{contains_kept, kept_same, kept_kept, kept_all, kept_no}
 use Rattle.machine.proofs.Keeping.{Rest, process_other, process_stored, stored_rest, rest_count, stored_listed, each_changed, from_range, changed_listed, changed_process, each_listed, each_process_holds, AllCreated}
 use Rattle.machine.proofs.Sound.{ready_off}
-use Rattle.machine.proofs.Kept.{waiters_distinct, waiters_exact, waiters_created, end_same}
+use Rattle.machine.proofs.Kept.{waiters_distinct, waiters_exact, waiters_created, end_stored}
 use Rattle.machine.proofs.Stored.{by_id_plain, stored_plain}
 
 -- ---------------------------------------------------------------- objects that stay
@@ -391,7 +391,7 @@ module _ (o : ℕ) (some : o ≡ 0 → ⊥) where
   change_part c p v (Moved j a) h k =
       let q = moved_in a (buffer j p) in
       let is = buffer_in j q p (within_in buffer_limit j h.0.0 (omega (arith, h.0.1, v.objects.buffers.numbered.few))) in
-      part_trans (part_of _ _ (buffer_queue p v.lists o some j q)) (ended_part (stored_buffer j q p) (rw is v.lists) a (rw is (end_same p _ a refl refl h.2)))
+      part_trans (part_of _ _ (buffer_queue p v.lists o some j q)) (ended_part (stored_buffer j q p) (rw is v.lists) a (end_stored j q p a is h.2))
   change_part c p v (StoredBlackboard j b) h k = part_of _ _ (blackboard_queue p v.lists o some j b)
   change_part c p v (Ended u) h k = record { by = _; is = ended_waits p v.lists o some served (λ _. refl) u }
   change_part c p v (Handed u m) h k = record { by = _; is = ended_waits p v.lists o some (handed m) (λ _. refl) u }

@@ -54,7 +54,7 @@ use Rattle.machine.proofs.Keeping.{process_created, removed_room, each_changed, 
 use Rattle.machine.proofs.Sound.{later_plain, later_not_after, at_most_more, at_most_not_after, capacity_bound, period_not_after, at_most_released, ready_released, times_bounded}
 use Rattle.machine.proofs.Dispatch.{Calls, by_event}
 use Rattle.machine.proofs.Bodies.{Bodily}
-use Rattle.machine.proofs.Kept.{change_valid, nothing_valid, waiters_created, firsts_created, end_same}
+use Rattle.machine.proofs.Kept.{change_valid, nothing_valid, waiters_created, firsts_created, end_stored}
 use Rattle.machine.proofs.Reached.{tick_around, tick_size, tick_later, tick_first, count_plain, place, context_sound, made, made_sound, made_body, decided_sound, reached_valid, part_sound, erased_sound, queuing_plain, refilled_table, refilled_sound, on_queue_holds, transfer_sound}
 use Rattle.machine.proofs.Starts.{frame_some, release_plain}
 use Rattle.machine.proofs.Answers.{decided_table}
@@ -125,7 +125,7 @@ module _ (c : Context) {o : Partition} (k : SoundContext c o) where
   change_plain p v (Moved j a) h =
       let few = v.objects.buffers.numbered.few in
       let in_List = buffer_in j (moved_in a (buffer j p)) p (within_in buffer_limit j h.0.0 (omega (arith, h.0.1, few))) in
-      ended_plain (stored_buffer j (moved_in a (buffer j p)) p) (rw in_List v.lists) a (rw in_List (end_same p _ a refl refl h.2))
+      ended_plain (stored_buffer j (moved_in a (buffer j p)) p) (rw in_List v.lists) a (end_stored j (moved_in a (buffer j p)) p a in_List h.2)
       ∙ ap (plain_ended a) (in_List
       ∙ rw (count_with_holds p.bufferCount j (omega (arith, h.0.1)), moved_in_plain (buffer j p) (v.objects.buffers.each j h.0) a h.1, by_id_plain buffer_limit no_buffer p.buffers v.objects.buffers.numbered.size j))
   change_plain p v (StoredBlackboard j b) h = blackboard_in j b p (within_in blackboard_limit j h.0.0.0 h.0.1) ∙ rw (count_with_holds p.blackboardCount j h.0.0.1)

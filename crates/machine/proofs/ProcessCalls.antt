@@ -270,10 +270,10 @@ set_priority_holds = laws (λ _ _ _ _ _ _. refl) λ c x r p. checks _ _ refl (λ
         by_test (SoundChange c (stored id q p)) (ready y) (λ e. rw (process_stored p id q v.lists b) e) (λ _. tt),
         omega arith,
       );
-      order = (inr refl, by_test (OrderlyChange _) (ready y) (λ _. tt) (λ _. tt));
+      order = (inr refl, by_test (OrderlyChange (stored id q p)) (ready y) (λ _. tt) (λ _. tt));
       fair = λ v k. by_processes c p v k x 12 (Stored id q) (cond (ready y) (Last id) Nothing) 0 tt (by_test OnProcesses (ready y) (λ _. tt) (λ _. tt)) (stored_listed p id q v.lists b);
-      calm = λ kind j of low _. (keeps_same kind j of low 12 y.wait, by_test (CalmChange kind j of low 12 _) (ready y) (λ _. tt) (λ _. tt));
-      stores = λ _. (refl, by_test (Marked 12 r _) (ready y) (λ _. tt) (λ _. tt));
+      calm = λ kind j of low _. (keeps_same kind j of low 12 y.wait, by_test (CalmChange kind j of low 12 (stored id q p)) (ready y) (λ _. tt) (λ _. tt));
+      stores = λ _. (refl, by_test (Marked 12 r (stored id q p)) (ready y) (λ _. tt) (λ _. tt));
       acts = λ _. (StoredBy.prioritises refl refl (not-false _ h.1.1.0) (in_limits 1 priority_limit r.b (not-false _ h.1.0)).0 refl, by_test (Makes c r p 12) (ready y) (λ _. tt) (λ _. tt), rw (last_off (ready y) id), refl, (refl, refl));
     })
 

@@ -34,7 +34,7 @@ use Rattle.machine.specs.Theorems.EachProcess.{wait_of, served_by, Call, CallOf,
 use Rattle.machine.proofs.Tests.{by_test, not_both, or_right}
 use Rattle.machine.proofs.Bounds.{same_or_not, within_in, named_same, named_other, created_in, buffer_in}
 use Rattle.machine.proofs.Keeping.{process_other, process_stored, changed_process, each_changed, AllCreated, from_range, distinct_from}
-use Rattle.machine.proofs.Kept.{end_same, first_in, waiters_created, waiters_distinct, waiters_exact}
+use Rattle.machine.proofs.Kept.{end_stored, first_in, waiters_created, waiters_distinct, waiters_exact}
 use Rattle.machine.proofs.Sound.{ready_parts}
 use Rattle.machine.proofs.Plain.{next_plain, next_deadline_plain}
 use Rattle.machine.proofs.Calling.{number_of_holds, number_is}
@@ -286,7 +286,7 @@ module _ (m : Module) (s : SoundModule m) (e : EventT) (k : ℕ) (id : ℕ) (n :
         let b = moved_in a (buffer j q) in
         let w = buffer_alike j b q in
         let is = buffer_in j b q (within_in buffer_limit j h.0.0 (omega (arith, h.0.1, u.objects.buffers.numbered.few))) in
-        moved_turn j a (stored_buffer j b q) (alike_along p q _ al w) (rw is u.lists) (rw is (end_same q _ a refl refl h.2)) g
+        moved_turn j a (stored_buffer j b q) (alike_along p q _ al w) (rw is u.lists) (end_stored j b q a is h.2) g
     turned (StoredBlackboard j y) q al u h g none = Becomes.same (none refl) (alike_process q (applied (StoredBlackboard j y) q) (untouched (StoredBlackboard j y) q refl) id ∙ alike_process p q al id)
     turned (Ended o) q al u h g none =
         all_turn served (waiters o q) q al u.lists (waiters_created q u.lists o) (waiters_distinct q u.lists o)

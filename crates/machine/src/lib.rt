@@ -1,4 +1,6 @@
 // The record of the executive, by value, and every limit, named once with the module.
+#![tactic(auto)]
+
 ghost use Rattle.std.specs.Prelude.{◌≡◌};
 ghost use Rattle.machine.specs.Messages.{no_queue};
 ghost use Rattle.machine.specs.Process.{blank_process};
@@ -6,7 +8,7 @@ ghost use Rattle.machine.specs.Partition.{no_buffer, fresh_partition, empty_part
 ghost use Rattle.machine.specs.Module.{empty_table, fresh_module, empty_module};
 
 // A time in ticks; −1 of document 01 is Never.
-#[derive(Drop)]
+#[derive(Clone, Copy)]
 pub enum Time {
     Never,
     At(u32),
@@ -14,7 +16,7 @@ pub enum Time {
 
 // What a process waits for, with the id of the object. Sending and Receiving are on a buffer, Source and Destination at that end of a queuing
 // channel; a sender's message is kept with its wait.
-#[derive(Drop)]
+#[derive(Clone, Copy)]
 pub enum Wait {
     None,
     Normal,
@@ -31,7 +33,7 @@ pub enum Wait {
 }
 
 // What CREATE_PROCESS gives; it never changes.
-#[derive(Drop)]
+#[derive(Clone, Copy)]
 pub struct Given {
     pub name: u16,
     pub base: u8,
@@ -39,7 +41,7 @@ pub struct Given {
     pub capacity: Time,
 }
 
-#[derive(Drop)]
+#[derive(Clone, Copy)]
 pub struct Times {
     pub release: Time,
     pub deadline: Time,
@@ -48,7 +50,7 @@ pub struct Times {
 }
 
 // DORMANT is: not started. message: the one that was last handed over to it.
-#[derive(Drop)]
+#[derive(Clone, Copy)]
 pub struct Process {
     pub given: Given,
     pub times: Times,
@@ -62,13 +64,13 @@ pub struct Process {
 }
 
 // Process ids in order; what lies past len is 0.
-#[derive(Drop)]
+#[derive(Clone, Copy)]
 pub struct Ids {
     pub items: [u8; Module::PROCESSES],
     pub len: u8,
 }
 
-#[derive(Drop)]
+#[derive(Clone, Copy)]
 pub struct Semaphore {
     pub name: u16,
     pub value: u16,
@@ -76,20 +78,20 @@ pub struct Semaphore {
 }
 
 // An event of a partition (CREATE_EVENT).
-#[derive(Drop)]
+#[derive(Clone, Copy)]
 pub struct EventState {
     pub name: u16,
     pub up: bool,
 }
 
 // Messages, first in first out; what lies past len is 0.
-#[derive(Drop)]
+#[derive(Clone, Copy)]
 pub struct Queue {
     pub items: [u32; Module::MESSAGES],
     pub len: u8,
 }
 
-#[derive(Drop)]
+#[derive(Clone, Copy)]
 pub struct Buffer {
     pub name: u16,
     pub limit: u8,
@@ -97,7 +99,7 @@ pub struct Buffer {
 }
 
 // The message is 0 where none is shown.
-#[derive(Drop)]
+#[derive(Clone, Copy)]
 pub struct Blackboard {
     pub name: u16,
     pub shown: bool,
@@ -106,7 +108,7 @@ pub struct Blackboard {
 
 // level: that of the preemption lock; holder: the process that raised it from 0, 0 at level 0. arrival: the READY processes. waiting: those
 // that wait on an object, in the order in which they began; the queue of an object is the part of it that waits for this object.
-#[derive(Drop)]
+#[derive(Clone, Copy)]
 pub struct Partition {
     pub mode: u8,
     pub level: u8,
@@ -125,7 +127,7 @@ pub struct Partition {
     pub waiting: Ids,
 }
 
-#[derive(Drop)]
+#[derive(Clone, Copy)]
 pub struct Window {
     pub start: u16,
     pub duration: u16,
@@ -134,7 +136,7 @@ pub struct Window {
 }
 
 // size: how many messages a queuing channel holds at most; 0 for a sampling one.
-#[derive(Drop)]
+#[derive(Clone, Copy)]
 pub struct Channel {
     pub source: u8,
     pub destination: u8,
@@ -143,7 +145,7 @@ pub struct Channel {
 }
 
 // What reading a table gives; no event changes it. frame: M; size: P.
-#[derive(Drop)]
+#[derive(Clone, Copy)]
 pub struct Table {
     pub frame: u16,
     pub size: u8,
@@ -154,14 +156,14 @@ pub struct Table {
 }
 
 // What a sampling channel holds.
-#[derive(Drop)]
+#[derive(Clone, Copy)]
 pub struct Message {
     pub present: bool,
     pub value: u32,
     pub written: u32,
 }
 
-#[derive(Drop)]
+#[derive(Clone, Copy)]
 pub struct Module {
     pub table: Table,
     pub t: u32,
@@ -171,7 +173,7 @@ pub struct Module {
 }
 
 // An event: six numbers, each any i64.
-#[derive(Drop)]
+#[derive(Clone, Copy)]
 pub struct Event {
     pub partition: i64,
     pub call: i64,
@@ -182,7 +184,7 @@ pub struct Event {
 }
 
 // The six numbers of a line.
-#[derive(Drop)]
+#[derive(Clone, Copy)]
 pub struct Numbers {
     pub n1: i64,
     pub n2: i64,
@@ -193,14 +195,14 @@ pub struct Numbers {
 }
 
 // What a line holds: six numbers, or it is refused (11).
-#[derive(Drop)]
+#[derive(Clone, Copy)]
 pub enum Line {
     Six(Numbers),
     Bad,
 }
 
 // A number as the rules look at it: from 0 on, −1, or one that no rule admits (below −1, or past 32 bits).
-#[derive(Drop)]
+#[derive(Clone, Copy)]
 pub enum Field {
     Number(u32),
     MinusOne,
@@ -208,7 +210,7 @@ pub enum Field {
 }
 
 // The six numbers of a line of a table, so looked at.
-#[derive(Drop)]
+#[derive(Clone, Copy)]
 pub struct Row {
     pub f1: Field,
     pub f2: Field,
@@ -219,7 +221,7 @@ pub struct Row {
 }
 
 // The six numbers of an event, so looked at.
-#[derive(Drop)]
+#[derive(Clone, Copy)]
 pub struct Request {
     pub partition: Field,
     pub call: Field,
@@ -230,14 +232,14 @@ pub struct Request {
 }
 
 // The first three numbers of an answer.
-#[derive(Drop)]
+#[derive(Clone, Copy)]
 pub struct Reply {
     pub code: u8,
     pub value: u32,
     pub extra: Time,
 }
 
-#[derive(Drop)]
+#[derive(Clone, Copy)]
 pub struct Answer {
     pub code: u8,
     pub value: u32,
@@ -248,14 +250,14 @@ pub struct Answer {
 }
 
 // An event with its answer.
-#[derive(Drop)]
+#[derive(Clone, Copy)]
 pub struct EventRecord {
     pub event: Event,
     pub answer: Answer,
 }
 
 // What the window lookup gives: the current partition, 0 if none, and the ticks until its window ends, or until the next start.
-#[derive(Drop)]
+#[derive(Clone, Copy)]
 pub struct Lookup {
     pub partition: u8,
     pub left: u32,
@@ -263,7 +265,7 @@ pub struct Lookup {
 
 // What a call sees besides its partition's record: time, M, the ticks left in the window, the next release point of the partition, and
 // the caller.
-#[derive(Drop)]
+#[derive(Clone, Copy)]
 pub struct Context {
     pub time: u32,
     pub frame: u16,
@@ -274,7 +276,7 @@ pub struct Context {
 
 // What a call sees of a queuing channel: how many messages it holds, and the first; the first process that waits at the other end, 0 for
 // none, and the message that is kept with its wait.
-#[derive(Drop)]
+#[derive(Clone, Copy)]
 pub struct Traffic {
     pub len: u8,
     pub first: u32,
@@ -284,7 +286,7 @@ pub struct Traffic {
 
 // What a call sees of the channel that field a names: its place, whether there is such a channel, its ends, refresh and size; the message
 // of a sampling channel is seen at its destination alone, the traffic of a queuing one at both ends.
-#[derive(Drop)]
+#[derive(Clone, Copy)]
 pub struct Port {
     pub own: u32,
     pub place: u32,
@@ -296,7 +298,7 @@ pub struct Port {
 
 // What a send or a receive does to a queue of messages and to those who wait for it: the message joins last; it is handed over to this waiting
 // receiver; the first leaves; the first leaves, and the message of this waiting sender is let in.
-#[derive(Drop)]
+#[derive(Clone, Copy)]
 pub enum Transfer {
     Put(u32),
     HandedTo(u8, u32),
@@ -306,7 +308,7 @@ pub enum Transfer {
 
 // One change of a partition's record. An object with the next id is created by storing it; a buffer, which holds an array, by its name and
 // limit.
-#[derive(Drop)]
+#[derive(Clone, Copy)]
 pub enum Change {
     Nothing,
     Stored(u32, Process),
@@ -326,7 +328,7 @@ pub enum Change {
 // What an event decides: the code of a refusal; code 0 with value and extra; a tick, code 0; code 7 with the caller's record, in which
 // it waits; code 0 with two changes in order and a value; a mode 0, 1 or 2, code 0; a message on the sampling channel at this place, code 0; a
 // transfer on the queuing channel at this place, code 0 with a value.
-#[derive(Drop)]
+#[derive(Clone, Copy)]
 pub enum Decision {
     Refused(u8),
     Unchanged(u32, Time),
@@ -338,21 +340,21 @@ pub enum Decision {
     Passed(u32, Transfer, u32),
 }
 
-#[derive(Drop)]
+#[derive(Clone, Copy)]
 pub struct Stepped {
     pub state: Module,
     pub answer: Answer,
 }
 
 // The process chosen so far, with its priority; id 0 is none.
-#[derive(Drop)]
+#[derive(Clone, Copy)]
 pub struct Choice {
     pub id: u8,
     pub priority: u8,
 }
 
 // A table while it is read: what stands so far, the end of the last window, and how many windows and channels line 1 names.
-#[derive(Drop)]
+#[derive(Clone, Copy)]
 pub struct Draft {
     pub table: Table,
     pub previous: u16,
@@ -361,7 +363,7 @@ pub struct Draft {
 }
 
 // What reading a table gives: the module, or the empty record with 11 or 12 and the line's number; and how many lines it took.
-#[derive(Drop)]
+#[derive(Clone, Copy)]
 pub struct Reading {
     pub state: Module,
     pub code: u8,
@@ -370,7 +372,7 @@ pub struct Reading {
 }
 
 // The waiting time: code 0 and n, or 13 and 0.
-#[derive(Drop)]
+#[derive(Clone, Copy)]
 pub struct Waiting {
     pub code: u8,
     pub n: u32,

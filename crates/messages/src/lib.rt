@@ -1,4 +1,6 @@
 // Messages, first in first out.
+#![tactic(auto)]
+
 ghost use Rattle.std.specs.Prelude.{◌≡◌, ◌≤◌, length};
 ghost use Rattle.machine.specs.Limits.{message_limit};
 ghost use Rattle.machine.specs.Messages.{held, put, taken, first, sent, received, moved, ends_wait};

@@ -1,4 +1,6 @@
 // Semaphores and events of a partition: calls 14 to 20.
+#![tactic(auto)]
+
 ghost use Rattle.std.specs.Prelude.{◌≡◌, ℕ, ◌-◌, cond, ◌&&◌, eqb, leb, take};
 ghost use Rattle.machine.specs.Limits.{value_limit};
 ghost use Rattle.machine.specs.Fields.{is_name, is_message, is_timeout, between, number_of};

@@ -1,4 +1,6 @@
 // A partition's record: its processes, the lists that follow them, the running process and the tick.
+#![tactic(auto)]
+
 ghost use Rattle.std.specs.Prelude.{◌≡◌, ◌≤◌, max, cond, ◌||◌, map, length, take, eqb};
 ghost use Rattle.partition.specs.Places.{slot_of, in_byte};
 ghost use Rattle.partition.specs.Soonest.{sooner, soonest_of};

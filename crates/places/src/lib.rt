@@ -1,4 +1,6 @@
 // What an event is refused for before its partition is looked at: 13, and for a tick 10.
+#![tactic(auto)]
+
 ghost use Rattle.std.specs.Prelude.{◌≡◌, not, ◌&&◌, ltb};
 ghost use Rattle.machine.specs.Fields.{is_number};
 ghost use Rattle.machine.specs.declared.Table.{Table};
@@ -9,7 +11,7 @@ ghost use Rattle.places.specs.Placed.{placed_at};
 use machine::{Field, Module, Request};
 
 // An event before its partition is looked at: 13, 10 or 0, and the time after it.
-#[derive(Drop)]
+#[derive(Clone, Copy)]
 pub struct Placed {
     pub code: u8,
     pub time: u32,

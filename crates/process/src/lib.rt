@@ -1,4 +1,6 @@
 // A process by itself: times, waits, and what each rule makes of its record.
+#![tactic(auto)]
+
 ghost use Rattle.std.specs.Prelude.{◌≡◌, cond};
 ghost use Rattle.machine.specs.Process.{created_process, capped, later, due, is_never, periodic, object, carried, on_object, waits_for_nothing, waits_for_normal, ready, with_wake, with_deadline, with_delay, released_at, wait_ended, with_suspended, with_current, handed, waiting_for, suspended_until, only_marked, woken, deadline_missed, expired, ticked, begun, started_aperiodic, started_periodic, start_rule, started_early, entered, stopped, resumed, waiting_for_release};
 ghost use Rattle.machine.specs.Calls.{reaches};

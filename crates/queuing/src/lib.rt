@@ -1,4 +1,6 @@
 // Queuing channels: what a call sees of their traffic, calls 30 and 31, and queues that a restart fills anew.
+#![tactic(auto)]
+
 ghost use Rattle.std.specs.Prelude.{◌≡◌, ℕ, ◌-◌, cond, ◌&&◌, [], eqb, ltb};
 ghost use Rattle.machine.specs.Limits.{partition_limit, channel_limit};
 ghost use Rattle.machine.specs.Messages.{ends_wait};

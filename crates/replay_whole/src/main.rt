@@ -1,4 +1,6 @@
 // The replay of a standard input that is held whole. An input that is too long for it, or whose answers are, prints one line: 11 and five 0.
+#![tactic(auto)]
+
 ghost use Rattle.std.specs.Prelude.{◌≡◌, length};
 ghost use Rattle.machine.specs.Replay.{replayed_into};
 ghost use Rattle.whole_input.specs.WholeInput.{printed, held_printed, held_into};

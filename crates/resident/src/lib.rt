@@ -1,5 +1,7 @@
 // Numbers kept beside the partition that the loop holds: the current priority of each process, and the object that each waits for. A function
 // is lent them without a copy.
+#![tactic(auto)]
+
 ghost use Rattle.std.specs.Prelude.{◌≡◌, length};
 ghost use Rattle.machine.specs.Limits.{process_limit};
 ghost use Rattle.machine.specs.Ids.{ids_of};

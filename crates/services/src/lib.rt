@@ -1,4 +1,6 @@
 // Every call by its number: what each decides.
+#![tactic(auto)]
+
 ghost use Rattle.std.specs.Prelude.{◌≡◌};
 ghost use Rattle.machine.specs.Fields.{number_of};
 ghost use Rattle.machine.specs.Services.{called};

@@ -1,5 +1,7 @@
 // Standard input and standard output: a replay in constant memory, and an input that is held whole. No contract can say which bytes are read
 // or written, or whether the system fails; what is done with what a read gives is settled. A failed read or write is told on standard error.
+#![tactic(auto)]
+
 ghost use Rattle.std.specs.Prelude.{◌≡◌, ◌-◌, ◌≤◌, length};
 ghost use Rattle.machine.specs.Limits.{line_length};
 ghost use Rattle.stream.specs.Stream.{fed_all, closed};
@@ -12,7 +14,7 @@ use machine::Module;
 use stream::Stream;
 
 // What a read gives: so many bytes at the front of the buffer, nothing at the input's end, or a failure.
-#[derive(Drop)]
+#[derive(Clone, Copy)]
 enum Got {
     Bytes(usize),
     Nothing,
@@ -20,7 +22,7 @@ enum Got {
 }
 
 // Why reading ended: it goes on; at the input's end; after a refused table; since a read failed; since a write failed.
-#[derive(Drop)]
+#[derive(Clone, Copy)]
 pub enum End {
     Going,
     Input,
@@ -30,28 +32,28 @@ pub enum End {
 }
 
 // A stream after a chunk, and whether what was to be printed was written.
-#[derive(Drop)]
+#[derive(Clone, Copy)]
 struct Shown {
     stream: Stream,
     written: bool,
 }
 
 // A stream after some input, and why reading ended, if it did.
-#[derive(Drop)]
+#[derive(Clone, Copy)]
 struct Turn {
     stream: Stream,
     end: End,
 }
 
 // The executive after a replay, and why the replay ended.
-#[derive(Drop)]
+#[derive(Clone, Copy)]
 pub struct Replayed {
     pub executive: Executive,
     pub end: End,
 }
 
 // How many bytes of an input lie at the front of a buffer, and whether a read failed after them.
-#[derive(Drop)]
+#[derive(Clone, Copy)]
 pub struct Whole {
     pub length: usize,
     pub failed: bool,

@@ -1,4 +1,6 @@
 // Replay of an input that comes in chunks of any size, in constant memory.
+#![tactic(auto)]
+
 ghost use Rattle.std.specs.Prelude.{◌≡◌, true, cond, not, ◌&&◌, [], ◌++◌, ◌+◌, ◌-◌, ◌≤◌, min, length, take, drop, set, ltb};
 ghost use Rattle.machine.specs.declared.Numbers.{Numbers};
 ghost use Rattle.machine.specs.Limits.{line_length};
@@ -16,7 +18,7 @@ const HELD: usize = (1 + Module::WINDOWS + Module::CHANNELS) * Module::LINE;
 const REFUSED: u8 = 11;
 
 // What the next line of the input belongs to; after a refused table nothing is read.
-#[derive(Drop)]
+#[derive(Clone, Copy)]
 pub enum Stage {
     Table,
     Events,
@@ -24,14 +26,14 @@ pub enum Stage {
 }
 
 // Where a replay stands: its stage, its executive, and how many bytes it holds.
-#[derive(Drop)]
+#[derive(Clone, Copy)]
 pub struct Place {
     stage: Stage,
     executive: Executive,
     count: usize,
 }
 
-#[derive(Drop)]
+#[derive(Clone, Copy)]
 pub struct Stream {
     place: Place,
     held: [u8; HELD],
@@ -39,7 +41,7 @@ pub struct Stream {
 
 // What a stream took of a chunk and printed at the front of an output. The code is 0, or 11 where something is left for which the
 // output has no room: bytes of the chunk, or the last line.
-#[derive(Drop)]
+#[derive(Clone, Copy)]
 pub struct Advance {
     pub stream: Stream,
     pub taken: usize,
@@ -48,7 +50,7 @@ pub struct Advance {
 }
 
 // Where a line leads, and the numbers that it prints, if it does.
-#[derive(Drop)]
+#[derive(Clone, Copy)]
 struct Printout {
     place: Place,
     prints: bool,

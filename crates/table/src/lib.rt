@@ -1,4 +1,6 @@
 // Reading a table from a whole input, line by line.
+#![tactic(auto)]
+
 ghost use Rattle.std.specs.Prelude.{◌≡◌, true, cond, ◌&&◌, map, ◌+◌, ◌≤◌, ◌<◌, leb, length, drop};
 ghost use Rattle.machine.specs.Limits.{line_length, window_limit, channel_limit, size_limit};
 ghost use Rattle.machine.specs.Fields.{is_number, between, number_of};

@@ -1,4 +1,6 @@
 // The partitions that a tick goes through.
+#![tactic(auto)]
+
 ghost use Rattle.std.specs.Prelude.{◌≡◌, ◌≤◌};
 ghost use Rattle.machine.specs.Limits.{partition_limit};
 ghost use Rattle.machine.specs.Ticks.{partition_count};

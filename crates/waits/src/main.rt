@@ -1,5 +1,7 @@
 // Waiting times from standard input: a table, then a line of t, partition and four 0 for each question; one line of code, n and four 0 for
 // each to standard output. An input that is too long prints one line: 11 and five 0.
+#![tactic(auto)]
+
 ghost use Rattle.std.specs.Prelude.{◌≡◌, length};
 ghost use Rattle.machine.specs.Replay.{text_into};
 ghost use Rattle.whole_input.specs.WholeInput.{printed_text, held_printed, held_into};

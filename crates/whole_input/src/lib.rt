@@ -1,4 +1,6 @@
 // Whole inputs, into a lent output: what the replay program prints, and the waiting times that lines ask for.
+#![tactic(auto)]
+
 ghost use Rattle.std.specs.Prelude.{◌≡◌, ◌/◌, length, drop, ltb};
 ghost use Rattle.machine.specs.Limits.{line_length};
 ghost use Rattle.machine.specs.Line.{lines, read_at, written, written_at};
@@ -16,7 +18,7 @@ const REFUSED: u8 = 11;
 const UNASKED: u8 = 13;
 
 // 0 and how many bytes were printed, or 11 and nothing was; the value is 0.
-#[derive(Drop)]
+#[derive(Clone, Copy)]
 pub struct Printed {
     pub code: u8,
     pub value: u32,

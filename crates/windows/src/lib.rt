@@ -1,4 +1,6 @@
 // The windows of a table: the next start of a window, the current partition with the ticks left, the release point and the waiting time.
+#![tactic(auto)]
+
 ghost use Rattle.std.specs.Prelude.{◌≡◌, ◌≤◌, length};
 ghost use Rattle.machine.specs.Limits.{window_limit};
 ghost use Rattle.machine.specs.Windows.{windows, covers, flagged_for, next_start, lookup, release_point, waiting_of};
@@ -7,7 +9,7 @@ ghost use Rattle.windows.specs.Sought.{sought};
 use machine::{Lookup, Module, Table, Waiting, Window};
 
 // Which windows a search for a start goes by: any, those of a partition, those of a partition with flag 1.
-#[derive(Drop)]
+#[derive(Clone, Copy)]
 pub enum Sought {
     AnyWindow,
     OwnedBy(u32),

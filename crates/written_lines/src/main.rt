@@ -1,5 +1,7 @@
 // Lines of chosen numbers, written into outputs of chosen lengths: for each the answer's number, then every byte of the output, which had
 // dots before.
+#![tactic(auto)]
+
 use libc::STDOUT_FILENO;
 use machine::{Module, Numbers};
 

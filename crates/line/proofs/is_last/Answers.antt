@@ -1,0 +1,23 @@
+-- `is_last` meets its contract. The loop: the columns from i on hold what those from 1 on do.
+use Prim.Native.Nat.{◌≤◌, ◌-◌}
+use mathlib.Core.Bool.{true≢false}
+use mathlib.Core.Path.{◌≡◌, refl, sym}
+use native.Mathlib.Omega.{arith}
+use borrow.Author.Rules.{rules}
+use lib.ListN.{drop}
+use Rattle.machine.specs.Line.{field_width}
+use Rattle.line.specs.Scan.{first_from}
+use Rattle.line.proofs.Scan.{space_more}
+use Rattle.line.proofs.is_last.Goals as goal
+
+pub loop-i-init : goal.loop-i-init
+loop-i-init c = (omega arith, refl)
+
+pub returns-then-s-i-ne32 : goal.returns-then-s-i-ne32
+returns-then-s-i-ne32 c = λ e. absurd (true≢false (sym e))
+
+pub loop-i-preserved : goal.loop-i-preserved
+loop-i-preserved c = (omega arith, space_more c.args.s.now _ _ c.loop-i.invariant.1 (omega arith) c.if-s-i-ne32.false)
+
+pub returns : goal.returns
+returns c = λ e. let w : c.loop-i.i ≡ field_width - 1 = omega arith in rw w at c.loop-i.invariant.1

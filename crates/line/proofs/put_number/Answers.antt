@@ -1,0 +1,34 @@
+-- `put_number` meets its contract. The loop: the columns left of j are left to store, and have spaces.
+use Prim.Native.Nat.{◌≤◌, ◌+◌, ◌-◌}
+use mathlib.Core.Path.{◌≡◌, refl, ◌∙◌}
+use native.Mathlib.Omega.{arith}
+use borrow.Author.Rules.{rules}
+use lib.ListN.{length, length-set}
+use lib.Seq.{sets}
+use Rattle.machine.specs.Line.{space, field_width, columns}
+use Rattle.line.specs.Blank.{Blank}
+use Rattle.line.proofs.Writing.{number_stored, digit_stored, left_blank, columns_stored, blank_less}
+use Rattle.line.proofs.put_number.Goals as goal
+
+pub loop-rest-init : goal.loop-rest-init
+loop-rest-init c = (omega arith, simp length-set (omega arith), refl, blank_less c.args.out.now c.args.at field_width _ c.requires.1, refl)
+
+pub returns-then-j-eq0 : goal.returns-then-j-eq0
+returns-then-j-eq0 c = columns_stored _ _ _ _ _ _ (omega arith) (c.loop-rest.invariant.4 ∙ number_stored _ _ _ _ _ c.last_digit.ensures)
+
+pub bounds-out-at-in-loop-rest : goal.bounds-out-at-in-loop-rest
+bounds-out-at-in-loop-rest c = omega arith
+
+pub loop-rest-preserved : goal.loop-rest-preserved
+loop-rest-preserved c = let loop = c.loop-rest in (omega arith, simp length-set (omega arith), length-set loop.out _ _ ∙ loop.invariant.2, blank_less loop.out _ _ _ loop.invariant.3, digit_stored loop.out _ _ _ _ _ (omega arith) loop.invariant.4 _ c.loop-rest-test.true c.last_digit-in-loop-rest.ensures)
+
+pub returns : goal.returns
+returns c = let loop = c.loop-rest in left_blank loop.out _ loop.j _ _ c.loop-rest-test.false loop.invariant.3 (loop.invariant.4 ∙ number_stored _ _ _ _ _ c.last_digit.ensures)
+
+-- LEFT
+-- same_length : tie.Need-same-length invariant_loop decreases_loop
+-- same_length c = c.before.before.loop.invariant.2 ∙ simp length-set
+
+-- LEFT
+-- same_length_2 : tie.Need-same-length-2 invariant_loop decreases_loop
+-- same_length_2 c = c.before.loop.invariant.2 ∙ simp length-set

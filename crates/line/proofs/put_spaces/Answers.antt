@@ -1,0 +1,22 @@
+-- `put_spaces` meets its contract. The loop: spaces up to k.
+use Prim.Native.Nat.{◌≤◌, ◌-◌}
+use mathlib.Core.Path.{◌≡◌, refl, ◌∙◌}
+use native.Mathlib.Omega.{arith}
+use borrow.Author.Rules.{rules}
+use lib.ListN.{length, length-set}
+use Rattle.line.specs.Blank.{fields_length, Blank, Alike}
+use Rattle.line.proofs.Writing.{alike_more, blank_more}
+use Rattle.line.proofs.put_spaces.Goals as goal
+
+pub loop-k-init : goal.loop-k-init
+loop-k-init c = (omega arith, refl, (λ k lo hi. absurd (omega arith)), (λ m w. refl))
+
+pub loop-k-preserved : goal.loop-k-preserved
+loop-k-preserved c = let loop = c.loop-k in (omega arith, length-set loop.out _ _ ∙ loop.invariant.1, blank_more loop.out loop.k (omega arith) loop.invariant.2, alike_more _ loop.k _ loop.out _ (omega arith) loop.invariant.3)
+
+pub returns : goal.returns
+returns c = let loop = c.loop-k in (loop.invariant.1, (λ k lo hi. loop.invariant.2 k lo (omega arith)), loop.invariant.3)
+
+-- LEFT
+-- same_length : tie.Need-same-length invariant_loop decreases_loop
+-- same_length c = c.before.loop.invariant.1

@@ -1,0 +1,14 @@
+use Prim.Native.Nat.{ℕ, ◌+◌, ◌-◌, ◌≤◌}
+use mathlib.Core.Path.{◌≡◌, refl, sym, ap, ◌∙◌}
+use native.Mathlib.Omega.{arith}
+use Rattle.machine.specs.Process.{entered}
+use Rattle.machine.specs.Partition.{each_from, with_mode, entered_normal}
+use Rattle.machine.proofs.Folds.{each_more, each_done}
+use Rattle.partition.proofs.Laws.{each_start}
+use Rattle.partition.proofs.enter_normal.Given as goal
+
+abbrev pub invariant-loop-id : goal.invariant-loop-id
+invariant-loop-id l = (l.id ≤ l.n) × (each_from (entered l.c) (l.n - l.id) (l.id + 1) l.q ≡ each_from (entered l.c) l.n 1 l.initial.q)
+
+abbrev pub decreases-loop-id : goal.decreases-loop-id
+decreases-loop-id l = l.n - l.id

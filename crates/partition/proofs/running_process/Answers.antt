@@ -1,0 +1,37 @@
+use Prim.Native.Nat.{◌-◌, ◌≤◌}
+use mathlib.Core.Path.{◌≡◌, refl, ap, sym, ◌∙◌}
+use mathlib.Core.Logic.{⊎_elim}
+use native.Mathlib.Omega.{arith}
+use lib.ListN.{drop}
+use borrow.Author.Rules.{rules}
+use borrow.Author.Tests.{eq-eqb, ne_eqb, lt-ltb, le-ltb}
+use Rattle.machine.specs.declared.Choice.{Choice}
+use Rattle.machine.specs.Ids.{members}
+use Rattle.machine.specs.Partition.{chosen, running}
+use Rattle.machine.proofs.Folds.{chosen_more, chosen_done}
+use Rattle.partition.proofs.Laws.{read_in, read_out}
+use Rattle.partition.proofs.running_process.Goals as goal
+
+pub returns-then-p-ne3 : goal.returns-then-p-ne3
+unfolding running
+returns-then-p-ne3 c = rw (ne_eqb _ _ c.if-p-ne3.true)
+
+pub returns-then-p-gt0 : goal.returns-then-p-gt0
+unfolding running
+returns-then-p-gt0 c = rw (eq-eqb _ _ c.if-p-ne3.false, lt-ltb _ _ c.if-p-gt0.true)
+
+pub loop-i-init : goal.loop-i-init
+loop-i-init c = (omega arith, refl)
+
+pub bounds-arrival-i : goal.bounds-arrival-i
+bounds-arrival-i c = omega (arith, c.count-n.ensures.1)
+
+pub overflow_add-i : goal.overflow_add-i
+overflow_add-i c = omega (arith, c.count-n.ensures.1)
+
+pub loop-i-preserved : goal.loop-i-preserved
+loop-i-preserved c = let p = c.args.p in let x = ⊎_elim (λ w. read_in c.wide.result c.slot-k.result p c.if-k-lt-PROCESSES.x c.slot-k.ensures w.0.taken w.2) (λ w. read_out c.wide.result c.slot-k.result p c.if-k-lt-PROCESSES.x c.slot-k.ensures w.0.left (w.1 ∙ c.blank-x.ensures)) c.if-k-lt-PROCESSES.branch in (omega arith, rw (c.or_later-best.ensures, x, c.wide.ensures) (sym (chosen_more p.arrival c.loop-i.i p c.loop-i.best (omega (arith, c.count-n.ensures.0))) ∙ c.loop-i.invariant.1))
+
+pub returns : goal.returns
+unfolding running
+returns c = let p = c.args.p in rw (eq-eqb _ _ c.if-p-ne3.false, le-ltb _ _ c.if-p-gt0.false) (ap (λ (x : Choice). x.id) (sym (chosen_done p.arrival c.loop-i.i p c.loop-i.best (omega (arith, c.count-n.ensures.0))) ∙ c.loop-i.invariant.1))

@@ -1,0 +1,18 @@
+use Prim.Native.Nat.{ℕ, ◌-◌, ◌≤◌, ◌<◌}
+use mathlib.Core.Path.{◌≡◌, ap, ◌∙◌}
+use mathlib.Core.List.{map}
+use native.Mathlib.Omega.{arith}
+use lib.ListN.{take}
+use Rattle.machine.specs.Limits.{message_limit}
+use Rattle.machine.specs.Ids.{members}
+use Rattle.machine.specs.Messages.{queue_of}
+use Rattle.machine.specs.Process.{carried}
+use Rattle.machine.specs.Partition.{process}
+use Rattle.partition.proofs.Laws.{gathered_more, gathered_all}
+use Rattle.partition.proofs.waiting_messages.Given as goal
+
+abbrev pub invariant-loop-i : goal.invariant-loop-i
+invariant-loop-i l = l.q ≡ queue_of (map (λ id. carried (process id l.p)) (take l.i (members l.ids)))
+
+abbrev pub decreases-loop-i : goal.decreases-loop-i
+decreases-loop-i l = l.len - l.i

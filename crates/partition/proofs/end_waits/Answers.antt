@@ -18,7 +18,7 @@ pub overflow_add-i : goal.overflow_add-i
 overflow_add-i c = omega (arith, c.count-n.ensures.1)
 
 pub loop-i-preserved : goal.loop-i-preserved
-loop-i-preserved c = let a = c.args in let l = c.loop-i in (omega arith, rw c.end_wait-q.ensures (sym (changed_more a.t2 l.i l.q (served_with a.hands a.m) (omega (arith, c.count-n.ensures.0))) ∙ l.invariant.1))
+loop-i-preserved c = let a = c.args in let l = c.loop-i in (omega arith, rw c.end_wait-q.ensures (sym (changed_more a.ids l.i l.q (served_with a.hands a.m) (omega (arith, c.count-n.ensures.0))) ∙ l.invariant.1))
 
 pub returns : goal.returns
-returns c = let a = c.args in let l = c.loop-i in sym (changed_done a.t2 l.i l.q (served_with a.hands a.m) (omega (arith, c.count-n.ensures.0))) ∙ l.invariant.1
+returns c = let a = c.args in let l = c.loop-i in sym (changed_done a.ids l.i l.q (served_with a.hands a.m) (omega (arith, c.count-n.ensures.0))) ∙ l.invariant.1

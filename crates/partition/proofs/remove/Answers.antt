@@ -12,13 +12,10 @@ use Rattle.machine.specs.declared.Ids.{Ids}
 use Rattle.machine.proofs.Lists.{scan_done}
 use Rattle.partition.proofs.Laws.{kept_in, kept_full, kept_out}
 use Rattle.partition.proofs.remove.Goals as goal
+use Rattle.partition.proofs.remove.Goals.{then-x-id+then-k-lt-PROCESSES, then-x-id+else-k-lt-PROCESSES, else-x-id}
 
 abbrev len_of : Ids → ℕ
 len_of q = q.len
-
--- the list has its places
-long : (c : tie.Start invariant_loop decreases_loop) → length c.args.t1.items ≡ process_limit
-long c = search rules
 
 pub loop-i-init : goal.loop-i-init
 unfolding kept
@@ -40,20 +37,19 @@ pub loop-i-smaller : goal.loop-i-smaller
 loop-i-smaller c = omega (arith, c.loop-i-test.true)
 
 pub loop-i-preserved : goal.loop-i-preserved
-loop-i-preserved c = 
+loop-i-preserved c =
     let a = c.args in
     let l = c.loop-i in
     let t = c.loop-i-test.true in
     let f = other a.id in
     let s : l.i < process_limit = omega (arith, t, c.count-n.ensures.1) in
-    let g = long c in
-    let h : l.i < length a.t1.items = omega (arith, s, g) in
-    ⊎_elim
-    (λ w. let z : c.if-x-id.found.len ≡ l.found.len + 1 = ap len_of w.2 in (omega (arith, t), w.2 ∙ kept_in f a.t1.items l.i l.found h s l.invariant.1 (ap not (ne_eqb _ _ w.0.taken)) w.1.taken, omega (arith, z, l.invariant.2)))
-    (⊎_elim
-    (λ w. let z : c.if-x-id.found.len ≡ l.found.len = ap len_of w.2 in (omega (arith, t), w.2 ∙ kept_full f a.t1.items l.i l.found h s l.invariant.1 (ap not (ne_eqb _ _ w.0.taken)) w.1.left, omega (arith, z, l.invariant.2)))
-    (λ w. let z : c.if-x-id.found.len ≡ l.found.len = ap len_of w.1 in (omega (arith, t), w.1 ∙ kept_out f a.t1.items l.i l.found h s l.invariant.1 (ap not (eq-eqb _ _ w.0.left)), omega (arith, z, l.invariant.2))))
-    c.if-x-id.branch
+    let g : length a.q.items ≡ process_limit = search rules in
+    let h : l.i < length a.q.items = omega (arith, s, g) in
+    elim c.if-x-id.branch [
+      | then-x-id+then-k-lt-PROCESSES w ↦ (let z : c.if-x-id.found.len ≡ l.found.len + 1 = ap len_of w.found-is in (omega (arith, t), w.found-is ∙ kept_in f a.q.items l.i l.found h s l.invariant.1 (ap not (ne_eqb _ _ w.if-x-id.true)) w.if-k-lt-PROCESSES.true, omega (arith, z, l.invariant.2)))
+      | then-x-id+else-k-lt-PROCESSES w ↦ (let z : c.if-x-id.found.len ≡ l.found.len = ap len_of w.found-is in (omega (arith, t), w.found-is ∙ kept_full f a.q.items l.i l.found h s l.invariant.1 (ap not (ne_eqb _ _ w.if-x-id.true)) w.if-k-lt-PROCESSES.false, omega (arith, z, l.invariant.2)))
+      | else-x-id w ↦ (let z : c.if-x-id.found.len ≡ l.found.len = ap len_of w.found-is in (omega (arith, t), w.found-is ∙ kept_out f a.q.items l.i l.found h s l.invariant.1 (ap not (eq-eqb _ _ w.if-x-id.false)), omega (arith, z, l.invariant.2)))
+    ]
 
 pub returns : goal.returns
 unfolding removed

@@ -7,10 +7,11 @@ use borrow.Author.Rules.{rules}
 use borrow.Author.Tests.{eq-eqb, ne_eqb, lt-ltb, le-ltb}
 use Rattle.machine.specs.declared.Choice.{Choice}
 use Rattle.machine.specs.Ids.{members}
-use Rattle.machine.specs.Partition.{chosen, running}
+use Rattle.machine.specs.Partition.{chosen, running, process}
 use Rattle.machine.proofs.Folds.{chosen_more, chosen_done}
 use Rattle.partition.proofs.Laws.{read_in, read_out}
 use Rattle.partition.proofs.running_process.Goals as goal
+use Rattle.partition.proofs.running_process.Goals.{then-k-lt-PROCESSES, else-k-lt-PROCESSES}
 
 pub returns-then-p-ne3 : goal.returns-then-p-ne3
 unfolding running
@@ -30,7 +31,7 @@ pub overflow_add-i : goal.overflow_add-i
 overflow_add-i c = omega (arith, c.count-n.ensures.1)
 
 pub loop-i-preserved : goal.loop-i-preserved
-loop-i-preserved c = let p = c.args.p in let x = ⊎_elim (λ w. read_in c.wide.result c.slot-k.result p c.if-k-lt-PROCESSES.x c.slot-k.ensures w.0.taken w.2) (λ w. read_out c.wide.result c.slot-k.result p c.if-k-lt-PROCESSES.x c.slot-k.ensures w.0.left (w.1 ∙ c.blank-x.ensures)) c.if-k-lt-PROCESSES.branch in (omega arith, rw (c.or_later-best.ensures, x, c.wide.ensures) (sym (chosen_more p.arrival c.loop-i.i p c.loop-i.best (omega (arith, c.count-n.ensures.0))) ∙ c.loop-i.invariant.1))
+loop-i-preserved c = let p = c.args.p in let x : c.if-k-lt-PROCESSES.x ≡ process c.wide.result p = elim c.if-k-lt-PROCESSES.branch [ then-k-lt-PROCESSES w ↦ read_in c.wide.result c.slot-k.result p c.if-k-lt-PROCESSES.x c.slot-k.ensures w.if-k-lt-PROCESSES.true w.x-is | else-k-lt-PROCESSES w ↦ read_out c.wide.result c.slot-k.result p c.if-k-lt-PROCESSES.x c.slot-k.ensures w.if-k-lt-PROCESSES.false (w.x-is ∙ c.blank-x.ensures) ] in (omega arith, rw (c.or_later-best.ensures, x, c.wide.ensures) (sym (chosen_more p.arrival c.loop-i.i p c.loop-i.best (omega (arith, c.count-n.ensures.0))) ∙ c.loop-i.invariant.1))
 
 pub returns : goal.returns
 unfolding running

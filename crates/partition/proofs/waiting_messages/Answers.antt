@@ -21,7 +21,7 @@ pub overflow_add-i : goal.overflow_add-i
 overflow_add-i c = omega (arith, c.count-len.ensures.1)
 
 pub loop-i-preserved : goal.loop-i-preserved
-loop-i-preserved c = 
+loop-i-preserved c =
     let a = c.args in
     let ids = c.first_waiters-ids.result in
     let n = c.count-len.ensures in
@@ -31,7 +31,7 @@ loop-i-preserved c =
     (gathered_more (λ id. carried (process id a.p)) ids l.i (omega (arith, n.0)) low)
 
 pub returns : goal.returns
-returns c = 
+returns c =
     let a = c.args in
     let ids = c.first_waiters-ids in
     c.loop-i.invariant

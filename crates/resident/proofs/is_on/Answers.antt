@@ -1,0 +1,5 @@
+use borrow.Author.Rules.{rules}
+use Rattle.resident.proofs.is_on.Goals as goal
+
+pub returns : goal.returns
+returns c = rw c.waited_for.ensures

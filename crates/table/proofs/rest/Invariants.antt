@@ -1,0 +1,23 @@
+-- `rest` meets its contract. The loop: the lines from `at` on, with the draft so far, give what the whole gives.
+use borrow.Author.Tests.{not-false}
+use Rattle.machine.proofs.TextInput.{few_left}
+use Rattle.table.proofs.Laws.{lines_from, part_read, head_sound, head_read, room, line_refused, row_refused, row_taken, lines_done}
+use Prim.Native.Nat.{◌+◌, ◌-◌, ◌≤◌}
+use mathlib.Core.Path.{◌≡◌, sym, ◌∙◌}
+use native.Mathlib.Omega.{arith}
+use lib.ListN.{length}
+use borrow.Author.Rules.{rules}
+use Rattle.machine.specs.Limits.{line_length}
+use Rattle.machine.specs.Table.{table_from}
+use Rattle.machine.proofs.Tables.{SoundDraft}
+use Rattle.table.proofs.rest.Given as goal
+
+abbrev pub invariant-loop-line : goal.invariant-loop-line
+invariant-loop-line l = 
+    (l.line ≤ l.total)
+    × (l.at ≤ length l.input)
+    × SoundDraft (l.total - l.line) l.d
+    × (table_from (l.total - l.line) l.line l.d (lines_from l.input l.at) ≡ table_from (l.initial.d.windows + l.initial.d.channels) 1 l.initial.d (lines_from l.input line_length))
+
+abbrev pub decreases-loop-line : goal.decreases-loop-line
+decreases-loop-line l = l.total - l.line

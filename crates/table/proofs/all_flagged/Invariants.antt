@@ -10,15 +10,8 @@ use Rattle.machine.specs.Table.{has_flagged, flagged_from}
 use Rattle.table.proofs.Laws.{window_found, window_passed, window_missing, partitions_start, partition_flagged, partition_unflagged, partitions_end, last_flagged}
 use Rattle.table.proofs.all_flagged.Given as goal
 
--- ARITY ['t', 'size', 'n', 'k₀', 'i₀', 'k', 'i'] ['l.t', 'l.size', 'l.n', 'l.k', 'l.initial.i', 'l.i']
-
 abbrev pub invariant-loop-i : goal.invariant-loop-i
-invariant-loop-i l = (l.i ≡ l.k) × (i ≤ l.n) × (has_flagged l.i (drop i (windows l.t)) ≡ has_flagged l.i (windows l.t))
-
--- ARITY ['t', 'size', 'n', 'k₀', 'i₀', 'k', 'i'] ['l.t', 'l.size', 'l.n', 'l.k', 'l.initial.i', 'l.i']
-
-abbrev pub decreases-loop-i : goal.decreases-loop-i
-decreases-loop-i l = l.n - i
+invariant-loop-i l = has_flagged l.k (drop l.i (windows l.t)) ≡ has_flagged l.k (windows l.t)
 
 abbrev pub invariant-partitions : goal.invariant-partitions
 invariant-partitions l = flagged_from (l.size + 1 - l.k) l.k (windows l.t) ≡ flagged_from l.size 1 (windows l.t)

@@ -77,12 +77,11 @@ returns-then-not-is_row_good c =
     let loop-test = c.loop-line-test in
     let if1 = c.if-input-at-lt-LINE in
     let read = c.read in
-    let n = c.n-1 in
     let row_of = c.row_of-row in
     head_read start.args.head _ _ start.requires.0 head_draft_holds.ensures _ (c.refused-then-not-is_row_good.ensures ∙ row_refused
     start.args.input.now loop.at _ loop.line loop.d loop-test.true _ loop.invariant.3
     (omega (arith, if1.false, loop.invariant.1)) _
-    (part_read start.args.input.now loop.at _ read.ensures _ n.given.1) _ row_of.ensures _
+    (part_read start.args.input.now loop.at _ read.ensures _ c.in-Six.is) _ row_of.ensures _
     c.is_row_good.ensures c.if-not-is_row_good.true-raw)
 
 pub with_row-d-requires : goal.with_row-d-requires
@@ -110,12 +109,11 @@ loop-line-preserved c =
     let loop-test = c.loop-line-test in
     let if1 = c.if-input-at-lt-LINE in
     let read = c.read in
-    let n = c.n-1 in
     let row_of = c.row_of-row in
     let s =
     row_taken start.args.input.now loop.at _ loop.line loop.d loop-test.true _ loop.invariant.3
     (omega (arith, if1.false, loop.invariant.1)) _
-    (part_read start.args.input.now loop.at _ read.ensures _ n.given.1) _ row_of.ensures _
+    (part_read start.args.input.now loop.at _ read.ensures _ c.in-Six.is) _ row_of.ensures _
     c.is_row_good.ensures c.if-not-is_row_good.false-raw _ c.with_row-d.ensures loop.invariant.2
     in
     (omega (arith, loop-test.true), omega (arith, if1.false, loop.invariant.1), s.0, s.1)
@@ -127,11 +125,3 @@ returns c =
     let loop = c.loop-line in
     head_read start.args.head _ _ start.requires.0 head_draft_holds.ensures _
     (c.checked.ensures ∙ lines_done _ loop.line loop.d _ _ c.loop-line-test.false loop.invariant.3)
-
--- LEFT
--- part_read_start : tie.Need-slice-bounds-read-start invariant_loop decreases_loop
--- part_read_start c = omega arith
-
--- LEFT
--- part_read_end : tie.Need-slice-bounds-read-end invariant_loop decreases_loop
--- part_read_end c = omega arith

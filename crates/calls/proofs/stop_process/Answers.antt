@@ -1,0 +1,20 @@
+use borrow.Author.Tests.{eq-eqb, ne_eqb}
+use Rattle.machine.specs.Decisions.{checked}
+use Rattle.machine.specs.Calls.{stop}
+use Rattle.calls.proofs.stop_process.Goals as goal
+
+pub returns-then-is_unknown : goal.returns-then-is_unknown
+unfolding stop checked
+returns-then-is_unknown c p s = rw (← s.count, ← s.named, ← c.is_unknown.ensures, c.if-is_unknown.true)
+
+pub returns-then-id-caller_of : goal.returns-then-id-caller_of
+unfolding stop checked
+returns-then-id-caller_of c p s = rw (← s.count, ← s.named, ← c.is_unknown.ensures, c.if-is_unknown.false, ← c.caller_of.ensures, eq-eqb _ _ c.if-id-caller_of.true)
+
+pub returns-then-not-x : goal.returns-then-not-x
+unfolding stop checked
+returns-then-not-x c p s = rw (← s.count, ← s.named, ← c.is_unknown.ensures, c.if-is_unknown.false, ← c.caller_of.ensures, ne_eqb _ _ c.if-id-caller_of.false, ← c.named_in-x.ensures, c.if-not-x.true)
+
+pub returns : goal.returns
+unfolding stop checked
+returns c p s = rw (← s.count, ← s.named, c.changed.ensures, c.stop.ensures, ← c.is_unknown.ensures, c.if-is_unknown.false, ← c.caller_of.ensures, ne_eqb _ _ c.if-id-caller_of.false, ← c.named_in-x.ensures, c.if-not-x.false)

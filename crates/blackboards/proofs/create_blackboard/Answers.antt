@@ -1,0 +1,18 @@
+use mathlib.Core.Path.{refl, sym, ◌∙◌}
+use native.Mathlib.Omega.{arith}
+use Rattle.machine.specs.Blackboards.{create_blackboard}
+use Rattle.decisions.proofs.Laws.{refused_code, passed_code, admitted_code}
+use Rattle.objects.proofs.Laws.{named_low}
+use borrow.Author.Rules.{rules}
+use Rattle.blackboards.proofs.create_blackboard.Goals as goal
+
+pub returns-then-code-ne0 : goal.returns-then-code-ne0
+unfolding create_blackboard
+returns-then-code-ne0 c p k id s t = rw (← t, ← s.blackboards, ← s.mode) (refused_code _ _ (rw (c.taken_in.ensures, c.is_name.ensures) at c.creation_code-code.ensures) _ c.if-code-ne0.true)
+
+pub overflow_cast-number_of : goal.overflow_cast-number_of
+overflow_cast-number_of c = omega (arith, c.number_of.ensures, named_low c.args.name (sym c.is_name.ensures ∙ admitted_code _ _ _ _ _ c.creation_code-code.ensures c.if-code-ne0.false))
+
+pub returns : goal.returns
+unfolding create_blackboard
+returns c p k id s t = rw (← t, ← s.blackboards, ← s.mode, c.empty_blackboard-b.ensures, c.number_of.ensures) (passed_code _ _ (rw (c.taken_in.ensures, c.is_name.ensures) at c.creation_code-code.ensures) _ refl c.if-code-ne0.false).0

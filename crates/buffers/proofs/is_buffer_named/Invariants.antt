@@ -1,0 +1,17 @@
+use Prim.Native.Nat.{◌-◌}
+use mathlib.Core.Path.{◌≡◌, refl}
+use native.Mathlib.Omega.{arith}
+use lib.ListN.{length}
+use borrow.Author.Rules.{rules}
+use Rattle.machine.specs.declared.Buffer.{Buffer}
+use Rattle.machine.specs.Limits.{buffer_limit}
+use Rattle.machine.specs.Partition.{no_buffer}
+use Rattle.machine.proofs.Taken.{length_mapped}
+use Rattle.decisions.proofs.Names.{NotBefore, name_here, name_later, name_nowhere}
+use Rattle.buffers.proofs.is_buffer_named.Given as goal
+
+abbrev pub invariant-loop-i : goal.invariant-loop-i
+invariant-loop-i l = NotBefore (λ (x : Buffer). x.name) l.name l.p.buffers l.p.bufferCount l.i
+
+abbrev pub decreases-loop-i : goal.decreases-loop-i
+decreases-loop-i l = buffer_limit - l.i

@@ -7,6 +7,7 @@ use Rattle.machine.specs.Channels.{refilled_to}
 use Rattle.queuing.proofs.Laws.{refilled_none, refilled_here, refilled_past}
 use borrow.Author.Rules.{rules}
 use Rattle.queuing.proofs.refill.Goals as goal
+use Rattle.queuing.proofs.refill.Goals.{then-is_refilled, else-is_refilled}
 
 pub loop-i-init : goal.loop-i-init
 loop-i-init c = (omega arith, refilled_none _ _)
@@ -16,10 +17,10 @@ loop-i-preserved c =
     let a = c.args in
     let l = c.loop-i in (
       omega arith,
-      ⊎_elim
-          (λ w. rw w.2 (w.1.ensures ∙ refilled_here a.k l.i a.m l.r l.invariant.1 (sym c.is_refilled.ensures ∙ w.0.taken)))
-          (λ w. rw w.1 (refilled_past a.k l.i a.m l.r l.invariant.1 (sym c.is_refilled.ensures ∙ w.0.left)))
-          c.if-is_refilled.branch,
+      elim c.if-is_refilled.branch [
+        then-is_refilled w ↦ rw w.r-is (w.refill_at-r.ensures ∙ refilled_here a.k l.i a.m l.r l.invariant.1 (sym c.is_refilled.ensures ∙ w.if-is_refilled.true))
+        | else-is_refilled w ↦ rw w.r-is (refilled_past a.k l.i a.m l.r l.invariant.1 (sym c.is_refilled.ensures ∙ w.if-is_refilled.false))
+      ],
     )
 
 pub returns : goal.returns

@@ -1,4 +1,3 @@
-pub mod TwoFields
 pub mod Runs
 pub mod Laws
 pub mod TwoCalls

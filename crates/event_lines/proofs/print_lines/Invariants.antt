@@ -1,0 +1,12 @@
+use Prim.Native.Nat.{◌-◌, ◌<◌}
+use native.Mathlib.Omega.{arith}
+use borrow.Author.Rules.{rules}
+use lib.ListN.{length}
+use Rattle.event_lines.proofs.Blocks.{Printing, printing_begins, printing_done, printing_fits, printing_more}
+use Rattle.event_lines.proofs.print_lines.Given as goal
+
+abbrev pub invariant-loop-i : goal.invariant-loop-i
+invariant-loop-i l = Printing l.initial.out l.from l.list l.n l.out l.to l.i
+
+abbrev pub decreases-loop-i : goal.decreases-loop-i
+decreases-loop-i l = l.n - l.i

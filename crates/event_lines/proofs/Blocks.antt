@@ -218,7 +218,7 @@ sixes_answers (x ∷ rs) = rw (sixes_answers rs)
 
 answers_count : (m : Module) (es : List Event) → length (answers m es) ≡ length es
 answers_count m [] = refl
-answers_count m (v ∷ es) = ap suc (answers_count _ es)
+answers_count m (v ∷ es) = ap suc (answers_count (next m v) es)
 
 pub answered_length : (m : Module) (es : List Event) → length (answered_list m (event_numbers es)) ≡ length es * six
 answered_length m es = ap length (list_answered m es) ∙ answers_length m es

@@ -82,7 +82,7 @@ line_done_holds s m p own v h = rw (h.bytes, read_held p, own, heard_text m (rea
 event_feed : (s : Stream) (m : Module) (p : List ℕ) (b : ℕ) → s.place.stage ≡ Events → s.place.executive.inner ≡ m → ValidModule m → Holds s p
     → eqb b line_feed ≡ true → feed s b ≡ line_done (put s b) m (p ++ b ∷ [])
 unfolding feed
-event_feed s m p b st own v h e = rw (e, st) (rw st at (line_done_holds (put s b) m (p ++ b ∷ []) own v (holds_put s p b h)))
+event_feed s m p b st own v h e = rw (e, st) (line_done_holds (put s b) m (p ++ b ∷ []) own v (holds_put s p b h))
 
 event_close : (s : Stream) (m : Module) (b : ℕ) (q : List ℕ) → s.place.stage ≡ Events → s.place.executive.inner ≡ m → ValidModule m → Holds s (b ∷ q)
     → closed s ≡ line_done s m (b ∷ q)

@@ -1,0 +1,17 @@
+-- `answer_line` meets its contract.
+use mathlib.Core.Path.{◌≡◌, ◌∙◌}
+use borrow.Author.Rules.{rules}
+use Rattle.machine.specs.Line.{read_at}
+use Rattle.line.proofs.Meaning.{reads}
+use Rattle.whole_input.proofs.answer_line.Goals as goal
+
+pub returns : goal.returns
+returns c = 
+    let read_at = c.read_at in
+    let step_line = c.step_line-h in
+    let start = c in
+    let l : read_at.result ≡ read_at start.args.input.now start.args.at = reads _ _ read_at.ensures in
+    let Numbers-of = c.before.before.before.before.Numbers-of in (
+      rw (step_line.ensures, l),
+      c.write_at.ensures.1 ∙ rw (Numbers-of.ensures, step_line.ensures, l),
+    )

@@ -31,7 +31,3 @@ overflow_sub-result c = c.loop-i.invariant.start
 
 pub returns : goal.returns
 returns c = printing_done _ _ _ _ _ _ _ c.loop-i.invariant c.loop-i-test.false
-
--- LEFT
--- same_length : tie.Need-same-length invariant_loop decreases_loop
--- same_length c = c.before.loop.invariant.size

@@ -33,11 +33,3 @@ loop-n-preserved c = reading_more _ _ _ _ _ _ _ c.loop-n.invariant _ (sym (reads
 
 pub returns : goal.returns
 returns c = reading_done _ _ _ _ _ _ _ c.loop-n.invariant c.loop-n-test.false
-
--- LEFT
--- same_length : tie.Need-same-length invariant_loop decreases_loop
--- same_length c = c.before.before.before.before.loop.invariant.size
-
--- LEFT
--- same_length_2 : tie.Need-same-length-2 invariant_loop decreases_loop
--- same_length_2 c = c.before.loop.invariant.size

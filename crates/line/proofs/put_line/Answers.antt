@@ -13,7 +13,3 @@ returns c =
     let n = c.args.n in
     feed_stored (number_list n) field_count _ _ refl (c.put_next-6.ensures.3 ∙ c.put_next-5.ensures.3 ∙ c.put_next-4.ensures.3 ∙ c.put_next-3.ensures.3 ∙ c.put_next-2.ensures.3 ∙ c.put_next.ensures.3)
     ∙ c.put_spaces.ensures.2 (line_text (number_list n)) (omega (arith, six_length n))
-
--- LEFT
--- same_length : tie.Need-same-length
--- same_length c = simp length-set (c.before.before.put-next6.ensures.0 ∙ c.before.before.before.before.before.before.put-next5.ensures.0 ∙ c.before.before.before.before.before.before.before.before.before.before.put-next4.ensures.0 ∙ c.before.before.before.before.before.before.before.before.before.before.before.before.before.before.put-next3.ensures.0 ∙ c.before.before.before.before.before.before.before.before.before.before.before.before.before.before.before.before.before.before.put-next2.ensures.0 ∙ c.before.before.before.before.before.before.before.before.before.before.before.before.before.before.before.before.before.before.before.before.before.before.put_next.ensures.0 ∙ c.before.before.before.before.before.before.before.before.before.before.before.before.before.before.before.before.before.before.before.before.before.before.before.before.before.before.put-spaces.ensures.0)

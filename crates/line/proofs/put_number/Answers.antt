@@ -24,11 +24,3 @@ loop-rest-preserved c = let loop = c.loop-rest in (omega arith, simp length-set 
 
 pub returns : goal.returns
 returns c = let loop = c.loop-rest in left_blank loop.out _ loop.j _ _ c.loop-rest-test.false loop.invariant.3 (loop.invariant.4 ∙ number_stored _ _ _ _ _ c.last_digit.ensures)
-
--- LEFT
--- same_length : tie.Need-same-length invariant_loop decreases_loop
--- same_length c = c.before.before.loop.invariant.2 ∙ simp length-set
-
--- LEFT
--- same_length_2 : tie.Need-same-length-2 invariant_loop decreases_loop
--- same_length_2 c = c.before.loop.invariant.2 ∙ simp length-set

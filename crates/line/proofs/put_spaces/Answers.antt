@@ -16,7 +16,3 @@ loop-k-preserved c = let loop = c.loop-k in (omega arith, length-set loop.out _ 
 
 pub returns : goal.returns
 returns c = let loop = c.loop-k in (loop.invariant.1, (λ k lo hi. loop.invariant.2 k lo (omega arith)), loop.invariant.3)
-
--- LEFT
--- same_length : tie.Need-same-length invariant_loop decreases_loop
--- same_length c = c.before.loop.invariant.1

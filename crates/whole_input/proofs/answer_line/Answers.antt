@@ -6,12 +6,12 @@ use Rattle.line.proofs.Meaning.{reads}
 use Rattle.whole_input.proofs.answer_line.Goals as goal
 
 pub returns : goal.returns
-returns c = 
-    let read_at = c.read_at in
+returns c =
+    let got = c.read_at in
     let step_line = c.step_line-h in
     let start = c in
-    let l : read_at.result ≡ read_at start.args.input.now start.args.at = reads _ _ read_at.ensures in
-    let Numbers-of = c.before.before.before.before.Numbers-of in (
+    let l : got.result ≡ read_at start.args.input.now start.args.at = reads _ _ got.ensures in
+    let numbers = c.numbers_of in (
       rw (step_line.ensures, l),
-      c.write_at.ensures.1 ∙ rw (Numbers-of.ensures, step_line.ensures, l),
+      c.write_at.ensures.1 ∙ rw (numbers.ensures, step_line.ensures, l),
     )

@@ -6,7 +6,7 @@ use borrow.Author.Rules.{rules}
 use Rattle.whole_input.proofs.ask_line.Goals as goal
 
 pub returns : goal.returns
-returns c = 
+returns c =
     let a = c.args in
     let read = c.read_at in
     let line = waiting_line a.e.inner.table read.result _ (reads read.result _ read.ensures) _ c.waiting_of-w.ensures in

@@ -13,7 +13,7 @@ pub overflow_add-n : goal.overflow_add-n
 overflow_add-n c = omega (arith, c.loop-at.invariant.few)
 
 pub loop-at-smaller : goal.loop-at-smaller
-loop-at-smaller c = 
+loop-at-smaller c =
     let input = c.args.input.now in
     omega (arith, c.next_line-at.ensures, (line_at input c.loop-at.at c.loop-at-test.true).after)
 

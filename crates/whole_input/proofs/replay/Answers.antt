@@ -11,8 +11,8 @@ use Rattle.whole_input.proofs.Laws.{Replaying, refusal_gives, too_many, begins, 
 use Rattle.whole_input.proofs.replay.Goals as goal
 
 pub returns-then-o-ne0 : goal.returns-then-o-ne0
-returns-then-o-ne0 c = 
-    let opening = c.before.before.before.before.before.before.«open» in
+returns-then-o-ne0 c =
+    let opening = c.open-o in
     let print-refusal = c.print_refusal in
     refusal_gives _ _ _ opening.ensures c.if-o-ne0.true _ _ print-refusal.ensures.0 print-refusal.ensures.1
 
@@ -20,29 +20,29 @@ pub overflow_mul-at : goal.overflow_mul-at
 overflow_mul-at c = omega (arith, c.struct_known-2-1.given)
 
 pub returns-then-is_short : goal.returns-then-is_short
-returns-then-is_short c = 
-    let opening = c.before.before.before.before.before.before.«open» in
+returns-then-is_short c =
+    let opening = c.open-o in
     let out = c.args.out.now in
     let g = too_many _ out _ opening.ensures c.if-o-ne0.false _ refl (ltb-true _ _ (sym c.is_short.ensures ∙ c.if-is_short.true)) in
     (c.no_room.ensures ∙ g.0, g.1)
 
 pub loop-at-init : goal.loop-at-init
-loop-at-init c = 
-    let opening = c.before.before.before.before.before.before.«open» in
+loop-at-init c =
+    let opening = c.open-o in
     begins _ _ _ opening.ensures c.if-o-ne0.false _ refl (ltb-false _ _ (sym c.is_short.ensures ∙ c.if-is_short.false))
 
 pub overflow_mul-at-then-r-gt0 : goal.overflow_mul-at-then-r-gt0
-overflow_mul-at-then-r-gt0 c = 
+overflow_mul-at-then-r-gt0 c =
     let short : length c.args.input.now < 18446744073709551616 = omega (arith, c.well_formed) in
     omega (arith, short, block_inside _ _ _ _ _ _ c.loop-at.invariant _ c.run_lines-r.ensures.0 (omega (arith, c.loop-at-test.true)))
 
 pub overflow_add-at : goal.overflow_add-at
-overflow_add-at c = 
+overflow_add-at c =
     let short : length c.args.input.now < 18446744073709551616 = omega (arith, c.well_formed) in
     omega (arith, short, block_inside _ _ _ _ _ _ c.loop-at.invariant _ c.run_lines-r.ensures.0 (omega (arith, c.loop-at-test.true)))
 
 pub overflow_add-to : goal.overflow_add-to
-overflow_add-to c = 
+overflow_add-to c =
     let short : length c.args.out.now < 18446744073709551616 = omega (arith, c.well_formed) in
     omega (arith, short, block_room _ _ _ _ _ _ c.loop-at.invariant _ c.run_lines-r.ensures.0, c.loop-at.invariant.prints.size)
 
@@ -53,7 +53,7 @@ pub loop-at-preserved-then-r-gt0 : goal.loop-at-preserved-then-r-gt0
 loop-at-preserved-then-r-gt0 c = block_goes_on _ _ _ _ _ _ c.loop-at.invariant _ c.run_lines-r.ensures.0 _ c.run_lines-r.ensures.1
 
 pub overflow_add-to-in-loop-at : goal.overflow_add-to-in-loop-at
-overflow_add-to-in-loop-at c = 
+overflow_add-to-in-loop-at c =
     let short : length c.args.out.now < 18446744073709551616 = omega (arith, c.well_formed) in
     omega (arith, short, line_fits _ _ _ _ _ _ (block_skipped _ _ _ _ _ _ c.loop-at.invariant _ c.run_lines-r.ensures.0 _ c.run_lines-r.ensures.1 (omega (arith, c.if-r-gt0.false))) c.loop-at-test.true)
 
@@ -64,6 +64,6 @@ pub loop-at-preserved : goal.loop-at-preserved
 loop-at-preserved c = goes_on _ _ _ _ _ _ (block_skipped _ _ _ _ _ _ c.loop-at.invariant _ c.run_lines-r.ensures.0 _ c.run_lines-r.ensures.1 (omega (arith, c.if-r-gt0.false))) c.loop-at-test.true _ c.answer_line-executive.ensures.0 _ c.answer_line-executive.ensures.1 _ c.next_line-at.ensures
 
 pub returns : goal.returns
-returns c = 
+returns c =
     let g = ends _ _ _ _ _ _ c.loop-at.invariant c.loop-at-test.false in
     (c.done.ensures ∙ g.0, g.1)

@@ -6,10 +6,10 @@ use borrow.Author.Rules.{rules}
 use Rattle.whole_input.proofs.shown.Goals as goal
 
 pub returns-then-r-ne0 : goal.returns-then-r-ne0
-returns-then-r-ne0 c = shown_refused _ _ c.if-r-ne0.true _ c.print_refusal-p.ensures.0 _ c.print_refusal-p.ensures.1
+returns-then-r-ne0 c = let h = shown_refused _ _ c.if-r-ne0.true _ c.print_refusal-p.ensures.0 _ c.print_refusal-p.ensures.1 in record { value = h.0; counts = h.1 }
 
 pub returns-then-r-out : goal.returns-then-r-out
-returns-then-r-out c = shown_text c.args.out.now c.args.r c.if-r-ne0.false _ (sym (min-eq_left (omega (arith, c.if-r-out.true)))) (omega (arith, c.if-r-out.true))
+returns-then-r-out c = let h = shown_text c.args.out.now c.args.r c.if-r-ne0.false _ (sym (min-eq_left (omega (arith, c.if-r-out.true)))) (omega (arith, c.if-r-out.true)) in record { value = h.0; counts = h.1 }
 
 pub returns : goal.returns
-returns c = shown_text c.args.out.now c.args.r c.if-r-ne0.false _ (sym (min-eq_right (omega (arith, c.if-r-out.false)))) (omega arith)
+returns c = let h = shown_text c.args.out.now c.args.r c.if-r-ne0.false _ (sym (min-eq_right (omega (arith, c.if-r-out.false)))) (omega arith) in record { value = h.0; counts = h.1 }

@@ -9,8 +9,8 @@ use Rattle.whole_input.proofs.Waiting.{Asking, line_fits, asked_on, asking_ends,
 use Rattle.whole_input.proofs.waiting_times.Goals as goal
 
 pub returns-then-o-ne0 : goal.returns-then-o-ne0
-returns-then-o-ne0 c = 
-    let opening = c.before.before.before.before.before.before.«open» in
+returns-then-o-ne0 c =
+    let opening = c.open-o in
     let print-refusal = c.print_refusal in
     refusal_asked _ _ _ opening.ensures c.if-o-ne0.true _ _ print-refusal.ensures.0 print-refusal.ensures.1
 
@@ -18,15 +18,15 @@ pub overflow_mul-at : goal.overflow_mul-at
 overflow_mul-at c = omega (arith, c.struct_known-2-1.given)
 
 pub returns-then-is_short : goal.returns-then-is_short
-returns-then-is_short c = 
-    let opening = c.before.before.before.before.before.before.«open» in
+returns-then-is_short c =
+    let opening = c.open-o in
     let out = c.args.out.now in
     let g = asked_too_many _ out _ opening.ensures c.if-o-ne0.false _ refl (ltb-true _ _ (sym c.is_short.ensures ∙ c.if-is_short.true)) in
     (c.no_room.ensures ∙ g.0, g.1)
 
 pub loop-at-init : goal.loop-at-init
-loop-at-init c = 
-    let opening = c.before.before.before.before.before.before.«open» in
+loop-at-init c =
+    let opening = c.open-o in
     asking_begins _ _ _ opening.ensures c.if-o-ne0.false _ refl (ltb-false _ _ (sym c.is_short.ensures ∙ c.if-is_short.false))
 
 pub overflow_add-to : goal.overflow_add-to
@@ -39,10 +39,6 @@ pub loop-at-preserved : goal.loop-at-preserved
 loop-at-preserved c = asked_on _ _ _ _ _ _ c.loop-at.invariant c.loop-at-test.true _ c.ask_line.ensures _ c.next_line-at.ensures
 
 pub returns : goal.returns
-returns c = 
+returns c =
     let g = asking_ends _ _ _ _ _ _ c.loop-at.invariant c.loop-at-test.false in
     (c.done.ensures ∙ g.0, g.1)
-
--- LEFT
--- same_length_2 : tie.Need-same-length-2 invariant_loop decreases_loop
--- same_length_2 c = c.before.before.loop.invariant.prints.size

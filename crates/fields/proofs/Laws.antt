@@ -1,9 +1,9 @@
 -- A signed number by its tests, and six numbers that were passed by their bits. Assumes nothing.
-use Prim.Native.Nat.{ℕ, zero, suc, ◌≤◌, ◌<◌}
+use Prim.Native.Nat.{ℕ, zero, suc}
 use mathlib.Core.Path.{◌≡◌, refl, sym, ap, ◌∙◌}
-use mathlib.Core.Bool.{Bool, true, false, cond}
+use mathlib.Core.Bool.{true, false}
 use native.Mathlib.Omega.{arith}
-use lib.Dec.{leb, T}
+use lib.Dec.{T}
 use lib.IntN.{ℤ, pos, negsuc, nat_abs}
 use lib.Signed.{lt_z, le_z, non_neg}
 use mir.Syntax.{w64, w32}
@@ -13,10 +13,8 @@ use borrow.Author.Tests.{ltb-true, leb-true}
 use Rattle.machine.specs.declared.Field.{Field}
 use Rattle.machine.specs.declared.Field.TheVariants.{Number, MinusOne, Other}
 use Rattle.machine.specs.declared.Numbers.{Numbers}
-use Rattle.machine.specs.declared.Row.{Row}
 use Rattle.machine.specs.Limits.{greatest_time}
 use Rattle.machine.specs.declared.Event.{Event}
-use Rattle.machine.specs.declared.Request.{Request}
 use Rattle.machine.specs.Fields.{field, row_of, request_of}
 
 pub told : (z : ℤ) → SFits w64 z → (f : Field) → f ≡ field (to_z w64 (of_z w64 z)) → f ≡ field z

@@ -1,16 +1,16 @@
 -- Each digit stands in its column: the bytes of a written line by their places. Assumes nothing.
 use Prim.Native.Nat.{ℕ, zero, suc, ◌+◌, ◌-◌, ◌*◌, ◌/◌, ◌%◌, ◌^◌, ◌≤◌, ◌<◌}
 use mathlib.Core.Path.{◌≡◌, refl, sym, ◌∙◌, ap}
-use mathlib.Core.Bool.{true, false, cond, ◌&&◌, ◌||◌, and-eq-true_iff}
+use mathlib.Core.Bool.{true, cond, and-eq-true_iff}
 use mathlib.Core.List.{List, [], ◌∷◌, ◌++◌}
 use native.Mathlib.Omega.{arith}
 use native.Mathlib.Nat.{pow-zero, pow-succ', div-one, div-eq_of_lt, zero-div, div-div-eq-div-mul, one-le-pow, le-div_iff_mul-le}
 use lib.ListN.{length, get_or, drop, get_or-append}
 use lib.Seq.{get_or-append_seam, get_or-append-add, get_or-drop}
-use lib.Dec.{leb, ltb, eqb, lit<}
+use lib.Dec.{leb, ltb, lit<}
 use lib.IntN.{ℤ, pos, negsuc}
-use borrow.Author.Tests.{leb-true, lt-leb, le-leb, leb-false, lt-ltb, le-ltb, ltb-true, ltb-false, eqb-true, eq-eqb, ne_eqb}
-use Rattle.machine.specs.Line.{line_feed, space, minus, base, field_width, in_range, last_digit, column, mark_after, columns, number_text, field_text, line_text, all_in_range, can_write, written, written_at}
+use borrow.Author.Tests.{leb-true, lt-leb, leb-false, lt-ltb, le-ltb, ltb-true, ltb-false, eqb-true, eq-eqb, ne_eqb}
+use Rattle.machine.specs.Line.{space, minus, base, field_width, in_range, last_digit, column, mark_after, columns, number_text, field_text, line_text, all_in_range, can_write, written, written_at}
 use Rattle.machine.proofs.Either.{either}
 use Rattle.machine.proofs.TextField.{columns_length, mark_space, field_length}
 use Rattle.machine.proofs.TextLine.{line_length_holds}

@@ -1,15 +1,13 @@
 -- What was read, and the number and values that its bytes have: each settles the other. Assumes nothing.
 use mathlib.Core.Path.{◌≡◌, refl, sym, ap, ◌∙◌}
-use mathlib.Core.List.{List, []}
+use mathlib.Core.List.{List}
 use mathlib.Core.Option.{Option, none, some}
 use Prim.Native.Nat.{ℕ}
 use native.Mathlib.Omega.{arith}
-use lib.ListN.{length}
 use lib.IntN.{ℤ}
-use Rattle.machine.specs.declared.Numbers.{Numbers}
 use Rattle.machine.specs.declared.Line.{Line}
 use Rattle.machine.specs.declared.Line.TheVariants.{Six, Bad}
-use Rattle.machine.specs.Line.{field_count, line_text, read_numbers, number_list, numbers_of, read_line, meaning, line_meaning}
+use Rattle.machine.specs.Line.{field_count, read_numbers, number_list, numbers_of, read_line, meaning, line_meaning}
 use Rattle.machine.proofs.TextLine.{line_read, read_six}
 
 meant : (bs : List ℕ) → meaning (read_line bs) ≡ line_meaning bs

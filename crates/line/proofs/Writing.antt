@@ -183,7 +183,3 @@ module _ (l : List ℕ) (at j rest sign : ℕ) (r : List ℕ) (h : 0 < j) (s : s
       let e : eqb rest 0 ≡ true = eq-eqb rest 0 z in
       sym (blank_stored (set l (at + (j - 1)) sign) at (j - 1) (blank_less l at j sign b))
       ∙ rw d at (column_stored l at j rest sign sign space r h (rw e) (rw e) s)
-
--- no digit is left, and spaces stand where none is stored
-pub left_blank : (l : List ℕ) (at j rest : ℕ) (r : List ℕ) → rest ≤ 0 → Blank l at (at + j) → sets l at (columns j rest space) ≡ r → l ≡ r
-left_blank l at j rest r n b s = let z : rest ≡ 0 = omega arith in sym (blank_stored l at j b) ∙ rw z at s

@@ -255,9 +255,9 @@ fn put_digit(out: &mut [u8], at: usize, digit: u8, sign: u8)
 }
 
 // The text of a number over spaces, from the right, each digit straight into its column.
-fn put_number(out: &mut [u8], at: usize, magnitude: u64)
+fn put_number(out: &mut [u8], at: usize, magnitude: u64, sign: u8)
     requires { (at + field_width ≤ length out.old) × Blank out.old at (at + field_width) }
-    ensures { out.new ≡ sets out.old at (number_text magnitude space) }
+    ensures { out.new ≡ sets out.old at (number_text magnitude sign) }
 {
     let mut j = WIDTH - 1;
     out[at + j] = last_digit(magnitude);
@@ -270,6 +270,11 @@ fn put_number(out: &mut [u8], at: usize, magnitude: u64)
         out[at + j] = last_digit(rest);
         rest = rest / BASE;
     }
+    if j == 0 {
+        return;
+    }
+    j -= 1;
+    out[at + j] = sign;
 }
 
 fn put_magnitude(out: &mut [u8], at: usize, n: u64)
@@ -279,7 +284,7 @@ fn put_magnitude(out: &mut [u8], at: usize, n: u64)
     if n < BASE {
         put_digit(out, at, n as u8, b' ');
     } else {
-        put_number(out, at, n);
+        put_number(out, at, n, b' ');
     }
 }
 

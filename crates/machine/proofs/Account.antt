@@ -1,5 +1,5 @@
 -- The account of a buffer, for every list of events from a fresh module. Assumes nothing.
-use Prim.Native.Nat.{ℕ, zero, ◌+◌, ◌-◌, ◌≤◌, ◌<◌}
+use Prim.Native.Nat.{ℕ, ◌+◌, ◌-◌, ◌≤◌, ◌<◌}
 use mathlib.Core.Path.{◌≡◌, refl, ap, sym, ◌∙◌}
 use mathlib.Core.Bool.{true, false, not, ◌&&◌, and-false, or-true}
 use mathlib.Core.List.{List, [], ◌∷◌, append-nil}
@@ -36,7 +36,7 @@ use Rattle.machine.specs.declared.Field.{Field}
 use Rattle.machine.specs.declared.Field.TheVariants.{Number, MinusOne, Other}
 use Rattle.machine.specs.Limits.{call_limit, duration_limit, buffer_limit}
 use Rattle.machine.specs.Fields.{field, request_of, is_number, between, is_message, number_of, time_of}
-use Rattle.machine.specs.Messages.{held, first, sent, received, moved}
+use Rattle.machine.specs.Messages.{held, first, sent, received}
 use Rattle.machine.specs.Process.{class_of, carried_in, carried, object, served, handed, waiting_for, later}
 use Rattle.machine.specs.Partition.{no_buffer, process, buffer, empty_buffer, stored_buffer, moved_in, normal_mode, running, waiters, stored, applied, tick_partition}
 use Rattle.machine.specs.Runs.{next, after}

@@ -6,7 +6,7 @@ use mathlib.Core.Bool.{true, false, ◌&&◌, true≢false}
 use mathlib.Core.List.{List, [], ◌∷◌}
 use native.Mathlib.Omega.{arith}
 use lib.Dec.{eqb, leb}
-use lib.ListN.{length, get_or, set, get_or-eq_default}
+use lib.ListN.{length, set, get_or-eq_default}
 use borrow.Author.Tests.{eqb-false, leb-true, leb-false, le-leb}
 use Rattle.machine.specs.declared.Context.{Context}
 use Rattle.machine.specs.declared.Decision.{Decision}

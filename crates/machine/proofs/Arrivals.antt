@@ -17,13 +17,12 @@ use Rattle.machine.specs.declared.Decision.TheVariants.{Changed}
 use Rattle.machine.specs.declared.Wait.TheVariants.{Source}
 use Rattle.machine.specs.declared.Event.{Event as EventT}
 use Rattle.machine.specs.declared.Module.{Module}
-use Rattle.machine.specs.Ids.{members, kept, other}
+use Rattle.machine.specs.Ids.{members, kept}
 use Rattle.machine.specs.Limits.{process_limit}
 use Rattle.machine.specs.Process.{blank_process, with_current, ticked, ready, served, object}
 use Rattle.machine.specs.Partition.{arrived_last, normal_mode, running, tick_partition, process, stored, waiters, changed_all, applied, nothing_created}
 use Rattle.machine.specs.Fields.{request_of, number_of}
 use Rattle.machine.specs.Step.{context_of, step}
-use Rattle.machine.specs.Messages.{moved}
 use Rattle.machine.specs.Channels.{port_of}
 use Rattle.machine.specs.Theorems.Events.{own}
 use Rattle.machine.specs.Theorems.EachCall.{id_of}

@@ -1,16 +1,15 @@
 -- The account of a queuing channel, for every list of events from the fresh module on. Assumes nothing.
-use Prim.Native.Nat.{ℕ, zero, suc, ◌+◌, ◌-◌, ◌≤◌, ◌<◌}
+use Prim.Native.Nat.{ℕ, ◌+◌, ◌-◌, ◌≤◌, ◌<◌}
 use mathlib.Core.Path.{◌≡◌, refl, ap, sym, ◌∙◌, subst}
-use mathlib.Core.Bool.{Bool, true, false, not, ◌&&◌, ◌||◌, and-false, or-true}
+use mathlib.Core.Bool.{Bool, true, false, ◌&&◌, ◌||◌, and-false, or-true}
 use mathlib.Core.List.{List, [], ◌∷◌, ◌++◌, map, append-nil}
 use mathlib.Core.Logic.{◌⊎◌, inl, inr, ⊎_elim}
 use native.Mathlib.Omega.{arith}
-use lib.ListN.{length, get_or, set, take, drop, get_or-replicate}
+use lib.ListN.{length, get_or, take, drop, get_or-replicate}
 use lib.Dec.{eqb, leb, ltb}
 use lib.Seq.{get_or-set_same, get_or-set_other}
 use lib.IntN.{ℤ, pos, negsuc}
 use borrow.Author.Tests.{eq-eqb, ne_eqb, eqb-true, eqb-false, leb-true, ltb-true, ltb-false, lt-ltb, not-false}
-use Rattle.machine.specs.declared.Process.{Process}
 use Rattle.machine.specs.declared.Partition.{Partition}
 use Rattle.machine.specs.declared.Channel.{Channel}
 use Rattle.machine.specs.declared.Table.{Table}
@@ -34,21 +33,21 @@ use Rattle.machine.specs.declared.Wait.TheVariants.{Source, Destination}
 use Rattle.machine.specs.Limits.{process_limit, duration_limit, message_limit, mode_limit, channel_limit, partition_limit}
 use Rattle.machine.specs.Fields.{field, request_of, is_number, between, is_message, number_of, time_of}
 use Rattle.machine.specs.Ids.{kept}
-use Rattle.machine.specs.Messages.{no_queue, held, queue_of, first, sent, received, moved, ends_wait}
+use Rattle.machine.specs.Messages.{no_queue, held, first, sent, received, moved, ends_wait}
 use Rattle.machine.specs.Process.{blank_process, class_of, carried_in, carried, object, served, handed, waiting_for, later}
 use Rattle.machine.specs.Partition.{process, waits_on, waiters, first_waiter, stored, applied, running, nothing_created, tick_partition, fresh_partition}
 use Rattle.machine.specs.Runs.{next}
 use Rattle.machine.specs.Theorems.LeftRight.{is_tick, is_zero}
-use Rattle.machine.specs.Decisions.{reply_of, changed, blocked, queued, awaiting}
+use Rattle.machine.specs.Decisions.{reply_of, blocked, queued, awaiting}
 use Rattle.machine.specs.Calls.{set_mode}
-use Rattle.machine.specs.Channels.{queuing, queuing_at, apart, other_queue, port_of, channel_checks, send, receive, passed, erased_to}
+use Rattle.machine.specs.Channels.{queuing, queuing_at, other_queue, port_of, channel_checks, send, receive, passed, erased_to}
 use Rattle.machine.specs.Services.{services, call_decision}
 use Rattle.machine.specs.Module.{no_partition, empty_table, empty_module, fresh_module, channel, part, queue, with_part, with_queue, with_time}
 use Rattle.machine.specs.Ticks.{partition_count, tick_module}
 use Rattle.machine.specs.Table.{read_table}
 use Rattle.machine.specs.Step.{context_of, restarted, module_after, step}
 use Rattle.machine.specs.Theorems.Events.{own}
-use Rattle.machine.specs.Theorems.Valid.{Between, contains, ListedIn, Valid, SoundContext, SoundDecision, SoundMove, SoundModule, Reached}
+use Rattle.machine.specs.Theorems.Valid.{contains, ListedIn, Valid, SoundContext, SoundDecision, SoundMove, SoundModule, Reached}
 use Rattle.machine.specs.Theorems.Plain.{plain_number, plain_between, plain_moved}
 use Rattle.machine.specs.Theorems.Queues.{queue_number, ChannelEnds}
 use Rattle.machine.specs.Theorems.Account.{is_call, restarts_by, message_in, Flow, channel_flow, is_send, is_receive, waits_to_send, sending, keeps, gives_up, Balances, Account}

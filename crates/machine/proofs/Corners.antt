@@ -19,16 +19,6 @@ use Rattle.machine.specs.Limits.{process_limit, semaphore_limit, event_limit, bu
 use Rattle.machine.specs.Process.{blank_process, ready, with_current}
 use Rattle.machine.specs.Partition.{process, semaphore, event, buffer, blackboard, by_id, no_semaphore, no_event, no_buffer, no_blackboard, running, with_processes, with_mode_and_lock}
 use Rattle.machine.specs.Theorems.Starts.{Release, NextFlagged}
-use Rattle.machine.specs.Decisions as D
-use Rattle.machine.specs.Calls as C
-use Rattle.machine.specs.Objects as Ob
-use Rattle.machine.specs.Buffers as Bu
-use Rattle.machine.specs.Blackboards as Bb
-use Rattle.machine.specs.Services as Sv
-use Rattle.machine.specs.Module as M
-use Rattle.machine.specs.Channels as Ch
-use Rattle.machine.specs.Places as Pl
-use Rattle.machine.specs.Step as St
 use Rattle.machine.specs.Theorems.Valid.{Numbered, Between, SoundGiven, SoundPeriod, SoundCapacity, Valid, SoundModule}
 use Rattle.machine.specs.Theorems.Plain.{plain_between, plain_minus_one}
 use Rattle.machine.specs.Replay.{time_number}

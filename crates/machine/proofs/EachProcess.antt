@@ -27,7 +27,7 @@ use Rattle.machine.specs.Partition.{normal_mode, process, stored, ended_by, wait
 use Rattle.machine.specs.Module.{part, channel}
 use Rattle.machine.specs.Ticks.{tick_module}
 use Rattle.machine.specs.Step.{context_of}
-use Rattle.machine.specs.Channels.{other_end, other_queue, port_of, passed}
+use Rattle.machine.specs.Channels.{other_end, other_queue, port_of}
 use Rattle.machine.specs.Theorems.Valid.{Between, contains, Valid, SoundModule, SoundContext, SoundDecision, SoundEnd}
 use Rattle.machine.specs.Theorems.Plain.{ids_from, at_tick}
 use Rattle.machine.specs.Theorems.Events.{own}

@@ -22,7 +22,6 @@ use Rattle.machine.specs.declared.Decision.{Decision}
 use Rattle.machine.specs.declared.Decision.TheVariants.{Refused, Unchanged, Ticked, Blocked, Changed, Restarted, Written, Passed}
 use Rattle.machine.specs.declared.Request.{Request}
 use Rattle.machine.specs.declared.Module.{Module}
-use Rattle.machine.specs.declared.Wait.{Wait}
 use Rattle.machine.specs.Limits.{mode_limit, channel_limit, message_limit, partition_limit}
 use Rattle.machine.specs.Fields.{request_of, number_of}
 use Rattle.machine.specs.Messages.{no_queue, sent, received, moved, ends_wait}
@@ -47,7 +46,7 @@ use Rattle.machine.proofs.Kept.{Caller, normal_caller, nothing_valid, waiters_cr
 use Rattle.machine.proofs.Reached.{at_set, place, context_sound, made, made_sound, made_body, valid_sound, reached_valid, part_sound, erased_sound, Fills, fills, Channelled, on_queue_holds, transfer_sound, queuing_plain, empty_step}
 use Rattle.machine.proofs.Answers.{decided_table}
 use Rattle.machine.proofs.Tables.{table_read}
-use Rattle.machine.proofs.Orders.{Part, joins_last, Orderly}
+use Rattle.machine.proofs.Orders.{joins_last, Orderly}
 use Rattle.machine.proofs.EveryCall.{call_order}
 use Rattle.machine.proofs.Queues.{Parts, tick_parts, decided_parts}
 use Rattle.machine.proofs.Fairness.{AtEnd, Fair, part_none, none_first, counts_low}

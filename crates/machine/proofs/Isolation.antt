@@ -3,7 +3,7 @@ use Prim.Native.Nat.{ℕ, zero, suc, ◌+◌, ◌-◌, ◌<◌, ◌≤◌}
 use mathlib.Core.Path.{◌≡◌, refl, sym, ap, ap₂, ◌∙◌, subst}
 use mathlib.Core.Bool.{Bool, true, false, cond, not, ◌&&◌, ◌||◌, true≢false}
 use mathlib.Core.List.{[], ◌∷◌, map}
-use mathlib.Core.Logic.{◌⊎◌, ⊎_elim}
+use mathlib.Core.Logic.{⊎_elim}
 use native.Mathlib.Omega.{arith}
 use lib.Dec.{eqb, ltb, leb}
 use lib.IntN.{ℤ, pos, negsuc}
@@ -35,7 +35,7 @@ use Rattle.machine.specs.Ticks as Ti
 use Rattle.machine.specs.Channels as Ch
 use Rattle.machine.specs.Places as Pl
 use Rattle.machine.specs.Step as St
-use Rattle.machine.specs.Runs.{next, answered_event, after}
+use Rattle.machine.specs.Runs.{next, answered_event}
 use Rattle.machine.specs.Theorems.LeftRight.{is_zero, member_of, common, shown, Within, Closed, EqualIn, LeftRight}
 use Rattle.machine.proofs.TwoRuns.{Unwinding, two_runs}
 use Rattle.machine.proofs.Tests.{by_tests, by_checks₂, and_left, and_right, or_left, or_right, not_both}

@@ -9,7 +9,7 @@ use borrow.Author.Tests.{eq-eqb, ne_eqb}
 use Rattle.machine.specs.declared.Process.{Process}
 use Rattle.machine.specs.declared.Partition.{Partition}
 use Rattle.machine.specs.Ids.{kept}
-use Rattle.machine.specs.Process.{object, served, handed}
+use Rattle.machine.specs.Process.{object, handed}
 use Rattle.machine.specs.Partition.{process, waits_on, waiters, stored}
 use Rattle.machine.specs.Theorems.Valid.{contains, ListedIn}
 use Rattle.machine.proofs.Tracking.{kept_no}

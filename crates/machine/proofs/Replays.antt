@@ -7,7 +7,6 @@ use mathlib.Core.Logic.{inl, inr}
 use native.Mathlib.Omega.{arith}
 use lib.ListN.{length, length-append}
 use lib.IntN.{ℤ, pos}
-use lib.Dec.{leb}
 use borrow.Author.Tests.{le-leb}
 use Rattle.machine.specs.declared.Module.{Module}
 use Rattle.machine.specs.declared.Answer.{Answer}

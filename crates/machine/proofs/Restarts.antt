@@ -2,17 +2,16 @@
 -- waited to send, who wait no longer. Assumes nothing.
 use Prim.Native.Nat.{ℕ, zero, suc, ◌+◌, ◌-◌, ◌≤◌, ◌<◌}
 use mathlib.Core.Path.{◌≡◌, refl, ap, ap₂, sym, ◌∙◌}
-use mathlib.Core.Bool.{Bool, true, false, not, ◌&&◌, or-true}
+use mathlib.Core.Bool.{Bool, true, false, ◌&&◌, or-true}
 use mathlib.Core.List.{List, [], ◌∷◌, map}
-use mathlib.Core.Logic.{◌⊎◌, inl, ⊎_elim}
+use mathlib.Core.Logic.{inl, ⊎_elim}
 use native.Mathlib.Omega.{arith}
-use lib.ListN.{length, get_or, set, take, drop, length-set}
+use lib.ListN.{length, take, drop, length-set}
 use lib.Seq.{get_or-set_same, get_or-set_other}
-use lib.Dec.{eqb, ltb}
+use lib.Dec.{eqb}
 use borrow.Author.Tests.{eq-eqb, ne_eqb, lt-ltb}
 use Rattle.machine.specs.declared.Process.{Process}
 use Rattle.machine.specs.declared.Partition.{Partition}
-use Rattle.machine.specs.declared.Queue.{Queue}
 use Rattle.machine.specs.declared.Channel.{Channel}
 use Rattle.machine.specs.declared.Table.{Table}
 use Rattle.machine.specs.declared.Module.{Module}
@@ -22,7 +21,7 @@ use Rattle.machine.specs.Messages.{no_queue, queue_of}
 use Rattle.machine.specs.Process.{object, carried, served}
 use Rattle.machine.specs.Partition.{process, waits_on, waiters, changed_all}
 use Rattle.machine.specs.Module.{no_partition, channel, part, queue}
-use Rattle.machine.specs.Channels.{queuing, queuing_at, leads_into, admitted, refilled_to}
+use Rattle.machine.specs.Channels.{queuing_at, leads_into, admitted, refilled_to}
 use Rattle.machine.specs.Theorems.Valid.{contains, Distinct, Valid, SoundModule}
 use Rattle.machine.proofs.Tests.{by_test, not_both}
 use Rattle.machine.proofs.Bounds.{same_or_not}

@@ -14,7 +14,7 @@ use Rattle.machine.specs.declared.Wait.TheVariants.{None}
 use Rattle.machine.specs.declared.Time.{Time}
 use Rattle.machine.specs.declared.Time.TheVariants.{Never, At}
 use Rattle.machine.specs.Limits.{priority_limit, duration_limit, time_limit, frame_limit, greatest_time}
-use Rattle.machine.specs.Process.{Class, class_of, object_in, for_nothing, created_process, capped, later, due, is_never, periodic, on_object, object, carried_in, carried, waits_for_nothing, waits_for_normal, ready, with_deadline, served, handed, with_suspended, with_current, waiting_for, suspended_until, only_marked, woken, expired, ticked, begun, start_rule, started_early, entered, stopped, resumed, next_release}
+use Rattle.machine.specs.Process.{Class, class_of, object_in, for_nothing, created_process, capped, later, due, is_never, periodic, on_object, object, carried_in, carried, waits_for_nothing, waits_for_normal, ready, with_deadline, served, handed, with_suspended, with_current, waiting_for, suspended_until, only_marked, woken, expired, ticked, start_rule, started_early, entered, stopped, resumed, next_release}
 use Rattle.machine.specs.Theorems.Valid.{Between, latest_wake, latest_deadline, AtMost, NotAfter, Ahead, Timeout, SoundPeriod, Below, SoundCapacity, SoundGiven, Timeless, Bounded, Dormant, Early, KnownWait, SoundWake, Released, SoundRelease, Setting, setting, Going, Lasting, LastingIn, SoundCode, SoundMark, SoundProcess}
 use Rattle.machine.proofs.Tests.{by_test, not_both}
 use Rattle.machine.proofs.Bounds.{not_so, so, and_true_parts}

@@ -35,7 +35,6 @@ use Rattle.machine.specs.Partition.{process, semaphore, event, waits_on, waiters
 use Rattle.machine.specs.Services.{services, call_decision}
 use Rattle.machine.specs.Decisions as D
 use Rattle.machine.specs.Calls as C
-use Rattle.machine.specs.Objects as Ob
 use Rattle.machine.specs.Module as M
 use Rattle.machine.specs.Ticks as Ti
 use Rattle.machine.specs.Channels as Ch

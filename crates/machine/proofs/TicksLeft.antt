@@ -7,7 +7,6 @@ use native.Mathlib.Omega.{arith}
 use Rattle.machine.specs.declared.Event.{Event as EventT}
 use Rattle.machine.specs.declared.Lookup.{Lookup}
 use Rattle.machine.specs.declared.Module.{Module}
-use Rattle.machine.specs.Calls as C
 use Rattle.machine.specs.Windows.{windows, lookup}
 use Rattle.machine.specs.Theorems.Starts.{StartAt, Uncovered}
 use Rattle.machine.specs.Module.{empty_table, empty_module, window, current, ticks_left}

@@ -23,8 +23,8 @@ use Rattle.machine.specs.declared.Module.{Module}
 use Rattle.machine.specs.Limits.{process_limit, buffer_limit}
 use Rattle.machine.specs.Fields.{field, request_of, is_number, number_of}
 use Rattle.machine.specs.Messages.{sent, received}
-use Rattle.machine.specs.Process.{blank_process, object, served, handed, stopped, for_nothing, waits_for_nothing, waits_for_normal, ready, entered, carried}
-use Rattle.machine.specs.Partition.{by_id, normal_mode, process, stored, created, stored_buffer, moved_in, ended_by, buffer, waiters, first_waiter, changed_all, with_mode, entered_normal, applied, running}
+use Rattle.machine.specs.Process.{blank_process, object, served, handed, for_nothing, waits_for_nothing, waits_for_normal, ready, entered, carried}
+use Rattle.machine.specs.Partition.{by_id, normal_mode, process, stored, stored_buffer, moved_in, ended_by, buffer, waiters, first_waiter, changed_all, with_mode, entered_normal, applied, running}
 use Rattle.machine.specs.Step.{context_of}
 use Rattle.machine.specs.Theorems.Valid.{Between, contains, Distinct, Valid, ListedIn, SoundModule, SoundChange, SoundEnd, setting_of}
 use Rattle.machine.specs.Theorems.Plain.{ids_from}

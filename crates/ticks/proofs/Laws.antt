@@ -1,5 +1,5 @@
 -- A loop over the partitions at a tick. Assumes nothing.
-use Prim.Native.Nat.{ℕ, ◌-◌, ◌+◌}
+use Prim.Native.Nat.{ℕ, ◌+◌}
 use mathlib.Core.Path.{◌≡◌, sym, ap, ◌∙◌}
 use lib.ListN.{set}
 use lib.Seq.{set-get_or}

@@ -1,13 +1,8 @@
 -- `all_in_range` meets its contract. The loop: the numbers from i on are in range as all are.
-use Rattle.machine.specs.Line.{in_range, field_count, number_list, all_in_range}
-use mathlib.Core.Path.{ap, ◌∙◌, ◌≡◌, refl}
-use mir.Syntax.{w64}
-use mir.ValLaws.{to_z-of_z}
+use Rattle.machine.specs.Line.{field_count, number_list, all_in_range}
+use mathlib.Core.Path.{◌≡◌}
 use Prim.Native.Nat.{◌≤◌, ◌-◌}
-use native.Mathlib.Omega.{arith}
-use borrow.Author.Rules.{rules}
 use lib.ListN.{drop}
-use Rattle.line.proofs.Writing.{range_out, range_in, range_end}
 use Rattle.line.proofs.all_in_range.Given as goal
 
 abbrev pub invariant-loop-i : goal.invariant-loop-i

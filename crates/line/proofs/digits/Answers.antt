@@ -1,13 +1,9 @@
 -- `digits` meets its contract. The loop: what is left to read after v gives the whole; v has at most i digits.
-use Prim.Native.Nat.{◌≤◌, ◌<◌, ◌-◌, ◌^◌}
-use mathlib.Core.Path.{◌≡◌, refl}
+use mathlib.Core.Path.{refl}
 use native.Mathlib.Omega.{arith}
 use native.Mathlib.Nat.{one-le-pow}
 use lib.Dec.{lit<}
-use borrow.Author.Rules.{rules}
-use lib.ListN.{drop}
-use Rattle.machine.specs.Line.{base, field_width}
-use Rattle.line.specs.Scan.{digits_from}
+use Rattle.machine.specs.Line.{base}
 use Rattle.line.proofs.Scan.{digit_low, digit_high, digit_read, digits_end, digits_bound, digits_fit}
 use Rattle.line.proofs.digits.Goals as goal
 

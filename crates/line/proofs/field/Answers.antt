@@ -1,7 +1,6 @@
 -- `field` meets its contract.
 use mathlib.Core.Path.{◌∙◌}
 use Rattle.line.proofs.Scan.{other_first, space_first, last_alone}
-use borrow.Author.Rules.{rules}
 use Rattle.line.proofs.field.Goals as goal
 
 pub returns-then-s-ne32 : goal.returns-then-s-ne32

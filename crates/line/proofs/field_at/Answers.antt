@@ -5,7 +5,6 @@ use Prim.Native.Nat.{ℕ, ◌+◌, ◌-◌}
 use mathlib.Core.Path.{◌≡◌, ap, ◌∙◌}
 use Rattle.machine.specs.Line.{field_width, read_field}
 use Rattle.line.specs.Found.{found_of}
-use borrow.Author.Rules.{rules}
 use Rattle.line.proofs.field_at.Goals as goal
 
 pub returns : goal.returns

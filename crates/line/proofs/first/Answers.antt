@@ -1,11 +1,8 @@
 -- `first` meets its contract. The loop: the columns from i on hold what those from 1 on do.
-use Prim.Native.Nat.{◌≤◌, ◌-◌}
+use Prim.Native.Nat.{◌-◌}
 use mathlib.Core.Path.{◌≡◌, refl}
 use native.Mathlib.Omega.{arith}
-use borrow.Author.Rules.{rules}
-use lib.ListN.{drop}
 use Rattle.machine.specs.Line.{field_width}
-use Rattle.line.specs.Scan.{first_from}
 use Rattle.line.proofs.Scan.{space_more, number_here, last_here}
 use Rattle.line.proofs.first.Goals as goal
 

@@ -1,12 +1,9 @@
 -- `is_last` meets its contract. The loop: the columns from i on hold what those from 1 on do.
-use Prim.Native.Nat.{◌≤◌, ◌-◌}
+use Prim.Native.Nat.{◌-◌}
 use mathlib.Core.Bool.{true≢false}
 use mathlib.Core.Path.{◌≡◌, refl, sym}
 use native.Mathlib.Omega.{arith}
-use borrow.Author.Rules.{rules}
-use lib.ListN.{drop}
 use Rattle.machine.specs.Line.{field_width}
-use Rattle.line.specs.Scan.{first_from}
 use Rattle.line.proofs.Scan.{space_more}
 use Rattle.line.proofs.is_last.Goals as goal
 

@@ -1,9 +1,6 @@
 -- `next_line` meets its contract. The loop: the line at i ends where the line at the start does.
-use Prim.Native.Nat.{◌-◌}
-use mathlib.Core.Path.{◌≡◌, refl}
+use mathlib.Core.Path.{refl}
 use native.Mathlib.Omega.{arith}
-use lib.ListN.{length}
-use Rattle.machine.specs.Line.{line_end}
 use Rattle.line.proofs.Reading.{end_more, end_found, end_past}
 use Rattle.line.proofs.next_line.Goals as goal
 

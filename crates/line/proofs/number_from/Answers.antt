@@ -2,7 +2,6 @@
 use native.Mathlib.Omega.{arith}
 use mathlib.Core.Path.{◌∙◌}
 use Rattle.line.proofs.Scan.{minus_far, minus_other, minus_one_holds, digits_at, zero_leads, zero_alone}
-use borrow.Author.Rules.{rules}
 use Rattle.line.proofs.number_from.Goals as goal
 
 pub returns-then-at : goal.returns-then-at

@@ -1,7 +1,6 @@
 -- `put_digit` meets its contract.
 use Prim.Native.Nat.{◌+◌, ◌-◌, ◌/◌}
 use native.Mathlib.Omega.{arith}
-use borrow.Author.Rules.{rules}
 use lib.ListN.{length-set}
 use Rattle.machine.specs.Line.{zero_digit, base, field_width}
 use Rattle.line.proofs.Writing.{number_stored, mark_stored, blank_less}

@@ -2,7 +2,6 @@
 use mathlib.Core.Path.{ap, ◌∙◌}
 use lib.Seq.{sets}
 use Rattle.line.proofs.Signed.{minus_one_text, magnitude_fits, magnitude_text}
-use borrow.Author.Rules.{rules}
 use Rattle.line.proofs.put_field.Goals as goal
 
 pub overflow_cast-x : goal.overflow_cast-x

@@ -1,8 +1,6 @@
 -- `put_line` meets its contract.
 use mathlib.Core.Path.{refl, ◌∙◌}
 use native.Mathlib.Omega.{arith}
-use borrow.Author.Rules.{rules}
-use lib.ListN.{length-set}
 use Rattle.machine.specs.Line.{field_count, number_list, line_text}
 use Rattle.machine.proofs.TextLine.{six_length}
 use Rattle.line.proofs.Writing.{feed_stored}

@@ -5,9 +5,9 @@ use native.Mathlib.Omega.{arith}
 use borrow.Author.Rules.{rules}
 use lib.ListN.{length, length-set}
 use lib.Seq.{sets}
-use Rattle.machine.specs.Line.{space, field_width, columns}
+use Rattle.machine.specs.Line.{field_width, columns}
 use Rattle.line.specs.Blank.{Blank}
-use Rattle.line.proofs.Writing.{number_stored, digit_stored, left_blank, columns_stored, blank_less}
+use Rattle.line.proofs.Writing.{number_stored, digit_stored, mark_stored, columns_stored, blank_less}
 use Rattle.line.proofs.put_number.Given as goal
 
 abbrev pub invariant-loop-rest : goal.invariant-loop-rest
@@ -16,7 +16,7 @@ invariant-loop-rest l =
     × (l.at + field_width ≤ length l.out)
     × (length l.out ≡ length l.initial.out)
     × Blank l.out l.at (l.at + l.j)
-    × (sets l.out l.at (columns l.j l.rest space) ≡ sets l.initial.out l.at (columns l.initial.j l.initial.rest space))
+    × (sets l.out l.at (columns l.j l.rest l.sign) ≡ sets l.initial.out l.at (columns l.initial.j l.initial.rest l.sign))
 
 abbrev pub decreases-loop-rest : goal.decreases-loop-rest
 decreases-loop-rest l = l.j

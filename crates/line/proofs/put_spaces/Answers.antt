@@ -1,10 +1,7 @@
 -- `put_spaces` meets its contract. The loop: spaces up to k.
-use Prim.Native.Nat.{◌≤◌, ◌-◌}
-use mathlib.Core.Path.{◌≡◌, refl, ◌∙◌}
+use mathlib.Core.Path.{refl, ◌∙◌}
 use native.Mathlib.Omega.{arith}
-use borrow.Author.Rules.{rules}
-use lib.ListN.{length, length-set}
-use Rattle.line.specs.Blank.{fields_length, Blank, Alike}
+use lib.ListN.{length-set}
 use Rattle.line.proofs.Writing.{alike_more, blank_more}
 use Rattle.line.proofs.put_spaces.Goals as goal
 

@@ -1,11 +1,8 @@
 -- `put_spaces` meets its contract. The loop: spaces up to k.
 use Prim.Native.Nat.{◌≤◌, ◌-◌}
-use mathlib.Core.Path.{◌≡◌, refl, ◌∙◌}
-use native.Mathlib.Omega.{arith}
-use borrow.Author.Rules.{rules}
-use lib.ListN.{length, length-set}
+use mathlib.Core.Path.{◌≡◌}
+use lib.ListN.{length}
 use Rattle.line.specs.Blank.{fields_length, Blank, Alike}
-use Rattle.line.proofs.Writing.{alike_more, blank_more}
 use Rattle.line.proofs.put_spaces.Given as goal
 
 abbrev pub invariant-loop-k : goal.invariant-loop-k

@@ -1,12 +1,9 @@
 -- `read` meets its contract. The loop: the numbers so far, ahead of what is left to read, are what the line reads as.
-use lib.ListN.{length, take, drop, length-set}
+use lib.ListN.{length-set}
 use Rattle.line.proofs.Meaning.{means}
-use Rattle.line.proofs.Reading.{ahead, ahead_nil, number_more, number_none, feed_none, feed_found}
-use Prim.Native.Nat.{◌≤◌, ◌*◌, ◌-◌}
-use mathlib.Core.Path.{◌≡◌, refl}
+use Rattle.line.proofs.Reading.{ahead_nil, number_more, number_none, feed_none, feed_found}
+use mathlib.Core.Path.{refl}
 use native.Mathlib.Omega.{arith}
-use borrow.Author.Rules.{rules}
-use Rattle.machine.specs.Line.{field_width, field_count, read_numbers}
 use Rattle.machine.proofs.TextLine.{read_other}
 use Rattle.line.proofs.read.Goals as goal
 

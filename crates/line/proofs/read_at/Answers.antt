@@ -6,7 +6,6 @@ use Rattle.machine.specs.Line.{line_meaning}
 use Rattle.line.proofs.Meaning.{means}
 use Rattle.line.proofs.Parts.{part_is}
 use Rattle.machine.proofs.TextInput.{few_left}
-use borrow.Author.Rules.{rules}
 use Rattle.line.proofs.read_at.Goals as goal
 
 pub returns-then-input-at : goal.returns-then-input-at

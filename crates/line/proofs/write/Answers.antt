@@ -1,10 +1,8 @@
 use mathlib.Core.Bool.{not}
 -- `write` meets its contract.
 use mathlib.Core.Path.{sym, ◌∙◌, ap}
-use borrow.Author.Tests.{not-false}
 use native.Mathlib.Omega.{arith}
 use Rattle.line.proofs.Writing.{short_refused, range_refused, line_written}
-use borrow.Author.Rules.{rules}
 use Rattle.line.proofs.write.Goals as goal
 
 pub returns-then-out-lt-LINE : goal.returns-then-out-lt-LINE

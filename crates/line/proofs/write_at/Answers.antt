@@ -1,7 +1,6 @@
 -- `write_at` meets its contract.
 use native.Mathlib.Omega.{arith}
 use Rattle.line.proofs.Writing.{past_refused, tail_written}
-use borrow.Author.Rules.{rules}
 use Rattle.line.proofs.write_at.Goals as goal
 
 pub returns-then-out-at : goal.returns-then-out-at

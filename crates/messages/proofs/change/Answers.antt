@@ -1,4 +1,3 @@
-use borrow.Author.Rules.{rules}
 use Rattle.messages.proofs.change.Goals as goal
 
 pub returns-in-Put : goal.returns-in-Put

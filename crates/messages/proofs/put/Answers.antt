@@ -1,6 +1,5 @@
 use borrow.Author.Tests.{lt-ltb, le-ltb}
 use Rattle.machine.specs.Messages.{put}
-use borrow.Author.Rules.{rules}
 use Rattle.messages.proofs.put.Goals as goal
 
 pub returns-then-n-lt-MESSAGES : goal.returns-then-n-lt-MESSAGES

@@ -1,7 +1,6 @@
-use Prim.Native.Nat.{◌-◌, ◌≤◌, ◌<◌}
-use mathlib.Core.Path.{◌≡◌, sym, ap, ◌∙◌}
+use Prim.Native.Nat.{◌<◌}
+use mathlib.Core.Path.{sym, ap, ◌∙◌}
 use native.Mathlib.Omega.{arith}
-use lib.ListN.{take, drop}
 use Rattle.machine.specs.Limits.{message_limit}
 use Rattle.machine.specs.Messages.{held, queue_of}
 use Rattle.messages.proofs.Laws.{rest_none, rest_more, rest_done}

@@ -1,10 +1,7 @@
-use Prim.Native.Nat.{◌-◌, ◌≤◌, ◌<◌}
-use mathlib.Core.Path.{◌≡◌, sym, ap, ◌∙◌}
-use native.Mathlib.Omega.{arith}
+use Prim.Native.Nat.{◌-◌, ◌≤◌}
+use mathlib.Core.Path.{◌≡◌}
 use lib.ListN.{take, drop}
-use Rattle.machine.specs.Limits.{message_limit}
 use Rattle.machine.specs.Messages.{held, queue_of}
-use Rattle.messages.proofs.Laws.{rest_none, rest_more, rest_done}
 use Rattle.messages.proofs.take_first.Given as goal
 
 abbrev pub invariant-loop-i : goal.invariant-loop-i

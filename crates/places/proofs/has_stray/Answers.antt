@@ -1,5 +1,4 @@
 use mathlib.Core.Path.{sym, ◌∙◌}
-use borrow.Author.Rules.{rules}
 use Rattle.machine.specs.Places.{stray_field}
 use Rattle.places.proofs.Laws.{or_on, or_next}
 use Rattle.places.proofs.has_stray.Goals as goal

@@ -1,6 +1,5 @@
 use borrow.Author.Tests.{eq-eqb, ne_eqb, le-leb, lt-leb}
 use Rattle.machine.specs.Decisions.{checked}
-use borrow.Author.Rules.{rules}
 use Rattle.places.proofs.place_event.Goals as goal
 
 pub returns-then-is_malformed : goal.returns-then-is_malformed

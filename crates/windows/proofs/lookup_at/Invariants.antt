@@ -1,12 +1,7 @@
-use Prim.Native.Nat.{◌-◌, ◌%◌, ◌≤◌}
-use mathlib.Core.Path.{◌≡◌, refl, sym, ◌∙◌}
-use native.Mathlib.Omega.{arith}
-use lib.ListN.{get_or, drop}
-use borrow.Author.Rules.{rules}
-use borrow.Author.Tests.{eq-eqb, ne_eqb}
-use Rattle.machine.specs.Windows.{no_window, windows, any_window, next_start, covering, lookup}
-use Rattle.machine.proofs.WindowLeft.{covers_from}
-use Rattle.windows.proofs.Laws.{covering_here, covering_more, covering_done}
+use Prim.Native.Nat.{◌-◌, ◌≤◌}
+use mathlib.Core.Path.{◌≡◌}
+use lib.ListN.{drop}
+use Rattle.machine.specs.Windows.{windows, any_window, next_start, covering}
 use Rattle.windows.proofs.lookup_at.Given as goal
 
 abbrev pub invariant-loop-i : goal.invariant-loop-i

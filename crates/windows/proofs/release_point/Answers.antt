@@ -1,4 +1,3 @@
-use borrow.Author.Rules.{rules}
 use Rattle.machine.specs.Windows.{release_after, release_point}
 use Rattle.windows.proofs.release_point.Goals as goal
 

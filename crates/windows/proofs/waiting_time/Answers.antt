@@ -1,5 +1,4 @@
 use mathlib.Core.Path.{refl}
-use borrow.Author.Rules.{rules}
 use Rattle.fields.proofs.Laws.{told}
 use Rattle.windows.proofs.Laws.{waiting_late, waiting_stranger, waiting_given}
 use Rattle.windows.proofs.waiting_time.Goals as goal

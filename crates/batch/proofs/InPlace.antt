@@ -1,6 +1,6 @@
 -- The lent list of event records and the loop in place: the same executive, and the same answers. Assumes nothing.
 use mathlib.Core.List.{List}
-use mathlib.Core.Path.{◌≡◌, sym}
+use mathlib.Core.Path.{◌≡◌}
 use Rattle.machine.specs.declared.EventRecord.{EventRecord}
 use Rattle.executive.specs.Lists as L
 use Rattle.executive.specs.declared.Executive.{Executive}

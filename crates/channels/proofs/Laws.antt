@@ -1,21 +1,17 @@
 -- A place past the channels, and what WRITE and READ decide by the code of their first checks. Assumes nothing.
 use Prim.Native.Nat.{ℕ, ◌≤◌}
-use mathlib.Core.Bool.{Bool, true, false, not}
+use mathlib.Core.Bool.{Bool, true, false}
 use mathlib.Core.List.{[], ◌∷◌}
 use mathlib.Core.Path.{◌≡◌, refl, sym, ◌∙◌}
 use native.Mathlib.Omega.{arith}
 use lib.Dec.{leb}
 use lib.ListN.{length, get_or-eq_default}
 use Rattle.machine.specs.Limits.{channel_limit}
-use Rattle.machine.specs.Fields.{is_duration, number_of}
 use Rattle.machine.specs.Decisions.{checked, code_of}
 use Rattle.machine.specs.Module.{no_channel, channel}
-use Rattle.machine.specs.Channels.{channel_checks, freshness, write, read}
-use Rattle.machine.specs.declared.Context.{Context}
+use Rattle.machine.specs.Channels.{channel_checks}
 use Rattle.machine.specs.declared.Decision.{Decision}
-use Rattle.machine.specs.declared.Decision.TheVariants.{Refused, Unchanged, Written}
-use Rattle.machine.specs.declared.Field.{Field}
-use Rattle.machine.specs.declared.Message.{Message}
+use Rattle.machine.specs.declared.Decision.TheVariants.{Refused}
 use Rattle.machine.specs.declared.Port.{Port}
 use Rattle.machine.specs.declared.Table.{Table}
 use Rattle.machine.proofs.Tests.{codes_in}

@@ -10,7 +10,7 @@ use lib.ListN.{length, get_or, set, replicate, length-set}
 use lib.Seq.{set-set}
 use borrow.Author.Tests.{eq-eqb, ne_eqb, ltb-true, ltb-false}
 use Rattle.machine.specs.Channels.{other_end, kept_to, refilled_to}
-use Rattle.machine.specs.Decisions.{coded, reply_of}
+use Rattle.machine.specs.Decisions.{reply_of}
 use Rattle.machine.specs.Limits.{partition_limit, process_limit, channel_limit, buffer_limit}
 use Rattle.machine.specs.Messages.{moved, ends_wait}
 use Rattle.machine.specs.Module.{no_partition, channel, part, with_message, with_time}

@@ -1,6 +1,6 @@
 -- Places of queuing channels, the checks of a call that may wait at one, and the queues that a restart fills, channel by channel. Assumes
 -- nothing.
-use Prim.Native.Nat.{ℕ, zero, suc, ◌+◌, ◌≤◌, ◌<◌}
+use Prim.Native.Nat.{ℕ, suc, ◌+◌, ◌≤◌, ◌<◌}
 use mathlib.Core.Path.{◌≡◌, refl, ap, sym, ◌∙◌}
 use mathlib.Core.Bool.{Bool, true, false, cond, not, ◌&&◌, true≢false}
 use mathlib.Core.List.{List, [], ◌∷◌, ◌++◌}
@@ -27,7 +27,7 @@ use Rattle.machine.specs.Decisions.{checked, code_of, start_mode, wait_checks, q
 use Rattle.machine.specs.Partition.{within}
 use Rattle.machine.specs.Module.{no_channel, channel}
 use Rattle.machine.specs.Channels.{queuing, queuing_at, sees_traffic, queuing_port, channel_checks, send, receive, leads_into, refilled_at, refilled_to}
-use Rattle.machine.proofs.Tests.{codes_in, Passed, and_left, and_right, by_test}
+use Rattle.machine.proofs.Tests.{codes_in, Passed, and_left, and_right}
 use Rattle.machine.proofs.Bounds.{within_out}
 use Rattle.machine.proofs.Either.{either}
 use Rattle.machine.proofs.Reached.{refilled_table}

@@ -1,16 +1,15 @@
 -- Lines that come byte by byte: bytes before an LF are no line yet, and what is held of them. Assumes nothing.
-use Prim.Native.Nat.{ℕ, zero, suc, ◌+◌, ◌-◌, ◌*◌, ◌≤◌, ◌<◌, min}
+use Prim.Native.Nat.{ℕ, ◌+◌, ◌≤◌, ◌<◌}
 use mathlib.Core.Path.{◌≡◌, refl, sym, ap, ◌∙◌}
-use mathlib.Core.Bool.{Bool, true, false, cond, not, ◌&&◌, and-eq-true_iff}
-use mathlib.Core.List.{List, [], ◌∷◌, ◌++◌, append_assoc, append-nil}
+use mathlib.Core.Bool.{true, false, not, and-eq-true_iff}
+use mathlib.Core.List.{List, [], ◌∷◌, ◌++◌}
 use native.Mathlib.Omega.{arith}
 use native.Mathlib.Numerals.{add-one}
-use lib.ListN.{length, take, drop, set, length-append, length-take, length-set}
+use lib.ListN.{length, take, length-append, length-take, length-set}
 use lib.Seq.{take_all, take-append-le, take-suc-set, length-take-le, set_out}
 use lib.Dec.{eqb, ltb, leb}
 use borrow.Author.Tests.{not-true, ltb-true, ltb-false, leb-true, leb-false}
-use Rattle.machine.specs.Limits.{line_length}
-use Rattle.machine.specs.Line.{line_feed, read_line, in_first, lines}
+use Rattle.machine.specs.Line.{line_feed, read_line, lines}
 use Rattle.machine.proofs.Either.{either}
 use Rattle.machine.proofs.TextLine.{read_other}
 use Rattle.machine.proofs.TextInput.{no_feed, unfed_append}

@@ -1,7 +1,7 @@
 -- Any cutting of an input gives the output of the whole. Assumes nothing.
-use Prim.Native.Nat.{ℕ, zero, suc, ◌+◌, ◌-◌, ◌*◌, ◌≤◌, ◌<◌}
+use Prim.Native.Nat.{ℕ, suc, ◌-◌, ◌*◌, ◌≤◌, ◌<◌}
 use mathlib.Core.Path.{◌≡◌, refl, sym, ap, ◌∙◌}
-use mathlib.Core.Bool.{Bool, true, false}
+use mathlib.Core.Bool.{true}
 use mathlib.Core.List.{List, [], ◌∷◌, ◌++◌, append_assoc}
 use native.Mathlib.Omega.{arith}
 use lib.ListN.{length, take, drop, length-append, take-append-drop}
@@ -13,7 +13,7 @@ use Rattle.machine.specs.Replay.{replayed, replayed_record}
 use Rattle.machine.proofs.Bounds.{and_true_parts}
 use Rattle.machine.proofs.Either.{either}
 use Rattle.stream.specs.declared.Stream.{Stream}
-use Rattle.stream.specs.Stream.{begun, Fed, feed, Run, run, advanced, last, closed, is_stuck, finished, finished_of, fed_all, streamed, stream_end, Piece, Taken, pieces}
+use Rattle.stream.specs.Stream.{begun, Fed, feed, run, advanced, last, closed, is_stuck, finished, finished_of, fed_all, Piece, pieces}
 use Rattle.stream.proofs.Chunks.{feed_short}
 use Rattle.stream.proofs.Whole.{stream_printed, stream_record}
 

@@ -3,7 +3,6 @@ use native.Mathlib.Omega.{arith}
 use Rattle.machine.specs.Blackboards.{create_blackboard}
 use Rattle.decisions.proofs.Laws.{refused_code, passed_code, admitted_code}
 use Rattle.objects.proofs.Laws.{named_low}
-use borrow.Author.Rules.{rules}
 use Rattle.blackboards.proofs.create_blackboard.Goals as goal
 
 pub returns-then-code-ne0 : goal.returns-then-code-ne0

@@ -1,13 +1,7 @@
 use Prim.Native.Nat.{◌-◌}
-use mathlib.Core.Path.{◌≡◌, refl}
-use native.Mathlib.Omega.{arith}
-use lib.ListN.{length}
-use borrow.Author.Rules.{rules}
 use Rattle.machine.specs.declared.Blackboard.{Blackboard}
 use Rattle.machine.specs.Limits.{blackboard_limit}
-use Rattle.machine.specs.Partition.{no_blackboard}
-use Rattle.machine.proofs.Taken.{length_mapped}
-use Rattle.decisions.proofs.Names.{NotBefore, name_here, name_later, name_nowhere}
+use Rattle.decisions.proofs.Names.{NotBefore}
 use Rattle.blackboards.proofs.is_blackboard_named.Given as goal
 
 abbrev pub invariant-loop-i : goal.invariant-loop-i

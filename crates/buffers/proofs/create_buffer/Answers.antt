@@ -7,7 +7,6 @@ use Rattle.machine.proofs.Tests.{and_left, and_right}
 use Rattle.machine.proofs.Fields.{in_limits}
 use Rattle.decisions.proofs.Laws.{refused_code, passed_code, admitted_code}
 use Rattle.objects.proofs.Laws.{named_low}
-use borrow.Author.Rules.{rules}
 use Rattle.buffers.proofs.create_buffer.Goals as goal
 
 pub returns-then-code-ne0 : goal.returns-then-code-ne0

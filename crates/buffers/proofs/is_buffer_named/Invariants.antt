@@ -1,13 +1,7 @@
 use Prim.Native.Nat.{◌-◌}
-use mathlib.Core.Path.{◌≡◌, refl}
-use native.Mathlib.Omega.{arith}
-use lib.ListN.{length}
-use borrow.Author.Rules.{rules}
 use Rattle.machine.specs.declared.Buffer.{Buffer}
 use Rattle.machine.specs.Limits.{buffer_limit}
-use Rattle.machine.specs.Partition.{no_buffer}
-use Rattle.machine.proofs.Taken.{length_mapped}
-use Rattle.decisions.proofs.Names.{NotBefore, name_here, name_later, name_nowhere}
+use Rattle.decisions.proofs.Names.{NotBefore}
 use Rattle.buffers.proofs.is_buffer_named.Given as goal
 
 abbrev pub invariant-loop-i : goal.invariant-loop-i

@@ -1,6 +1,5 @@
 use mathlib.Core.Path.{refl, ◌∙◌}
 use native.Mathlib.Omega.{arith}
-use borrow.Author.Rules.{rules}
 use Rattle.machine.specs.Decisions.{awaiting}
 use Rattle.machine.specs.Buffers.{receive_buffer}
 use Rattle.machine.proofs.Tests.{Passed}

@@ -7,7 +7,6 @@ use Rattle.machine.proofs.Tests.{Passed}
 use Rattle.decisions.proofs.Laws.{refused_code, passed_code}
 use Rattle.calls.proofs.Laws.{admitted_name, admitted_priority}
 use Rattle.machine.specs.declared.Decision.TheVariants.{Refused}
-use borrow.Author.Rules.{rules}
 use Rattle.calls.proofs.create_process.Goals as goal
 
 pub returns-then-code-ne0 : goal.returns-then-code-ne0

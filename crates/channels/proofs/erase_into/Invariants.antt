@@ -1,11 +1,7 @@
 use Prim.Native.Nat.{◌-◌, ◌≤◌}
-use mathlib.Core.Logic.{⊎_elim}
 use mathlib.Core.Path.{◌≡◌}
-use native.Mathlib.Omega.{arith}
-use borrow.Author.Rules.{rules}
 use Rattle.machine.specs.Limits.{channel_limit}
 use Rattle.machine.specs.Channels.{kept_to}
-use Rattle.machine.proofs.Folds.{kept_erased, kept_same, kept_none}
 use Rattle.channels.proofs.erase_into.Given as goal
 
 abbrev pub invariant-loop-i : goal.invariant-loop-i

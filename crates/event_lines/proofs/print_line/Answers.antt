@@ -1,4 +1,3 @@
-use borrow.Author.Rules.{rules}
 use Rattle.event_lines.proofs.Blocks.{line_printed, line_unprinted}
 use Rattle.event_lines.proofs.print_line.Goals as goal
 

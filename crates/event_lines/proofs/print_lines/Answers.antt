@@ -1,8 +1,7 @@
-use Prim.Native.Nat.{◌-◌, ◌<◌}
+use Prim.Native.Nat.{◌<◌}
 use native.Mathlib.Omega.{arith}
-use borrow.Author.Rules.{rules}
 use lib.ListN.{length}
-use Rattle.event_lines.proofs.Blocks.{Printing, printing_begins, printing_done, printing_fits, printing_more}
+use Rattle.event_lines.proofs.Blocks.{printing_begins, printing_done, printing_fits, printing_more}
 use Rattle.event_lines.proofs.print_lines.Goals as goal
 
 pub loop-i-init : goal.loop-i-init

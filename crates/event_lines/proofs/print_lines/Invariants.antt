@@ -1,8 +1,5 @@
-use Prim.Native.Nat.{◌-◌, ◌<◌}
-use native.Mathlib.Omega.{arith}
-use borrow.Author.Rules.{rules}
-use lib.ListN.{length}
-use Rattle.event_lines.proofs.Blocks.{Printing, printing_begins, printing_done, printing_fits, printing_more}
+use Prim.Native.Nat.{◌-◌}
+use Rattle.event_lines.proofs.Blocks.{Printing}
 use Rattle.event_lines.proofs.print_lines.Given as goal
 
 abbrev pub invariant-loop-i : goal.invariant-loop-i

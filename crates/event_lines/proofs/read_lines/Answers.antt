@@ -1,9 +1,8 @@
-use Prim.Native.Nat.{◌-◌, ◌<◌}
+use Prim.Native.Nat.{◌<◌}
 use mathlib.Core.Path.{sym, ◌∙◌}
 use native.Mathlib.Omega.{arith}
-use borrow.Author.Rules.{rules}
 use lib.ListN.{length}
-use Rattle.event_lines.proofs.Blocks.{Reading, reading_begins, reading_stops, reading_done, reading_more, six_inside}
+use Rattle.event_lines.proofs.Blocks.{reading_begins, reading_stops, reading_done, reading_more, six_inside}
 use Rattle.line.proofs.Meaning.{reads}
 use Rattle.event_lines.proofs.read_lines.Goals as goal
 

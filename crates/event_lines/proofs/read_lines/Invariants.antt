@@ -1,10 +1,5 @@
-use Prim.Native.Nat.{◌-◌, ◌<◌}
-use mathlib.Core.Path.{sym, ◌∙◌}
-use native.Mathlib.Omega.{arith}
-use borrow.Author.Rules.{rules}
-use lib.ListN.{length}
-use Rattle.event_lines.proofs.Blocks.{Reading, reading_begins, reading_stops, reading_done, reading_more, six_inside}
-use Rattle.line.proofs.Meaning.{reads}
+use Prim.Native.Nat.{◌-◌}
+use Rattle.event_lines.proofs.Blocks.{Reading}
 use Rattle.event_lines.proofs.read_lines.Given as goal
 
 abbrev pub invariant-loop-n : goal.invariant-loop-n

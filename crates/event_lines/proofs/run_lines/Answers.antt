@@ -1,5 +1,4 @@
 use native.Mathlib.Omega.{arith}
-use borrow.Author.Rules.{rules}
 use Rattle.event_lines.proofs.Blocks.{Listed, listed, listed_few, listed_long, listed_size, listed_none, run_long, run_size, run_room, run_done}
 use Rattle.event_lines.proofs.run_lines.Goals as goal
 use Rattle.event_lines.proofs.run_lines.Goals.{After-read_lines-lines}

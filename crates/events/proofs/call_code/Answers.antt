@@ -1,6 +1,5 @@
 use borrow.Author.Tests.{eq-eqb, ne_eqb, lt-ltb, le-ltb}
 use Rattle.machine.specs.Decisions.{checked}
-use borrow.Author.Rules.{rules}
 use Rattle.events.proofs.call_code.Goals as goal
 
 pub returns-then-n-ne0 : goal.returns-then-n-ne0

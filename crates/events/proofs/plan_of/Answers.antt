@@ -1,4 +1,3 @@
-use borrow.Author.Rules.{rules}
 use Rattle.events.proofs.plan_of.Goals as goal
 
 pub returns : goal.returns

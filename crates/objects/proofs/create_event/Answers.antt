@@ -3,7 +3,6 @@ use native.Mathlib.Omega.{arith}
 use Rattle.machine.specs.Objects.{create_event}
 use Rattle.decisions.proofs.Laws.{refused_code, passed_code, admitted_code}
 use Rattle.objects.proofs.Laws.{named_low}
-use borrow.Author.Rules.{rules}
 use Rattle.objects.proofs.create_event.Goals as goal
 
 pub returns-then-code-ne0 : goal.returns-then-code-ne0

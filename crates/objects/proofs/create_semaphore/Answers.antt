@@ -3,7 +3,6 @@ use native.Mathlib.Omega.{arith}
 use Rattle.machine.specs.Objects.{create_semaphore}
 use Rattle.decisions.proofs.Laws.{refused_code, passed_code, admitted_code}
 use Rattle.objects.proofs.Laws.{admitted}
-use borrow.Author.Rules.{rules}
 use Rattle.objects.proofs.create_semaphore.Goals as goal
 
 pub returns-then-code-ne0 : goal.returns-then-code-ne0

@@ -1,13 +1,11 @@
-use Prim.Native.Nat.{◌-◌}
 use mathlib.Core.Path.{◌≡◌, refl}
 use native.Mathlib.Omega.{arith}
 use lib.ListN.{length}
 use borrow.Author.Rules.{rules}
-use Rattle.machine.specs.declared.EventState.{EventState}
 use Rattle.machine.specs.Limits.{event_limit}
 use Rattle.machine.specs.Partition.{no_event}
 use Rattle.machine.proofs.Taken.{length_mapped}
-use Rattle.decisions.proofs.Names.{NotBefore, name_here, name_later, name_nowhere}
+use Rattle.decisions.proofs.Names.{name_here, name_later, name_nowhere}
 use Rattle.objects.proofs.is_event_named.Goals as goal
 
 pub loop-i-init : goal.loop-i-init

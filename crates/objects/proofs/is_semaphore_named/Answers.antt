@@ -1,13 +1,11 @@
-use Prim.Native.Nat.{◌-◌}
 use mathlib.Core.Path.{◌≡◌, refl}
 use native.Mathlib.Omega.{arith}
 use lib.ListN.{length}
 use borrow.Author.Rules.{rules}
-use Rattle.machine.specs.declared.Semaphore.{Semaphore}
 use Rattle.machine.specs.Limits.{semaphore_limit}
 use Rattle.machine.specs.Partition.{no_semaphore}
 use Rattle.machine.proofs.Taken.{length_mapped}
-use Rattle.decisions.proofs.Names.{NotBefore, name_here, name_later, name_nowhere}
+use Rattle.decisions.proofs.Names.{name_here, name_later, name_nowhere}
 use Rattle.objects.proofs.is_semaphore_named.Goals as goal
 
 pub loop-i-init : goal.loop-i-init

@@ -1,7 +1,6 @@
 use mathlib.Core.Path.{◌∙◌}
 use Rattle.machine.specs.Limits.{semaphore_limit}
 use Rattle.partition.proofs.Laws.{named_at, named_past}
-use borrow.Author.Rules.{rules}
 use Rattle.objects.proofs.semaphore_at.Goals as goal
 
 pub returns-then-i-ge-SEMAPHORES : goal.returns-then-i-ge-SEMAPHORES

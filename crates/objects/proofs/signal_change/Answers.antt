@@ -1,5 +1,4 @@
 use mathlib.Core.Path.{sym, ◌∙◌}
-use borrow.Author.Rules.{rules}
 use Rattle.objects.proofs.Laws.{none_signalled, first_signalled}
 use Rattle.objects.proofs.signal_change.Goals as goal
 

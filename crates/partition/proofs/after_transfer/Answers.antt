@@ -1,4 +1,4 @@
-use mathlib.Core.Path.{◌≡◌, ap, ◌∙◌}
+use mathlib.Core.Path.{ap, ◌∙◌}
 use Rattle.partition.specs.Waits.{ended_as}
 use Rattle.partition.proofs.Laws.{ended}
 use Rattle.partition.proofs.after_transfer.Goals as goal

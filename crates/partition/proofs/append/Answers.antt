@@ -1,6 +1,5 @@
 use borrow.Author.Tests.{lt-ltb, le-ltb}
 use Rattle.machine.specs.Ids.{appended}
-use borrow.Author.Rules.{rules}
 use Rattle.partition.proofs.append.Goals as goal
 
 pub returns-then-n-lt-PROCESSES : goal.returns-then-n-lt-PROCESSES

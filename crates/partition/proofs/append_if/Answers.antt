@@ -1,4 +1,3 @@
-use borrow.Author.Rules.{rules}
 use Rattle.partition.proofs.append_if.Goals as goal
 
 pub returns-then-keep : goal.returns-then-keep

@@ -2,7 +2,6 @@ use Rattle.partition.proofs.Laws.{created_at, slot_out}
 use Rattle.machine.specs.Limits.{process_limit}
 use mathlib.Core.Path.{sym}
 use Rattle.machine.proofs.Bounds.{created_out}
-use borrow.Author.Rules.{rules}
 use Rattle.partition.proofs.create.Goals as goal
 
 pub returns-then-i-ge-PROCESSES : goal.returns-then-i-ge-PROCESSES

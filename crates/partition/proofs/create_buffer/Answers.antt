@@ -2,7 +2,6 @@ use mathlib.Core.Path.{sym}
 use Rattle.machine.specs.Limits.{buffer_limit}
 use Rattle.machine.proofs.Bounds.{buffer_out}
 use Rattle.partition.proofs.Laws.{buffer_at, slot_out}
-use borrow.Author.Rules.{rules}
 use Rattle.partition.proofs.create_buffer.Goals as goal
 
 pub returns-then-i-ge-BUFFERS : goal.returns-then-i-ge-BUFFERS

@@ -1,9 +1,5 @@
-use Prim.Native.Nat.{◌-◌, ◌≤◌}
-use mathlib.Core.Path.{◌≡◌, refl, sym, ◌∙◌}
+use mathlib.Core.Path.{refl, sym, ◌∙◌}
 use native.Mathlib.Omega.{arith}
-use lib.ListN.{drop}
-use Rattle.machine.specs.Ids.{members}
-use Rattle.machine.specs.Partition.{changed_all}
 use Rattle.machine.proofs.Folds.{changed_more, changed_done}
 use Rattle.partition.specs.Waits.{served_with}
 use Rattle.partition.proofs.end_waits.Goals as goal

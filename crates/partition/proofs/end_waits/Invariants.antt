@@ -1,10 +1,8 @@
 use Prim.Native.Nat.{◌-◌, ◌≤◌}
-use mathlib.Core.Path.{◌≡◌, refl, sym, ◌∙◌}
-use native.Mathlib.Omega.{arith}
+use mathlib.Core.Path.{◌≡◌}
 use lib.ListN.{drop}
 use Rattle.machine.specs.Ids.{members}
 use Rattle.machine.specs.Partition.{changed_all}
-use Rattle.machine.proofs.Folds.{changed_more, changed_done}
 use Rattle.partition.specs.Waits.{served_with}
 use Rattle.partition.proofs.end_waits.Given as goal
 

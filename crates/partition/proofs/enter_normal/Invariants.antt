@@ -1,10 +1,7 @@
-use Prim.Native.Nat.{ℕ, ◌+◌, ◌-◌, ◌≤◌}
-use mathlib.Core.Path.{◌≡◌, refl, sym, ap, ◌∙◌}
-use native.Mathlib.Omega.{arith}
+use Prim.Native.Nat.{◌+◌, ◌-◌, ◌≤◌}
+use mathlib.Core.Path.{◌≡◌}
 use Rattle.machine.specs.Process.{entered}
-use Rattle.machine.specs.Partition.{each_from, with_mode, entered_normal}
-use Rattle.machine.proofs.Folds.{each_more, each_done}
-use Rattle.partition.proofs.Laws.{each_start}
+use Rattle.machine.specs.Partition.{each_from}
 use Rattle.partition.proofs.enter_normal.Given as goal
 
 abbrev pub invariant-loop-id : goal.invariant-loop-id

@@ -1,4 +1,3 @@
-use borrow.Author.Rules.{rules}
 use Rattle.partition.proofs.followed.Goals as goal
 
 pub returns-else-now : goal.returns-else-now

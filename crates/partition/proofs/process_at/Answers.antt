@@ -1,6 +1,5 @@
 use Rattle.partition.proofs.Laws.{read_in, read_out}
 use mathlib.Core.Path.{refl}
-use borrow.Author.Rules.{rules}
 use Rattle.partition.proofs.process_at.Goals as goal
 
 pub returns-then-i-ge-PROCESSES : goal.returns-then-i-ge-PROCESSES

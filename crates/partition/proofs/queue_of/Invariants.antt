@@ -1,17 +1,8 @@
-use Prim.Native.Nat.{ℕ, ◌-◌, ◌≤◌, ◌<◌}
-use mathlib.Core.Path.{◌≡◌, refl, ap, ◌∙◌}
-use mathlib.Core.Logic.{⊎_elim}
-use native.Mathlib.Omega.{arith}
-use lib.ListN.{length, take}
-use lib.Dec.{eqb}
-use borrow.Author.Rules.{rules}
-use Rattle.machine.specs.declared.Process.{Process}
-use Rattle.machine.specs.Limits.{process_limit}
-use Rattle.machine.specs.Process.{object}
+use Prim.Native.Nat.{◌-◌, ◌≤◌}
+use mathlib.Core.Path.{◌≡◌}
+use lib.ListN.{take}
 use Rattle.machine.specs.Ids.{ids_of, kept}
-use Rattle.machine.specs.Partition.{waits_on, waiters}
-use Rattle.machine.proofs.Lists.{scan_next, scan_done}
-use Rattle.partition.proofs.Laws.{read_in, read_out}
+use Rattle.machine.specs.Partition.{waits_on}
 use Rattle.partition.proofs.queue_of.Given as goal
 
 abbrev pub invariant-loop-i : goal.invariant-loop-i

@@ -1,13 +1,12 @@
-use Prim.Native.Nat.{ℕ, ◌+◌, ◌-◌, ◌≤◌, ◌<◌}
+use Prim.Native.Nat.{ℕ, ◌+◌, ◌<◌}
 use mathlib.Core.Bool.{not}
-use mathlib.Core.Logic.{⊎_elim}
 use mathlib.Core.Path.{◌≡◌, refl, ap, ◌∙◌}
 use native.Mathlib.Omega.{arith}
-use lib.ListN.{length, take}
+use lib.ListN.{length}
 use borrow.Author.Rules.{rules}
 use borrow.Author.Tests.{eq-eqb, ne_eqb}
 use Rattle.machine.specs.Limits.{process_limit}
-use Rattle.machine.specs.Ids.{ids_of, kept, other, removed}
+use Rattle.machine.specs.Ids.{kept, other, removed}
 use Rattle.machine.specs.declared.Ids.{Ids}
 use Rattle.machine.proofs.Lists.{scan_done}
 use Rattle.partition.proofs.Laws.{kept_in, kept_full, kept_out}

@@ -1,15 +1,8 @@
 use Prim.Native.Nat.{◌-◌, ◌≤◌}
-use mathlib.Core.Path.{◌≡◌, refl, ap, sym, ◌∙◌}
-use mathlib.Core.Logic.{⊎_elim}
-use native.Mathlib.Omega.{arith}
+use mathlib.Core.Path.{◌≡◌}
 use lib.ListN.{drop}
-use borrow.Author.Rules.{rules}
-use borrow.Author.Tests.{eq-eqb, ne_eqb, lt-ltb, le-ltb}
-use Rattle.machine.specs.declared.Choice.{Choice}
 use Rattle.machine.specs.Ids.{members}
-use Rattle.machine.specs.Partition.{chosen, running}
-use Rattle.machine.proofs.Folds.{chosen_more, chosen_done}
-use Rattle.partition.proofs.Laws.{read_in, read_out}
+use Rattle.machine.specs.Partition.{chosen}
 use Rattle.partition.proofs.running_process.Given as goal
 
 abbrev pub invariant-loop-i : goal.invariant-loop-i

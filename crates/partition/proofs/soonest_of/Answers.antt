@@ -1,10 +1,6 @@
 use Rattle.machine.specs.Partition.{process}
-use Prim.Native.Nat.{◌+◌, ◌-◌, ◌≤◌}
 use mathlib.Core.Path.{◌≡◌, sym, ◌∙◌}
-use mathlib.Core.Logic.{⊎_elim}
 use native.Mathlib.Omega.{arith}
-use borrow.Author.Rules.{rules}
-use Rattle.partition.specs.Soonest.{soonest_from}
 use Rattle.partition.proofs.Laws.{read_in, read_out}
 use Rattle.partition.proofs.Soonest.{soonest_done, soonest_down, soonest_whole}
 use Rattle.partition.proofs.soonest_of.Goals as goal

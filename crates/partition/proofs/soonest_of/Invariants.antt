@@ -1,11 +1,6 @@
 use Prim.Native.Nat.{◌+◌, ◌-◌, ◌≤◌}
-use mathlib.Core.Path.{◌≡◌, sym, ◌∙◌}
-use mathlib.Core.Logic.{⊎_elim}
-use native.Mathlib.Omega.{arith}
-use borrow.Author.Rules.{rules}
+use mathlib.Core.Path.{◌≡◌}
 use Rattle.partition.specs.Soonest.{soonest_from}
-use Rattle.partition.proofs.Laws.{read_in, read_out}
-use Rattle.partition.proofs.Soonest.{soonest_done, soonest_down, soonest_whole}
 use Rattle.partition.proofs.soonest_of.Given as goal
 
 abbrev pub invariant-loop-id : goal.invariant-loop-id

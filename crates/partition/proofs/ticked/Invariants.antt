@@ -1,13 +1,7 @@
-use Prim.Native.Nat.{ℕ, ◌+◌, ◌-◌, ◌≤◌}
-use mathlib.Core.Path.{◌≡◌, refl, sym, ap, ◌∙◌}
-use mathlib.Core.Logic.{⊎_elim}
-use native.Mathlib.Omega.{arith}
-use borrow.Author.Rules.{rules}
-use borrow.Author.Tests.{eq-eqb, ne_eqb}
+use Prim.Native.Nat.{◌+◌, ◌-◌, ◌≤◌}
+use mathlib.Core.Path.{◌≡◌}
 use Rattle.machine.specs.Process.{ticked}
-use Rattle.machine.specs.Partition.{each_from, tick_partition}
-use Rattle.machine.proofs.Folds.{each_more, each_done}
-use Rattle.partition.proofs.Laws.{each_start, read_in, read_out, untouched}
+use Rattle.machine.specs.Partition.{each_from}
 use Rattle.partition.proofs.ticked.Given as goal
 
 abbrev pub invariant-loop-id : goal.invariant-loop-id

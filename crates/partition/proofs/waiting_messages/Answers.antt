@@ -1,10 +1,8 @@
-use Prim.Native.Nat.{ℕ, ◌-◌, ◌≤◌, ◌<◌}
-use mathlib.Core.Path.{◌≡◌, ap, ◌∙◌}
+use Prim.Native.Nat.{◌<◌}
+use mathlib.Core.Path.{ap, ◌∙◌}
 use mathlib.Core.List.{map}
 use native.Mathlib.Omega.{arith}
-use lib.ListN.{take}
 use Rattle.machine.specs.Limits.{message_limit}
-use Rattle.machine.specs.Ids.{members}
 use Rattle.machine.specs.Messages.{queue_of}
 use Rattle.machine.specs.Process.{carried}
 use Rattle.machine.specs.Partition.{process}

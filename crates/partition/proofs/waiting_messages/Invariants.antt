@@ -1,14 +1,11 @@
-use Prim.Native.Nat.{ℕ, ◌-◌, ◌≤◌, ◌<◌}
-use mathlib.Core.Path.{◌≡◌, ap, ◌∙◌}
+use Prim.Native.Nat.{◌-◌}
+use mathlib.Core.Path.{◌≡◌}
 use mathlib.Core.List.{map}
-use native.Mathlib.Omega.{arith}
 use lib.ListN.{take}
-use Rattle.machine.specs.Limits.{message_limit}
 use Rattle.machine.specs.Ids.{members}
 use Rattle.machine.specs.Messages.{queue_of}
 use Rattle.machine.specs.Process.{carried}
 use Rattle.machine.specs.Partition.{process}
-use Rattle.partition.proofs.Laws.{gathered_more, gathered_all}
 use Rattle.partition.proofs.waiting_messages.Given as goal
 
 abbrev pub invariant-loop-i : goal.invariant-loop-i

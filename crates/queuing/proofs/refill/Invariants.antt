@@ -1,11 +1,7 @@
 use Prim.Native.Nat.{◌-◌, ◌≤◌}
-use mathlib.Core.Logic.{⊎_elim}
-use mathlib.Core.Path.{◌≡◌, sym, ◌∙◌}
-use native.Mathlib.Omega.{arith}
+use mathlib.Core.Path.{◌≡◌}
 use Rattle.machine.specs.Limits.{channel_limit}
 use Rattle.machine.specs.Channels.{refilled_to}
-use Rattle.queuing.proofs.Laws.{refilled_none, refilled_here, refilled_past}
-use borrow.Author.Rules.{rules}
 use Rattle.queuing.proofs.refill.Given as goal
 
 abbrev pub invariant-loop-i : goal.invariant-loop-i

@@ -1,11 +1,10 @@
-use Prim.Native.Nat.{◌-◌, ◌≤◌, ◌<◌}
-use mathlib.Core.Path.{◌≡◌, refl}
+use Prim.Native.Nat.{◌≤◌, ◌<◌}
+use mathlib.Core.Path.{refl}
 use native.Mathlib.Omega.{arith}
-use lib.ListN.{length, take}
+use lib.ListN.{length}
 use borrow.Author.Rules.{rules}
-use Rattle.machine.specs.Limits.{process_limit}
 use Rattle.machine.proofs.Taken.{length_mapped}
-use Rattle.resident.specs.Mirrors.{current_of, object_of, filled}
+use Rattle.resident.specs.Mirrors.{current_of, object_of}
 use Rattle.resident.proofs.Laws.{fill_none, fill_more, fill_done}
 use Rattle.resident.proofs.fill.Goals as goal
 
@@ -13,14 +12,14 @@ pub loop-i-init : goal.loop-i-init
 loop-i-init c = (omega arith, search (rules, length_mapped), fill_none current_of _, fill_none object_of _)
 
 pub loop-i-preserved : goal.loop-i-preserved
-loop-i-preserved c = 
+loop-i-preserved c =
     let l = c.loop-i in
     let a = c.args in
     let h : l.i < length a.p.processes = omega (arith, l.invariant.1) in
     (omega arith, l.invariant.1, fill_more current_of a.currents.now l.currents a.p.processes l.i refl h l.invariant.2, fill_more object_of a.objects.now l.objects a.p.processes l.i c.object_of.ensures h l.invariant.3)
 
 pub returns : goal.returns
-returns c = 
+returns c =
     let l = c.loop-i in
     let a = c.args in
     let h : length a.p.processes ≤ l.i = omega (arith, l.invariant.1) in

@@ -1,12 +1,8 @@
-use Prim.Native.Nat.{◌-◌, ◌≤◌, ◌<◌}
-use mathlib.Core.Path.{◌≡◌, refl}
-use native.Mathlib.Omega.{arith}
+use Prim.Native.Nat.{◌-◌, ◌≤◌}
+use mathlib.Core.Path.{◌≡◌}
 use lib.ListN.{length, take}
-use borrow.Author.Rules.{rules}
 use Rattle.machine.specs.Limits.{process_limit}
-use Rattle.machine.proofs.Taken.{length_mapped}
 use Rattle.resident.specs.Mirrors.{current_of, object_of, filled}
-use Rattle.resident.proofs.Laws.{fill_none, fill_more, fill_done}
 use Rattle.resident.proofs.fill.Given as goal
 
 abbrev pub invariant-loop-i : goal.invariant-loop-i

@@ -1,9 +1,7 @@
 use Prim.Native.Nat.{◌-◌, ◌≤◌}
-use mathlib.Core.Path.{◌≡◌, refl, sym, ◌∙◌}
-use native.Mathlib.Omega.{arith}
+use mathlib.Core.Path.{◌≡◌}
 use lib.ListN.{get_or, drop}
 use Rattle.machine.specs.Ids.{members, kept}
-use Rattle.partition.proofs.Laws.{first_here, first_later, first_none}
 use Rattle.resident.specs.Mirrors.{is_on, first_on}
 use Rattle.resident.proofs.first_on.Given as goal
 

@@ -1,4 +1,3 @@
-use borrow.Author.Rules.{rules}
 use Rattle.resident.proofs.is_on.Goals as goal
 
 pub returns : goal.returns

@@ -1,11 +1,7 @@
-use Prim.Native.Nat.{◌-◌, ◌≤◌}
-use mathlib.Core.Path.{◌≡◌, refl, sym, ap, ◌∙◌}
+use mathlib.Core.Path.{refl, sym, ap, ◌∙◌}
 use native.Mathlib.Omega.{arith}
-use lib.ListN.{drop}
 use borrow.Author.Tests.{eq-eqb, ne_eqb, lt-ltb, le-ltb}
-use Rattle.machine.specs.Ids.{members}
 use Rattle.machine.specs.declared.Choice.{Choice}
-use Rattle.resident.specs.Mirrors.{chosen_by}
 use Rattle.resident.proofs.Laws.{chosen_more, chosen_done}
 use Rattle.resident.proofs.running.Goals as goal
 
@@ -25,13 +21,13 @@ pub overflow_add-i : goal.overflow_add-i
 overflow_add-i c = omega (arith, c.loop-i-test.true, c.count-n.ensures.1)
 
 pub loop-i-preserved : goal.loop-i-preserved
-loop-i-preserved c = 
+loop-i-preserved c =
     let a = c.args in
     let l = c.loop-i in
     (omega arith, rw c.or_later-best.ensures (sym (chosen_more a.arrival l.i a.currents.now l.best (omega (arith, c.loop-i-test.true, c.count-n.ensures.0)) c.priority_of.ensures) ∙ l.invariant.1))
 
 pub returns : goal.returns
-returns c = 
+returns c =
     let a = c.args in
     let l = c.loop-i in
     rw (eq-eqb _ _ c.if-mode-ne3.false, le-ltb _ _ c.if-level-gt0.false) (ap (λ (x : Choice). x.id) (sym (chosen_done a.arrival l.i a.currents.now l.best (omega (arith, c.loop-i-test.false, c.count-n.ensures.0))) ∙ l.invariant.1))

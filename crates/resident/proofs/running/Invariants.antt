@@ -1,12 +1,8 @@
 use Prim.Native.Nat.{◌-◌, ◌≤◌}
-use mathlib.Core.Path.{◌≡◌, refl, sym, ap, ◌∙◌}
-use native.Mathlib.Omega.{arith}
+use mathlib.Core.Path.{◌≡◌}
 use lib.ListN.{drop}
-use borrow.Author.Tests.{eq-eqb, ne_eqb, lt-ltb, le-ltb}
 use Rattle.machine.specs.Ids.{members}
-use Rattle.machine.specs.declared.Choice.{Choice}
 use Rattle.resident.specs.Mirrors.{chosen_by}
-use Rattle.resident.proofs.Laws.{chosen_more, chosen_done}
 use Rattle.resident.proofs.running.Given as goal
 
 abbrev pub invariant-loop-i : goal.invariant-loop-i

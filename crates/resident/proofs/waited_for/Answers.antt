@@ -1,4 +1,3 @@
-use borrow.Author.Rules.{rules}
 use Rattle.resident.proofs.Laws.{number_in, number_out}
 use Rattle.resident.proofs.waited_for.Goals as goal
 

@@ -1,7 +1,6 @@
 use Rattle.machine.specs.Decisions.{checked}
 use Rattle.machine.specs.Services.{services, call_decision}
 use Rattle.services.proofs.Laws.{NoneTo, none_left, shown_caller, waiter_on}
-use borrow.Author.Rules.{rules}
 use Rattle.services.proofs.call.Goals as goal
 
 pub returns-then-has_no_caller : goal.returns-then-has_no_caller

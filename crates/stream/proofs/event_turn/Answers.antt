@@ -1,5 +1,4 @@
 use mathlib.Core.Path.{◌≡◌}
-use borrow.Author.Rules.{rules}
 use Rattle.machine.specs.Line.{read_line}
 use Rattle.line.proofs.Meaning.{reads}
 use Rattle.stream.proofs.event_turn.Goals as goal

@@ -1,7 +1,5 @@
-use Prim.Native.Nat.{◌-◌}
 use native.Mathlib.Omega.{arith}
-use Rattle.machine.specs.Limits.{line_length}
-use Rattle.stream.proofs.Blocks.{Holding, holding_begins, holding_more, holding_done}
+use Rattle.stream.proofs.Blocks.{holding_begins, holding_more, holding_done}
 use mathlib.Core.Path.{refl}
 use Rattle.stream.proofs.hold_line.Goals as goal
 

@@ -1,4 +1,3 @@
-use borrow.Author.Rules.{rules}
 use Rattle.stream.specs.declared.Stage.{Stage}
 use Rattle.stream.specs.Stream.{turn_in}
 use Rattle.stream.proofs.Turns.{by_stage}

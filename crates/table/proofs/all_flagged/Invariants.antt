@@ -1,13 +1,9 @@
 -- `all_flagged` meets its contract. The loops: the partitions from k on are left, and of partition k the windows from i on.
-use Prim.Native.Nat.{◌+◌, ◌-◌, ◌≤◌}
-use mathlib.Core.Path.{◌≡◌, refl}
-use mathlib.Core.Bool.{true}
-use native.Mathlib.Omega.{arith}
+use Prim.Native.Nat.{◌+◌, ◌-◌}
+use mathlib.Core.Path.{◌≡◌}
 use lib.ListN.{drop}
-use borrow.Author.Rules.{rules}
 use Rattle.machine.specs.Windows.{windows}
 use Rattle.machine.specs.Table.{has_flagged, flagged_from}
-use Rattle.table.proofs.Laws.{window_found, window_passed, window_missing, partitions_start, partition_flagged, partition_unflagged, partitions_end, last_flagged}
 use Rattle.table.proofs.all_flagged.Given as goal
 
 abbrev pub invariant-loop-i : goal.invariant-loop-i

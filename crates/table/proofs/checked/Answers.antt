@@ -1,7 +1,6 @@
 -- `checked` meets its contract.
 use mathlib.Core.Path.{sym, ◌∙◌}
 use borrow.Author.Tests.{not-true, not-false}
-use borrow.Author.Rules.{rules}
 use Rattle.table.proofs.checked.Goals as goal
 
 pub returns-then-not-all_flagged : goal.returns-then-not-all_flagged

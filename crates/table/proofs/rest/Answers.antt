@@ -2,14 +2,9 @@
 use borrow.Author.Tests.{not-false}
 use Rattle.machine.proofs.TextInput.{few_left}
 use Rattle.table.proofs.Laws.{lines_from, part_read, head_sound, head_read, room, line_refused, row_refused, row_taken, lines_done}
-use Prim.Native.Nat.{◌+◌, ◌-◌, ◌≤◌}
-use mathlib.Core.Path.{◌≡◌, sym, ◌∙◌}
+use mathlib.Core.Path.{sym, ◌∙◌}
 use native.Mathlib.Omega.{arith}
-use lib.ListN.{length}
-use borrow.Author.Rules.{rules}
 use Rattle.machine.specs.Limits.{line_length}
-use Rattle.machine.specs.Table.{table_from}
-use Rattle.machine.proofs.Tables.{SoundDraft}
 use Rattle.table.proofs.rest.Goals as goal
 
 pub overflow_add-total : goal.overflow_add-total
@@ -19,7 +14,7 @@ pub overflow_add-total-2 : goal.overflow_add-total-2
 overflow_add-total-2 c = omega arith
 
 pub loop-line-init : goal.loop-line-init
-loop-line-init c = 
+loop-line-init c =
     let start = c in
     let s =
     head_sound start.args.head _ (lines_from start.args.input.now line_length) start.requires.0
@@ -34,7 +29,7 @@ pub overflow_add-line : goal.overflow_add-line
 overflow_add-line c = omega arith
 
 pub returns-then-input-at-lt-LINE : goal.returns-then-input-at-lt-LINE
-returns-then-input-at-lt-LINE c = 
+returns-then-input-at-lt-LINE c =
     let start = c in
     let head_draft_holds = c.head_draft-d in
     let loop = c.loop-line in
@@ -52,7 +47,7 @@ pub overflow_add-line-in_default : goal.overflow_add-line-in_default
 overflow_add-line-in_default c = omega arith
 
 pub returns-in_default : goal.returns-in_default
-returns-in_default c = 
+returns-in_default c =
     let start = c in
     let head_draft_holds = c.head_draft-d in
     let loop = c.loop-line in
@@ -63,14 +58,14 @@ returns-in_default c =
     (part_read start.args.input.now loop.at _ read.ensures _ c.in_default.is))
 
 pub overflow_add-line-then-not-is_row_good : goal.overflow_add-line-then-not-is_row_good
-overflow_add-line-then-not-is_row_good c = 
+overflow_add-line-then-not-is_row_good c =
     let struct_known = c.struct_known-1 in
     let struct-known2 = c.struct_known-2-1 in
     let loop-test = c.loop-line-test in
     omega (arith, loop-test.true, struct_known.given, struct-known2.given)
 
 pub returns-then-not-is_row_good : goal.returns-then-not-is_row_good
-returns-then-not-is_row_good c = 
+returns-then-not-is_row_good c =
     let start = c in
     let head_draft_holds = c.head_draft-d in
     let loop = c.loop-line in
@@ -85,7 +80,7 @@ returns-then-not-is_row_good c =
     c.is_row_good.ensures c.if-not-is_row_good.true-raw)
 
 pub with_row-d-requires : goal.with_row-d-requires
-with_row-d-requires c = 
+with_row-d-requires c =
     let loop = c.loop-line in
     let loop-test = c.loop-line-test in (
       sym c.is_row_good.ensures ∙ not-false _ c.if-not-is_row_good.false-raw,
@@ -93,7 +88,7 @@ with_row-d-requires c =
     )
 
 pub overflow_add-line-in-loop-line : goal.overflow_add-line-in-loop-line
-overflow_add-line-in-loop-line c = 
+overflow_add-line-in-loop-line c =
     let struct_known = c.struct_known-1 in
     let struct-known2 = c.struct_known-2-1 in
     let loop-test = c.loop-line-test in
@@ -103,7 +98,7 @@ pub loop-line-smaller : goal.loop-line-smaller
 loop-line-smaller c = omega arith
 
 pub loop-line-preserved : goal.loop-line-preserved
-loop-line-preserved c = 
+loop-line-preserved c =
     let start = c in
     let loop = c.loop-line in
     let loop-test = c.loop-line-test in
@@ -119,7 +114,7 @@ loop-line-preserved c =
     (omega (arith, loop-test.true), omega (arith, if1.false, loop.invariant.1), s.0, s.1)
 
 pub returns : goal.returns
-returns c = 
+returns c =
     let start = c in
     let head_draft_holds = c.head_draft-d in
     let loop = c.loop-line in

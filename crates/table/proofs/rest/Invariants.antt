@@ -1,19 +1,15 @@
 -- `rest` meets its contract. The loop: the lines from `at` on, with the draft so far, give what the whole gives.
-use borrow.Author.Tests.{not-false}
-use Rattle.machine.proofs.TextInput.{few_left}
-use Rattle.table.proofs.Laws.{lines_from, part_read, head_sound, head_read, room, line_refused, row_refused, row_taken, lines_done}
+use Rattle.table.proofs.Laws.{lines_from}
 use Prim.Native.Nat.{◌+◌, ◌-◌, ◌≤◌}
-use mathlib.Core.Path.{◌≡◌, sym, ◌∙◌}
-use native.Mathlib.Omega.{arith}
+use mathlib.Core.Path.{◌≡◌}
 use lib.ListN.{length}
-use borrow.Author.Rules.{rules}
 use Rattle.machine.specs.Limits.{line_length}
 use Rattle.machine.specs.Table.{table_from}
 use Rattle.machine.proofs.Tables.{SoundDraft}
 use Rattle.table.proofs.rest.Given as goal
 
 abbrev pub invariant-loop-line : goal.invariant-loop-line
-invariant-loop-line l = 
+invariant-loop-line l =
     (l.line ≤ l.total)
     × (l.at ≤ length l.input)
     × SoundDraft (l.total - l.line) l.d

@@ -1,6 +1,5 @@
 -- `answer_line` meets its contract.
 use mathlib.Core.Path.{◌≡◌, ◌∙◌}
-use borrow.Author.Rules.{rules}
 use Rattle.machine.specs.Line.{read_at}
 use Rattle.line.proofs.Meaning.{reads}
 use Rattle.whole_input.proofs.answer_line.Goals as goal

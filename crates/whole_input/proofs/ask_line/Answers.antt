@@ -2,7 +2,6 @@ use mathlib.Core.Path.{ap, ◌∙◌}
 use Rattle.machine.specs.Line.{written_at}
 use Rattle.line.proofs.Meaning.{reads}
 use Rattle.whole_input.proofs.Waiting.{waiting_line}
-use borrow.Author.Rules.{rules}
 use Rattle.whole_input.proofs.ask_line.Goals as goal
 
 pub returns : goal.returns

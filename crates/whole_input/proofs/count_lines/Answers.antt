@@ -1,9 +1,7 @@
 -- `count_lines` meets its contract. The loop: the lines counted and those from `at` on are all lines.
-use Prim.Native.Nat.{◌-◌}
 use native.Mathlib.Omega.{arith}
-use lib.ListN.{length}
 use Rattle.machine.proofs.TextInput.{line_at}
-use Rattle.whole_input.proofs.Laws.{Counting, counted, counts_on}
+use Rattle.whole_input.proofs.Laws.{counted, counts_on}
 use Rattle.whole_input.proofs.count_lines.Goals as goal
 
 pub loop-at-init : goal.loop-at-init

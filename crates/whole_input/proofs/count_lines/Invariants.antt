@@ -1,9 +1,7 @@
 -- `count_lines` meets its contract. The loop: the lines counted and those from `at` on are all lines.
 use Prim.Native.Nat.{◌-◌}
-use native.Mathlib.Omega.{arith}
 use lib.ListN.{length}
-use Rattle.machine.proofs.TextInput.{line_at}
-use Rattle.whole_input.proofs.Laws.{Counting, counted, counts_on}
+use Rattle.whole_input.proofs.Laws.{Counting}
 use Rattle.whole_input.proofs.count_lines.Given as goal
 
 abbrev pub invariant-loop-at : goal.invariant-loop-at

@@ -1,13 +1,12 @@
 -- `replay` meets its contract. The loop: what is printed and the answers to the lines from `at` on are the whole text; past what is
 -- printed the output is as it was.
-use Prim.Native.Nat.{◌-◌, ◌<◌}
+use Prim.Native.Nat.{◌<◌}
 use mathlib.Core.Path.{◌∙◌, refl, sym}
 use native.Mathlib.Omega.{arith}
 use lib.ListN.{length}
-use borrow.Author.Rules.{rules}
 use borrow.Author.Tests.{ltb-true, ltb-false}
 use Rattle.machine.proofs.TextInput.{line_at}
-use Rattle.whole_input.proofs.Laws.{Replaying, refusal_gives, too_many, begins, ends, line_fits, goes_on, block_inside, block_room, block_goes_on, block_skipped}
+use Rattle.whole_input.proofs.Laws.{refusal_gives, too_many, begins, ends, line_fits, goes_on, block_inside, block_room, block_goes_on, block_skipped}
 use Rattle.whole_input.proofs.replay.Goals as goal
 
 pub returns-then-o-ne0 : goal.returns-then-o-ne0

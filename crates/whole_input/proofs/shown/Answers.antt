@@ -2,7 +2,6 @@ use mathlib.Core.Path.{sym}
 use native.Mathlib.Omega.{arith}
 use native.Mathlib.Nat.{min-eq_left, min-eq_right}
 use Rattle.whole_input.proofs.Laws.{shown_refused, shown_text}
-use borrow.Author.Rules.{rules}
 use Rattle.whole_input.proofs.shown.Goals as goal
 
 pub returns-then-r-ne0 : goal.returns-then-r-ne0

@@ -1,11 +1,10 @@
 use mathlib.Core.Path.{refl, sym, ◌∙◌}
-use Prim.Native.Nat.{◌-◌, ◌<◌}
+use Prim.Native.Nat.{◌<◌}
 use native.Mathlib.Omega.{arith}
 use lib.ListN.{length}
-use borrow.Author.Rules.{rules}
 use borrow.Author.Tests.{ltb-true, ltb-false}
 use Rattle.machine.proofs.TextInput.{line_at}
-use Rattle.whole_input.proofs.Waiting.{Asking, line_fits, asked_on, asking_ends, refusal_asked, asked_too_many, asking_begins}
+use Rattle.whole_input.proofs.Waiting.{line_fits, asked_on, asking_ends, refusal_asked, asked_too_many, asking_begins}
 use Rattle.whole_input.proofs.waiting_times.Goals as goal
 
 pub returns-then-o-ne0 : goal.returns-then-o-ne0

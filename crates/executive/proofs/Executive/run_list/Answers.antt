@@ -1,6 +1,5 @@
-use Prim.Native.Nat.{ℕ, ◌-◌, ◌/◌, ◌≤◌, ◌<◌}
+use Prim.Native.Nat.{ℕ, ◌/◌, ◌≤◌, ◌<◌}
 use mathlib.Core.Bool.{true, false, cond, true≢false}
-use mathlib.Core.Logic.{⊎_elim}
 use mathlib.Core.Path.{◌≡◌, refl, sym, ap, ◌∙◌, subst}
 use native.Mathlib.Nat.{div-mul-le_self}
 use native.Mathlib.Omega.{arith}
@@ -14,7 +13,6 @@ use Rattle.machine.specs.Fields.{number_of}
 use Rattle.machine.specs.Messages.{first}
 use Rattle.machine.specs.declared.Buffer.{Buffer}
 use Rattle.machine.specs.Windows.{lookup}
-use Rattle.machine.specs.declared.Change.{Change}
 use Rattle.machine.specs.declared.Channel.{Channel}
 use Rattle.machine.specs.Limits.{partition_limit, channel_limit, process_limit, semaphore_limit, event_limit, buffer_limit, blackboard_limit}
 use Rattle.machine.specs.Module.{no_channel, no_partition, channel, part, message, running_in, with_time}
@@ -23,23 +21,22 @@ use Rattle.machine.specs.Questions.{changes, transfer_at}
 use Rattle.machine.specs.Step.{sees}
 use Rattle.machine.specs.Ticks.{tick_to}
 use Rattle.machine.specs.declared.Module.{Module}
-use Rattle.machine.specs.declared.Partition.{Partition}
 use Rattle.machine.proofs.Bounds.{stored_out, semaphore_out, event_out, buffer_out, blackboard_out}
 use Rattle.machine.proofs.Either.{either}
 use Rattle.machine.proofs.Folds.{tick_to_none}
 use Rattle.machine.proofs.Taken.{length_mapped}
-use Rattle.partition.proofs.Laws.{left, left_more, left_done, read_in, read_out, named_at, named_past, slot_out, stored_at, semaphore_at, event_at_holds, moved_at_holds, blackboard_at, ended_at_holds, none_ended}
+use Rattle.partition.proofs.Laws.{left_more, left_done, read_in, read_out, named_at, named_past, slot_out, stored_at, semaphore_at, event_at_holds, moved_at_holds, blackboard_at, ended_at_holds, none_ended}
 use Rattle.resident.specs.Mirrors.{Mirrors}
 use Rattle.resident.specs.Settled.{settled}
 use Rattle.resident.proofs.Laws.{mirrors_filled, mirrors_lengths, mirrors_same, mirrors_set, processes_of}
 use Rattle.resident.proofs.Settled.{settled_here, settled_there, settled_past, settled_same}
 use Rattle.services.specs.Looked.{taken_for, waiter_for, object_for}
 use Rattle.services.proofs.Laws.{none_created}
-use Rattle.executive.specs.Lists.{six, Early}
+use Rattle.executive.specs.Lists.{six}
 use Rattle.events.specs.declared.Plan.{Plan}
 use Rattle.executive.proofs.Laws.{past_queue, Planned, Decides, plan_made, place_named, few_ticks, slot_spot, Held, seen_traffic, seen_place, seen_here, seen_none, made_is, shown_spot, runs_shown, none_shown, event_answered}
 use Rattle.executive.proofs.Lists.{begins_early, early_same, Running, begins, fits, ends, goes_on}
-use Rattle.executive.proofs.Residents.{Beside, beside_looked, kept_fresh, none_beside, two_less, two_more, two_fits, set_size, Ticking, ticks_here, ticks_there, ticks_none, Current, current_same, current_moved, not_stored, restart_changes, one_of, not_far, not_near, Ready, Done, done_as_holds, done_same, done_written, done_changed, done_restarted, done_moved, done_here, done_there, restarts_in, changes_in, buffer_keeps, number_at, number_past, waiter_read, waiter_none, running_at}
+use Rattle.executive.proofs.Residents.{Beside, beside_looked, kept_fresh, none_beside, two_less, two_more, two_fits, set_size, ticks_here, ticks_there, ticks_none, Current, current_same, current_moved, not_stored, restart_changes, one_of, not_far, not_near, Ready, Done, done_as_holds, done_same, done_written, done_changed, done_restarted, done_moved, done_here, done_there, restarts_in, changes_in, buffer_keeps, number_at, number_past, waiter_read, waiter_none, running_at}
 use Rattle.executive.proofs.Executive.run_list.Goals as goal
 use Rattle.executive.proofs.Executive.run_list.Goals.{After-is_restart, After-plan_of-x, Joined-change, Joined-changed, Joined-first-m, Joined-is_restart, Joined-place-lt-CHANNELS, Joined-slot-lt-PARTITIONS, Joined-stale, Joined-x-lt-PARTITIONS, Joined-x-spot, Start, Then-does_change, Then-is_restart, Then-seen-lt-PARTITIONS, else-calling_at-lt-PROCESSES, else-changed, else-does_create, else-first-m, else-is_restart+else-does_change+else-put-lt-CHANNELS+else-pass-lt-CHANNELS, else-is_restart+else-does_change+else-put-lt-CHANNELS+then-pass-lt-CHANNELS+else-end-lt-PARTITIONS, else-is_restart+else-does_change+else-put-lt-CHANNELS+then-pass-lt-CHANNELS+then-end-lt-PARTITIONS+else-end-spot, else-is_restart+else-does_change+else-put-lt-CHANNELS+then-pass-lt-CHANNELS+then-end-lt-PARTITIONS+then-end-spot, else-is_restart+else-does_change+then-put-lt-CHANNELS, else-is_restart+then-does_change+else-loop-turn-test, else-k-lt-BUFFERS, else-named_at-lt-PROCESSES, else-object-ne0, else-object_at-lt-SEMAPHORES, else-place-lt-CHANNELS, else-seen-lt-PARTITIONS, else-served_at-lt-PROCESSES, else-slot-lt-PARTITIONS, else-soon-j, else-spot-lt-PARTITIONS, else-stale, else-stale-2, else-x-lt-PARTITIONS, else-x-spot, in-Created, in-CreatedBuffer, in-Ended, in-Entered, in-Handed, in-Last, in-LevelSet, in-Moved+else-l-lt-PROCESSES, in-Moved+then-l-lt-PROCESSES, in-Nothing, in-Stored+else-k-lt-PROCESSES, in-Stored+then-k-lt-PROCESSES, in-StoredBlackboard+else-k-lt-BLACKBOARDS, in-StoredBlackboard+then-k-lt-BLACKBOARDS, in-StoredEvent+else-k-lt-EVENTS, in-StoredEvent+then-k-lt-EVENTS, in-StoredSemaphore+else-k-lt-SEMAPHORES, in-StoredSemaphore+then-k-lt-SEMAPHORES, then-calling_at-lt-PROCESSES, then-changed, then-does_create, then-first-m, then-is_restart, then-k-lt-BUFFERS, then-named_at-lt-PROCESSES, then-object-ne0, then-object_at-lt-SEMAPHORES, then-place-lt-CHANNELS, then-seen-lt-PARTITIONS+else-seen-spot, then-seen-lt-PARTITIONS+then-seen-spot, then-served_at-lt-PROCESSES, then-slot-lt-PARTITIONS, then-soon-j+else-j-spot, then-soon-j+then-j-spot, then-spot-lt-PARTITIONS, then-stale, then-stale-2, then-x-lt-PARTITIONS, then-x-spot+else-spot-lt-PARTITIONS-2, then-x-spot+then-spot-lt-PARTITIONS-2}
 

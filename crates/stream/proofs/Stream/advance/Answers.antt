@@ -1,12 +1,9 @@
 use Prim.Native.Nat.{ℕ, ◌+◌, ◌-◌, ◌≤◌, ◌<◌, min}
-use mathlib.Core.List.{List}
-use mathlib.Core.Logic.{⊎_elim}
 use mathlib.Core.Path.{◌≡◌, refl, sym, ap, ◌∙◌}
 use native.Mathlib.Omega.{arith}
 use borrow.Author.Rules.{rules}
 use lib.ListN.{length, get_or, take, take-append-drop}
 use Rattle.machine.specs.Limits.{line_length}
-use Rattle.stream.specs.declared.Stream.{Stream}
 use Rattle.stream.specs.Stream.{held_limit, at, put}
 use Rattle.stream.proofs.Chunks.{Advancing, begins, all_taken, no_room_holds, goes_on, feed_held, feed_due, put_held, put_length, held_inside, held_length, printed_fits}
 use Rattle.event_lines.proofs.Blocks.{block_empty}

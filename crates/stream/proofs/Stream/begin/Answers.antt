@@ -1,4 +1,3 @@
-use borrow.Author.Rules.{rules}
 use Rattle.machine.specs.Line.{lines}
 use Rattle.machine.specs.Table.{table_of}
 use Rattle.stream.proofs.Stream.begin.Goals as goal

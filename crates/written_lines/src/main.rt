@@ -2,8 +2,8 @@
 // dots before.
 #![tactic(auto)]
 
-use libc::STDOUT_FILENO;
 use machine::{Module, Numbers};
+use std::io;
 
 // The numbers that are tried; the last eight are out of range.
 const COUNT: usize = 36;
@@ -70,50 +70,50 @@ fn numbers(place: usize, x: i64) -> Numbers {
     }
 }
 
-fn print_written(out: &mut [u8], at: usize, n: Numbers) {
+fn print_written(rt: &impl Print, out: &mut [u8], at: usize, n: Numbers) -> io::Result<()> {
     let code = line::write_at(out, at, n);
-    io::print_decimal(STDOUT_FILENO, code as u64);
-    io::write_all(STDOUT_FILENO, b" ");
-    io::write_all(STDOUT_FILENO, out);
-    io::write_all(STDOUT_FILENO, b"\n");
+    print!(rt; "{code} ")?;
+    rt.write_all(out)?;
+    rt.write_all(b"\n")
 }
 
 // Into the middle of an output.
-fn print_middle(n: Numbers) {
+fn print_middle(rt: &impl Print, n: Numbers) -> io::Result<()> {
     let mut out = [b'.'; Module::LINE + 4];
-    print_written(&mut out, 2, n);
+    print_written(rt, &mut out, 2, n)
 }
 
 // Into an output of a line's length.
-fn print_exact(at: usize, n: Numbers) {
+fn print_exact(rt: &impl Print, at: usize, n: Numbers) -> io::Result<()> {
     let mut out = [b'.'; Module::LINE];
-    print_written(&mut out, at, n);
+    print_written(rt, &mut out, at, n)
 }
 
 // Into an output that is a byte too short.
-fn print_short(n: Numbers) {
+fn print_short(rt: &impl Print, n: Numbers) -> io::Result<()> {
     let mut out = [b'.'; Module::LINE - 1];
-    print_written(&mut out, 0, n);
+    print_written(rt, &mut out, 0, n)
 }
 
 // Where the output just suffices and where it is too short; at its end, and past it.
-fn print_ends(n: Numbers) {
-    print_exact(0, n);
-    print_short(n);
-    print_exact(Module::LINE, n);
-    print_exact(Module::LINE + 1, n);
+fn print_ends(rt: &impl Print, n: Numbers) -> io::Result<()> {
+    print_exact(rt, 0, n)?;
+    print_short(rt, n)?;
+    print_exact(rt, Module::LINE, n)?;
+    print_exact(rt, Module::LINE + 1, n)
 }
 
 // A number in each field.
-fn print_number(x: i64) {
+fn print_number(rt: &impl Print, x: i64) -> io::Result<()> {
     for place in 0..FIELDS {
-        print_middle(numbers(place, x));
+        print_middle(rt, numbers(place, x))?;
     }
-    print_ends(numbers(0, x));
+    print_ends(rt, numbers(0, x))
 }
 
-fn main() {
+fn main(rt: HostRuntime) -> io::Result<()> {
     for i in 0..COUNT {
-        print_number(TRIED[i]);
+        print_number(&rt, TRIED[i])?;
     }
+    Ok(())
 }

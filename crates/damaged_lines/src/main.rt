@@ -2,12 +2,13 @@
 // accepted table the code of each line that follows it.
 #![tactic(auto)]
 
-ghost use Rattle.std.specs.Prelude.{◌≡◌, ◌-◌, min, ◌+◌, ◌*◌};
+ghost use Rattle.std.specs.Prelude.{◌≡◌, ◌-◌, min, ◌+◌, ◌*◌, ◌≤◌, length, IfOk};
 ghost use Rattle.machine.specs.Line.{base, zero_digit, line_code};
 ghost use Rattle.damaged_lines.specs.Container.{place_of, longest, size_of, case_at};
 
-use libc::{STDIN_FILENO, STDOUT_FILENO};
 use machine::{Line, Module};
+use std::io;
+use std::io::Read;
 
 // The bytes that the program reads at most.
 const INPUT: usize = 262144;
@@ -105,52 +106,67 @@ fn code_of(l: Line) -> u8
     }
 }
 
-fn print_number(n: u64) {
-    io::write_all(STDOUT_FILENO, b" ");
-    io::print_decimal(STDOUT_FILENO, n);
+fn print_number(rt: &impl Print, n: u64) -> io::Result<()> {
+    print!(rt; " {n}")
 }
 
-fn print_codes(input: &[u8], start: usize) {
+fn print_codes(rt: &impl Print, input: &[u8], start: usize) -> io::Result<()> {
     let mut at = start;
     while at < input.len() {
-        print_number(code_of(line::read_at(input, at)) as u64);
+        print_number(rt, code_of(line::read_at(input, at)) as u64)?;
         at = line::next_line(input, at);
     }
+    Ok(())
 }
 
-fn print_case(name: &[u8], input: &[u8]) {
+fn print_case(rt: &impl Print, name: &[u8], input: &[u8]) -> io::Result<()> {
     let r = table::read(input);
-    io::write_all(STDOUT_FILENO, name);
-    print_number(r.code as u64);
-    print_number(r.value as u64);
-    print_number(r.lines as u64);
+    rt.write_all(name)?;
+    print_number(rt, r.code as u64)?;
+    print_number(rt, r.value as u64)?;
+    print_number(rt, r.lines as u64)?;
     if r.code == 0 {
-        print_codes(input, r.lines as usize * Module::LINE);
+        print_codes(rt, input, r.lines as usize * Module::LINE)?;
     }
-    io::write_all(STDOUT_FILENO, b"\n");
+    rt.write_all(b"\n")
 }
 
-fn print_no_case() {
-    io::write_all(STDOUT_FILENO, b"no case\n");
+fn print_no_case(rt: &impl Print) -> io::Result<()> {
+    rt.write_all(b"no case\n")
 }
 
-fn print_cases(input: &[u8]) {
+fn print_cases(rt: &impl Print, input: &[u8]) -> io::Result<()> {
     let mut at: usize = 0;
     while at < input.len() {
         let Found::At(c) = case_at(input, at) else {
-            print_no_case();
-            return;
+            return print_no_case(rt);
         };
         let name = c.name;
         let body = c.body;
         let end = c.end;
-        print_case(&input[at..name], &input[body..end]);
+        print_case(rt, &input[at..name], &input[body..end])?;
         at = end;
     }
+    Ok(())
 }
 
-fn main() {
+// Reads until the buffer is full or the input ends, and gives how many bytes lie at its front.
+fn read_full(from: &mut impl Read, input: &mut [u8]) -> io::Result<usize>
+    ensures { IfOk result (λ n. n ≤ length input.new) }
+{
+    let mut at: usize = 0;
+    while at < input.len() {
+        let n = from.read(&mut input[at..])?;
+        if n == 0 {
+            break;
+        }
+        at += n;
+    }
+    Ok(at)
+}
+
+fn main(rt: HostRuntime) -> io::Result<()> {
     let mut input = [0u8; INPUT];
-    let n = io::read_full(STDIN_FILENO, &mut input);
-    print_cases(&input[..n]);
+    let n = read_full(&mut rt.stdin(), &mut input)?;
+    print_cases(&rt, &input[..n])
 }

@@ -9,12 +9,7 @@ use lib.ListN.{length, take, drop, length-append, length-drop, drop_of_length-le
 use lib.Seq.{drop-drop}
 use lib.Dec.{eqb}
 use lib.IntN.{ℤ, pos, negsuc}
-use lib.Signed.{lt_z}
-use mir.Syntax.{w64}
-use mir.Val.{to_z, of_z, SFits}
-use mir.ValLaws.{to_z-of_z}
 use borrow.Author.Tests.{ltb-true, ne_eqb, eqb-false}
-use Rattle.io.specs.Counts.{clamp_len, IsPrefixLen}
 use Rattle.machine.specs.Limits.{line_length}
 use Rattle.machine.specs.Replay.{replayed_record}
 use Rattle.machine.proofs.Tests.{by_test, not_both}
@@ -36,7 +31,7 @@ use Rattle.standard_io.specs.declared.End.{End}
 use Rattle.standard_io.specs.declared.End.TheVariants.{Going, Input, Table, Unread, Unwritten}
 use Rattle.standard_io.specs.declared.Shown.{Shown}
 use Rattle.standard_io.specs.declared.Turn.{Turn}
-use Rattle.standard_io.specs.StandardIo.{got_of, Quiet, byte_count, end_after, after_shown, after_read, TookRead, ReadOnce, is_going, Reads, ReadToEnd, last_of, last_end, after_last, LastTurn, record_after, AfterInput, GotFrom, Filled, Over, ReadWhole}
+use Rattle.standard_io.specs.StandardIo.{got_of, Quiet, byte_count, end_after, after_shown, after_read, TookRead, ReadOnce, is_going, Reads, ReadToEnd, last_of, last_end, after_last, LastTurn, record_after, AfterInput, GotFrom, Filled, Over, ReadWhole, IsPrefixLen}
 use Rattle.standard_io.specs.StandardIo.Reads.{before, next}
 use Rattle.standard_io.specs.StandardIo.Filled.{empty, more}
 use Rattle.standard_io.specs.StandardIo.Over.{full, ended, cut}
@@ -99,29 +94,6 @@ module _ (s₀ : Stream) (chunk out₀ : List ℕ) (s : Stream) (i : ℕ) (out :
   }
 
 -- ---------------------------------------------------------------- a read
--- the answer of a read by the code's tests of it
-module _ (z : ℤ) (f : SFits w64 z) (most : ℕ) where
-  pub is_failure_holds : lt_z (to_z w64 (of_z w64 z)) (pos 0) ≡ true → Failure ≡ got_of z most
-  is_failure_holds t = go z (rw (to_z-of_z w64 z f) at t)
-    where
-      go : (x : ℤ) → lt_z x (pos 0) ≡ true → Failure ≡ got_of x most
-      go (pos k) t = absurd (omega (arith, ltb-true k 0 t))
-      go (negsuc k) t = refl
-
-  pub is_nothing : of_z w64 z ≡ 0 → Nothing ≡ got_of z most
-  is_nothing e = let q : z ≡ pos 0 = sym (to_z-of_z w64 z f) ∙ ap (to_z w64) e in rw q
-
-  pub is_bytes : lt_z (to_z w64 (of_z w64 z)) (pos 0) ≡ false → (of_z w64 z ≡ 0 → ⊥) → (n : ℕ) → n ≡ clamp_len z most → Bytes n ≡ got_of z most
-  is_bytes t e n c = go z refl (rw (to_z-of_z w64 z f) at t) c
-    where
-      go : (x : ℤ) → z ≡ x → lt_z x (pos 0) ≡ false → n ≡ clamp_len x most → Bytes n ≡ got_of x most
-      go (pos k) q t c = let some : k ≡ 0 → ⊥ = λ p. e (rw (q, p)) in rw (ne_eqb k 0 some, c)
-      go (negsuc k) q t c = absurd (let w : ◌≡◌ {A = ℕ} 0 1 = cc in omega arith)
-
--- the part of a buffer from a position on, after a read into it
-pub part_left : (input l : List ℕ) (at : ℕ) → length l ≡ length input → length (take (length l - at) (drop at l)) ≡ length input - at
-part_left input l at s = ap length (tail_is at l) ∙ length-drop at l ∙ ap (λ (n : ℕ). n - at) s
-
 -- no more bytes are taken than the buffer has
 pub got_within : (z : ℤ) (most : ℕ) (got : Got) → got ≡ got_of z most → byte_count got ≤ most
 got_within (pos n) most got e =

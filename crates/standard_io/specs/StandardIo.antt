@@ -1,5 +1,5 @@
 -- What the system gives is free: what a read answers, the bytes that it leaves in the buffer, whether a write succeeds. The rest is settled by it.
-use Rattle.std.specs.Prelude.{ℕ, suc, ◌+◌, ◌-◌, ◌<◌, min, ◌≡◌, Bool, true, false, cond, not, ◌&&◌, List, length, take, eqb, ℤ, pos, negsuc}
+use Rattle.std.specs.Prelude.{ℕ, suc, ◌+◌, ◌-◌, ◌<◌, ◌≤◌, min, ◌≡◌, Result, Ok, Err, Bool, true, false, cond, not, ◌&&◌, List, length, take, eqb, ℤ, pos, negsuc}
 use Rattle.machine.specs.declared.Module.{Module}
 use Rattle.machine.specs.Replay.{replayed_record}
 use Rattle.stream.specs.declared.Stream.{Stream}
@@ -12,6 +12,11 @@ use Rattle.standard_io.specs.declared.Shown.{Shown}
 use Rattle.standard_io.specs.declared.Turn.{Turn}
 use Rattle.standard_io.specs.declared.Replayed.{Replayed}
 use Rattle.standard_io.specs.declared.Whole.{Whole}
+
+-- the system's answer to a read, as a number: how many bytes, and below 0 where it failed
+abbrev pub answer_of : {E : Type 0} → Result ℕ E → ℤ
+answer_of (Ok n) = pos n
+answer_of (Err e) = negsuc 0
 
 -- what the answer of a read means: so many bytes at the front of a buffer of this length, at 0 the input's end, below 0 a failure
 abbrev pub got_of : ℤ → ℕ → Got
@@ -144,6 +149,10 @@ pub data Over (most : ℕ) : Whole → Type 0 where
   full : Over most (record { length = most; failed = false })
   ended : (at : ℕ) → at < most → GotFrom (most - at) Nothing → Over most (record { length = at; failed = false })
   cut : (at : ℕ) → at < most → GotFrom (most - at) Failure → Over most (record { length = at; failed = true })
+
+-- so many bytes lie at the front of a buffer
+abbrev pub IsPrefixLen : ℕ → List ℕ → Type 0
+IsPrefixLen n xs = (n ≤ length xs) × (n ≡ length (take n xs))
 
 -- whether so many bytes were written is free, but for none
 abbrev pub Wrote : ℕ → Bool → Type 0

@@ -5,12 +5,12 @@
 ghost use Rattle.std.specs.Prelude.{◌≡◌, ◌-◌, ◌≤◌, length};
 ghost use Rattle.machine.specs.Limits.{line_length};
 ghost use Rattle.stream.specs.Stream.{fed_all, closed};
-ghost use Rattle.io.specs.Counts.{IsPrefixLen};
-ghost use Rattle.standard_io.specs.StandardIo.{got_of, Quiet, end_after, after_shown, byte_count, TookRead, ReadOnce, is_going, is_failure, ReadToEnd, input_end, after_last, LastTurn, AfterInput, GotFrom, ReadWhole, Wrote};
+ghost use Rattle.standard_io.specs.StandardIo.{answer_of, got_of, Quiet, end_after, after_shown, byte_count, TookRead, ReadOnce, is_going, is_failure, ReadToEnd, input_end, after_last, LastTurn, AfterInput, GotFrom, ReadWhole, IsPrefixLen, Wrote};
 
 use executive::Executive;
-use libc::{STDERR_FILENO, STDIN_FILENO, STDOUT_FILENO};
 use machine::Module;
+use std::io;
+use std::io::Read;
 use stream::Stream;
 
 // What a read gives: so many bytes at the front of the buffer, nothing at the input's end, or a failure.
@@ -61,18 +61,18 @@ pub struct Whole {
 
 // ---------------------------------------------------------------- output
 // Writes the front of an output, where it is to be printed; false where it cannot be written.
-fn print(prints: bool, out: &[u8], n: usize) -> bool
+fn print(rt: HostRuntime, prints: bool, out: &[u8], n: usize) -> bool
     requires { n ≤ length out.now }
     ensures { Quiet prints result }
 {
     if !prints {
         return true;
     }
-    io::write_all(STDOUT_FILENO, &out[..n])
+    rt.write_all(&out[..n]).is_ok()
 }
 
 // The stream after a chunk, printed piece by piece through an output.
-fn print_chunk(s: Stream, chunk: &[u8], out: &mut [u8], prints: bool) -> Shown
+fn print_chunk(rt: HostRuntime, s: Stream, chunk: &[u8], out: &mut [u8], prints: bool) -> Shown
     requires { line_length ≤ length out.old }
     ensures { (result.stream ≡ (fed_all s chunk.now).stream) × Quiet prints result.written }
 {
@@ -81,7 +81,7 @@ fn print_chunk(s: Stream, chunk: &[u8], out: &mut [u8], prints: bool) -> Shown
     let mut at: usize = 0;
     while at < chunk.len() {
         let a = stream.advance(&chunk[at..], out);
-        if !print(prints, out, a.printed) {
+        if !print(rt, prints, out, a.printed) {
             written = false;
         }
         let next = a.stream;
@@ -93,16 +93,14 @@ fn print_chunk(s: Stream, chunk: &[u8], out: &mut [u8], prints: bool) -> Shown
 
 // ---------------------------------------------------------------- input
 // What the answer of a read into a buffer means.
-fn got_of(answer: isize, buf: &[u8]) -> Got
-    ensures { result ≡ got_of answer (length buf.now) }
+fn got_of(answer: io::Result<usize>, buf: &[u8]) -> Got
+    ensures { result ≡ got_of (answer_of answer) (length buf.now) }
 {
-    if answer < 0 {
-        return Got::Failure;
+    match answer {
+        Err(_) => Got::Failure,
+        Ok(0) => Got::Nothing,
+        Ok(n) => Got::Bytes(n.min(buf.len())),
     }
-    if answer == 0 {
-        return Got::Nothing;
-    }
-    Got::Bytes(io::count(answer, buf))
 }
 
 // Why reading ended after a chunk: not where it was written and the table, if it was read, is accepted.
@@ -124,12 +122,19 @@ fn after_shown(p: Shown) -> Turn
 }
 
 // Takes what a read gave.
-fn take_read(s: Stream, got: Got, input: &[u8], out: &mut [u8], prints: bool) -> Turn
+fn take_read(
+    rt: HostRuntime,
+    s: Stream,
+    got: Got,
+    input: &[u8],
+    out: &mut [u8],
+    prints: bool,
+) -> Turn
     requires { (line_length ≤ length out.old) × (byte_count got ≤ length input.now) }
     ensures { TookRead prints s got input.now result }
 {
     match got {
-        Got::Bytes(n) => after_shown(print_chunk(s, &input[..n], out, prints)),
+        Got::Bytes(n) => after_shown(print_chunk(rt, s, &input[..n], out, prints)),
         Got::Nothing => Turn {
             stream: s,
             end: End::Input,
@@ -142,12 +147,12 @@ fn take_read(s: Stream, got: Got, input: &[u8], out: &mut [u8], prints: bool) ->
 }
 
 // Reads once, into a buffer that is lent, as the one printed into is: a buffer made here would be cleared each time.
-fn read_once(s: Stream, prints: bool, input: &mut [u8], out: &mut [u8]) -> Turn
+fn read_once(rt: HostRuntime, s: Stream, prints: bool, input: &mut [u8], out: &mut [u8]) -> Turn
     requires { line_length ≤ length out.old }
     ensures { ReadOnce prints s result }
 {
-    let answer = libc::read(STDIN_FILENO, input);
-    take_read(s, got_of(answer, input), input, out, prints)
+    let answer = rt.stdin().read(input);
+    take_read(rt, s, got_of(answer, input), input, out, prints)
 }
 
 fn is_going(end: End) -> bool
@@ -165,19 +170,28 @@ fn is_going(end: End) -> bool
 // The bytes of a block of lines: a read that gives as many cuts no line, and what it gives is run as one block.
 const CHUNK: usize = event_lines::BLOCK * Module::LINE;
 
+// The bytes that are printed at once: the answers of a chunk, as a rule.
+const OUTPUT: usize = 65536;
+
 fn chunk_buffer() -> [u8; CHUNK]
     ensures { 62464 ≡ length result }
 {
     [0; CHUNK]
 }
 
+fn output_buffer() -> [u8; OUTPUT]
+    ensures { 65536 ≡ length result }
+{
+    [0; OUTPUT]
+}
+
 // Reads to the end. A proved loop has to end, and nothing says that the input does: the turns are counted down from a
 // number that no run uses up.
-fn read_all(prints: bool) -> Turn
+fn read_all(rt: HostRuntime, prints: bool) -> Turn
     ensures { ReadToEnd prints result }
 {
     let mut input = chunk_buffer();
-    let mut out = io::large_buffer();
+    let mut out = output_buffer();
     let mut t = Turn {
         stream: Stream::begin(),
         end: End::Going,
@@ -185,7 +199,7 @@ fn read_all(prints: bool) -> Turn
     let mut turns = u64::MAX;
     while turns > 0 {
         let s = t.stream;
-        t = read_once(s, prints, &mut input, &mut out);
+        t = read_once(rt, s, prints, &mut input, &mut out);
         let end = t.end;
         if !is_going(end) {
             break;
@@ -197,12 +211,12 @@ fn read_all(prints: bool) -> Turn
 
 // ---------------------------------------------------------------- the end
 // The stream after the last line, which is printed.
-fn print_last(s: Stream, prints: bool) -> Shown
+fn print_last(rt: HostRuntime, s: Stream, prints: bool) -> Shown
     ensures { (result.stream ≡ (closed s).stream) × Quiet prints result.written }
 {
-    let mut out = io::large_buffer();
+    let mut out = output_buffer();
     let a = s.finish(&mut out);
-    let written = print(prints, &out, a.printed);
+    let written = print(rt, prints, &out, a.printed);
     let stream = a.stream;
     Shown { stream, written }
 }
@@ -223,13 +237,13 @@ fn after_last(p: Shown) -> Turn
 }
 
 // At the input's end the bytes after the last LF are a line; a line that a failure cut is none.
-fn last_turn(t: Turn, prints: bool) -> Turn
+fn last_turn(rt: HostRuntime, t: Turn, prints: bool) -> Turn
     ensures { LastTurn prints t result }
 {
     let s = t.stream;
     let end = t.end;
     match end {
-        End::Input => after_last(print_last(s, prints)),
+        End::Input => after_last(print_last(rt, s, prints)),
         End::Going => t,
         End::Table => t,
         End::Unread => t,
@@ -238,16 +252,16 @@ fn last_turn(t: Turn, prints: bool) -> Turn
 }
 
 // Says on standard error that a read or a write failed, and gives whether one did.
-pub fn report(end: End) -> bool
+pub fn report(rt: HostRuntime, end: End) -> bool
     ensures { result ≡ is_failure end }
 {
     match end {
         End::Unread => {
-            io::write_all(STDERR_FILENO, b"the input cannot be read\n");
+            let _ = eprintln!(rt; "the input cannot be read");
             true
         }
         End::Unwritten => {
-            io::write_all(STDERR_FILENO, b"the output cannot be written\n");
+            let _ = eprintln!(rt; "the output cannot be written");
             true
         }
         End::Going => false,
@@ -257,12 +271,12 @@ pub fn report(end: End) -> bool
 }
 
 // A replay of standard input, printed or not.
-pub fn replay(prints: bool) -> Replayed
+pub fn replay(rt: HostRuntime, prints: bool) -> Replayed
     ensures { AfterInput prints result }
 {
-    let t = last_turn(read_all(prints), prints);
+    let t = last_turn(rt, read_all(rt, prints), prints);
     let end = t.end;
-    report(end);
+    report(rt, end);
     let s = t.stream;
     Replayed {
         executive: s.executive(),
@@ -272,22 +286,22 @@ pub fn replay(prints: bool) -> Replayed
 
 // ---------------------------------------------------------------- whole inputs
 // One read into a buffer from a position on.
-fn read_from(input: &mut [u8], at: usize) -> Got
+fn read_from(rt: HostRuntime, input: &mut [u8], at: usize) -> Got
     requires { at ≤ length input.old }
     ensures { GotFrom (length input.old - at) result }
 {
-    let answer = libc::read(STDIN_FILENO, &mut input[at..]);
+    let answer = rt.stdin().read(&mut input[at..]);
     got_of(answer, &input[at..])
 }
 
 // Reads a whole input into a buffer: until it is full, the input ends, or a read fails, which standard error is told.
-pub fn read_whole(input: &mut [u8]) -> Whole
+pub fn read_whole(rt: HostRuntime, input: &mut [u8]) -> Whole
     ensures read_whole { ReadWhole (length input.old) result }
     ensures prefix_len { IsPrefixLen result.length input.new }
 {
     let mut at: usize = 0;
     while at < input.len() {
-        match read_from(input, at) {
+        match read_from(rt, input, at) {
             Got::Bytes(n) => {
                 at += n;
             }
@@ -298,7 +312,7 @@ pub fn read_whole(input: &mut [u8]) -> Whole
                 };
             }
             Got::Failure => {
-                report(End::Unread);
+                report(rt, End::Unread);
                 return Whole {
                     length: at,
                     failed: true,
@@ -313,15 +327,15 @@ pub fn read_whole(input: &mut [u8]) -> Whole
 }
 
 // Writes a whole output, and gives whether it was written; standard error is told where it was not.
-pub fn write_whole(text: &[u8]) -> bool
+pub fn write_whole(rt: HostRuntime, text: &[u8]) -> bool
     ensures { Wrote (length text.now) result }
 {
     if text.len() == 0 {
         return true;
     }
-    if io::write_all(STDOUT_FILENO, text) {
+    if rt.write_all(text).is_ok() {
         return true;
     }
-    report(End::Unwritten);
+    report(rt, End::Unwritten);
     false
 }

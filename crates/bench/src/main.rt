@@ -6,8 +6,8 @@ ghost use Rattle.std.specs.Prelude.{◌≡◌};
 ghost use Rattle.batch.specs.Batch.{answered_list};
 
 use executive::Executive;
-use libc::{STDIN_FILENO, STDOUT_FILENO};
 use machine::{Answer, EventRecord, Line, Module, Numbers, Time};
+use std::io;
 
 // The bytes that the program reads at most.
 const INPUT: usize = 262144;
@@ -98,26 +98,27 @@ fn list_at(input: &[u8], start: usize) -> Answered {
 }
 
 // ---------------------------------------------------------------- the output
-fn print_answer(a: Answer) {
+fn print_answer(rt: &impl Print, a: Answer) -> io::Result<()> {
     let mut out = [0u8; Module::LINE];
     line::write(&mut out, event_lines::numbers_of(a));
-    io::write_all(STDOUT_FILENO, &out);
+    rt.write_all(&out)
 }
 
-fn print_answers(l: Answered) {
+fn print_answers(rt: &impl Print, l: Answered) -> io::Result<()> {
     for i in 0..EVENTS {
         let x = l.records[i];
         let a = x.answer;
-        print_answer(a);
+        print_answer(rt, a)?;
     }
+    Ok(())
 }
 
-fn run_input(rounds: u32, input: &[u8]) {
+fn run_input(rt: &impl Print, rounds: u32, input: &[u8]) -> io::Result<()> {
     let o = Executive::open(input);
     let x = o.executive;
     let s = Starts { executives: [x; 2] };
     let at = o.lines as usize * Module::LINE;
-    print_answers(run_often(s, list_at(input, at), rounds));
+    print_answers(rt, run_often(s, list_at(input, at), rounds))
 }
 
 fn rounds_of(input: &[u8]) -> u32 {
@@ -127,10 +128,12 @@ fn rounds_of(input: &[u8]) -> u32 {
     }
 }
 
-fn main() {
+fn main(rt: HostRuntime) -> io::Result<()> {
     let mut input = [0u8; INPUT];
-    let n = io::read_full(STDIN_FILENO, &mut input);
-    if Module::LINE < n {
-        run_input(rounds_of(&input[..n]), &input[Module::LINE..n]);
+    let read = standard_io::read_whole(rt, &mut input);
+    let n = read.length;
+    if n <= Module::LINE {
+        return Ok(());
     }
+    run_input(&rt, rounds_of(&input[..n]), &input[Module::LINE..n])
 }

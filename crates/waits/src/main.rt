@@ -26,15 +26,15 @@ fn result(input: &[u8], out: &mut [u8]) -> Printed
 }
 
 // Where the input cannot be read nothing is printed: what was read of it is no whole input.
-fn main() {
+fn main(rt: HostRuntime) {
     let mut input = [0u8; INPUT];
     let mut out = [0u8; OUTPUT];
-    let read = standard_io::read_whole(&mut input);
+    let read = standard_io::read_whole(rt, &mut input);
     if read.failed {
         return;
     }
     let n = read.length;
     let r = result(&input[..n], &mut out);
     let k = whole_input::shown(&mut out, r);
-    standard_io::write_whole(&out[..k]);
+    standard_io::write_whole(rt, &out[..k]);
 }

@@ -123,9 +123,9 @@ failed_read prints s bytes got e = record { written = true; quiet = λ _. refl; 
 
 -- ---------------------------------------------------------------- the whole input
 -- the stream after some input
-record FedOn (s r : Stream) : Type 0 where
-  read : List ℕ
-  is : r ≡ (fed_all s read).stream
+pub record FedOn (s r : Stream) : Type 0 where
+  pub read : List ℕ
+  pub is : r ≡ (fed_all s read).stream
 
 none_fed : (s : Stream) → FedOn s s
 unfolding fed_all
@@ -135,10 +135,10 @@ fed_further : (s r q : Stream) → FedOn s r → FedOn r q → FedOn s q
 fed_further s r q a b = record { read = a.read ++ b.read; is = b.is ∙ ap (λ (x : Stream). (fed_all x b.read).stream) a.is ∙ fed_on s a.read b.read }
 
 -- the stream goes on from s; reading ends with a refused table only where it is refused, and with a failed write only where one was made
-record Goes (prints : Bool) (s : Stream) (r : Turn) : Type 0 where
-  fed : FedOn s r.stream
-  table : r.end ≡ Table → is_ended r.stream.place.stage ≡ true
-  quiet : prints ≡ false → r.end ≡ Unwritten → ⊥
+pub record Goes (prints : Bool) (s : Stream) (r : Turn) : Type 0 where
+  pub fed : FedOn s r.stream
+  pub table : r.end ≡ Table → is_ended r.stream.place.stage ≡ true
+  pub quiet : prints ≡ false → r.end ≡ Unwritten → ⊥
 
 table_refused : (written refused : Bool) → end_after written refused ≡ Table → refused ≡ true
 table_refused true true e = refl
@@ -162,7 +162,7 @@ took_goes prints s (Bytes n) bytes written q =
 took_goes prints s Nothing bytes written q = record { fed = none_fed s; table = λ e. no_end (cc); quiet = λ p e. no_end (cc) }
 took_goes prints s Failure bytes written q = record { fed = none_fed s; table = λ e. no_end (cc); quiet = λ p e. no_end (cc) }
 
-reads_go : (prints : Bool) (n : ℕ) (r : Turn) → Reads prints n r → Goes prints begun r
+pub reads_go : (prints : Bool) (n : ℕ) (r : Turn) → Reads prints n r → Goes prints begun r
 reads_go prints _ _ before = record { fed = none_fed begun; table = λ e. no_end (cc); quiet = λ p e. no_end (cc) }
 reads_go prints _ _ (next n t u h going once) =
     let a = reads_go prints n t h in
@@ -186,7 +186,7 @@ module _ (s : Stream) (k : FedOn begun s) where
   whole : (closed s).stream.place.executive.inner ≡ replayed_record k.read
   whole = ap (λ (x : Stream). (closed x).stream.place.executive.inner) k.is ∙ stream_record k.read
 
-  last_record : (n : End) → (n ≡ Table → is_ended s.place.stage ≡ true) → (last_of n s).place.executive.inner ≡ record_after n k.read
+  pub last_record : (n : End) → (n ≡ Table → is_ended s.place.stage ≡ true) → (last_of n s).place.executive.inner ≡ record_after n k.read
   last_record Going h = so_far
   last_record Input h = whole
   last_record Table h = sym (ap (λ (x : Executive). x.inner) (ended_closed s (h refl))) ∙ whole

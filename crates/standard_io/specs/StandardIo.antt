@@ -1,7 +1,9 @@
 -- What the system gives is free: what a read answers, the bytes that it leaves in the buffer, whether a write succeeds. The rest is settled by it.
-use Rattle.std.specs.Prelude.{ℕ, suc, ◌+◌, ◌-◌, ◌<◌, ◌≤◌, min, ◌≡◌, Result, Ok, Err, Bool, true, false, cond, not, ◌&&◌, List, length, take, eqb, ℤ, pos, negsuc}
+use Rattle.std.specs.Prelude.{ℕ, suc, ◌+◌, ◌-◌, ◌<◌, ◌≤◌, min, ◌≡◌, Result, Ok, Err, Bool, true, false, cond, not, ◌&&◌, List, [], length, take, eqb, ℤ, pos, negsuc}
 use Rattle.machine.specs.declared.Module.{Module}
-use Rattle.machine.specs.Replay.{replayed_record}
+use Rattle.std.specs.Prelude.{Option}
+use Rattle.std.specs.Io.KnownBytes.{Appends, Consumes, IsAtEnd}
+use Rattle.machine.specs.Replay.{replayed, replayed_record}
 use Rattle.stream.specs.declared.Stream.{Stream}
 use Rattle.stream.specs.Stream.{begun, is_ended, closed, fed_all}
 use Rattle.standard_io.specs.declared.Got.{Got}
@@ -27,6 +29,16 @@ abbrev pub byte_count : Got → ℕ
 byte_count (Bytes n) = n
 byte_count Nothing = 0
 byte_count Failure = 0
+
+-- the bytes that a read gave
+abbrev pub bytes_of : Got → List ℕ → List ℕ
+bytes_of (Bytes n) bytes = take n bytes
+bytes_of Nothing bytes = []
+bytes_of Failure bytes = []
+
+-- what is written of a text: nothing where nothing is to be printed
+abbrev pub shown_of : Bool → List ℕ → List ℕ
+shown_of prints text = cond prints text []
 
 -- where nothing is to be printed nothing is written, so no write fails
 abbrev pub Quiet : Bool → Bool → Type 0
@@ -77,6 +89,18 @@ is_failure Table = false
 is_failure Unread = true
 is_failure Unwritten = true
 
+-- a stream was fed these bytes, and a writer that held some bytes holds what is printed for them too, unless a write failed
+pub record Told (prints : Bool) (held holds : Option (List ℕ)) (s : Stream) (read : List ℕ) (t : Turn) : Type 0 where
+  pub fed : t.stream ≡ (fed_all s read).stream
+  pub wrote : (t.end ≡ Unwritten → ⊥) → Appends held holds (shown_of prints (fed_all s read).text)
+
+-- from a reader to a writer through a stream: what was read was fed and told; at the input's end the reader has nothing left
+pub record Carried (prints : Bool) (had left held holds : Option (List ℕ)) (s : Stream) (t : Turn) : Type 0 where
+  pub read : List ℕ
+  pub consumed : Consumes had left read
+  pub all : t.end ≡ Input → IsAtEnd left
+  pub told : Told prints held holds s read t
+
 -- so many reads, one after another as long as reading goes on
 pub data Reads (prints : Bool) : ℕ → Turn → Type 0 where
   before : Reads prints 0 (record { stream = begun; end = Going })
@@ -116,6 +140,14 @@ pub record LastTurn (prints : Bool) (t r : Turn) : Type 0 where
   pub quiet : Quiet prints written
   pub is : r ≡ record { stream = last_of t.end t.stream; end = last_end t.end written }
 
+-- what is printed of the last line
+abbrev pub last_text : End → Stream → List ℕ
+last_text Going s = []
+last_text Input s = (closed s).text
+last_text Table s = []
+last_text Unread s = []
+last_text Unwritten s = []
+
 -- the record after the bytes read: at the input's end and after a refused table that of the whole input; else that of the lines that are
 -- complete, since a line that a failure cut is no line of the input
 abbrev pub record_after : End → List ℕ → Module
@@ -137,6 +169,28 @@ pub record AfterInput (prints : Bool) (r : Replayed) : Type 0 where
   pub ends : r.end ≡ last_end turn.end written
   pub quiet : prints ≡ false → r.end ≡ Unwritten → ⊥
   pub is : r.executive.inner ≡ record_after turn.end read
+
+-- what is printed for the bytes read: at the input's end and after a refused table what the whole input prints
+abbrev pub text_after : End → List ℕ → List ℕ
+text_after Going read = (fed_all begun read).text
+text_after Input read = replayed read
+text_after Table read = replayed read
+text_after Unread read = (fed_all begun read).text
+text_after Unwritten read = (fed_all begun read).text
+
+-- a replay from a reader to a writer: of the bytes that the reader had and has no longer the record is left and the text is written, unless a
+-- write failed; at the input's end the reader has nothing left
+pub record ReplayedOver (prints : Bool) (had left held holds : Option (List ℕ)) (r : Replayed) : Type 0 where
+  pub read : List ℕ
+  pub consumed : Consumes had left read
+  pub all : r.end ≡ Input → IsAtEnd left
+  pub leaves : (r.end ≡ Unwritten → ⊥) → r.executive.inner ≡ record_after r.end read
+  pub wrote : (r.end ≡ Unwritten → ⊥) → Appends held holds (shown_of prints (text_after r.end read))
+
+-- a replay of a whole input: the record that it leaves, and the text that the writer has more
+pub record ReplayedWhole (prints : Bool) (held holds : Option (List ℕ)) (r : Replayed) (input : List ℕ) : Type 0 where
+  pub leaves : r.executive.inner ≡ replayed_record input
+  pub wrote : Appends held holds (shown_of prints (replayed input))
 
 -- ---------------------------------------------------------------- whole inputs
 -- reads one after another, each into what is left of a buffer, gave so many bytes

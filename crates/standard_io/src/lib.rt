@@ -2,15 +2,17 @@
 // or written, or whether the system fails; what is done with what a read gives is settled. A failed read or write is told on standard error.
 #![tactic(auto)]
 
-ghost use Rattle.std.specs.Prelude.{◌≡◌, ◌-◌, ◌≤◌, length};
+ghost use Rattle.std.specs.Prelude.{◌≡◌, ◌-◌, ◌<◌, ◌≤◌, true, length, take, IfSome};
+ghost use Rattle.std.specs.Io.KnownBytes.{Appends};
 ghost use Rattle.machine.specs.Limits.{line_length};
-ghost use Rattle.stream.specs.Stream.{fed_all, closed};
-ghost use Rattle.standard_io.specs.StandardIo.{answer_of, got_of, Quiet, end_after, after_shown, byte_count, TookRead, ReadOnce, is_going, is_failure, ReadToEnd, input_end, after_last, LastTurn, AfterInput, GotFrom, ReadWhole, IsPrefixLen, Wrote};
+ghost use Rattle.stream.specs.Stream.{begun, fed_all, closed};
+ghost use Rattle.standard_io.specs.declared.End.TheVariants.{Input, Unwritten};
+ghost use Rattle.standard_io.specs.StandardIo.{answer_of, got_of, Quiet, end_after, after_shown, byte_count, bytes_of, shown_of, TookRead, Told, ReadOnce, Carried, is_going, is_failure, ReadToEnd, input_end, after_last, LastTurn, last_text, AfterInput, ReplayedOver, ReplayedWhole, GotFrom, ReadWhole, IsPrefixLen, Wrote};
 
 use executive::Executive;
 use machine::Module;
 use std::io;
-use std::io::Read;
+use std::io::{Read, Write};
 use stream::Stream;
 
 // What a read gives: so many bytes at the front of the buffer, nothing at the input's end, or a failure.
@@ -61,27 +63,29 @@ pub struct Whole {
 
 // ---------------------------------------------------------------- output
 // Writes the front of an output, where it is to be printed; false where it cannot be written.
-fn print(rt: HostRuntime, prints: bool, out: &[u8], n: usize) -> bool
+fn print<W: Write>(to: &mut W, prints: bool, out: &[u8], n: usize) -> bool
     requires { n ≤ length out.now }
-    ensures { Quiet prints result }
+    ensures quiet { Quiet prints result }
+    ensures wrote { result ≡ true → Appends (W.contents to.old) (W.contents to.new) (shown_of prints (take n out.now)) }
 {
     if !prints {
         return true;
     }
-    rt.write_all(&out[..n]).is_ok()
+    to.write_all(&out[..n]).is_ok()
 }
 
 // The stream after a chunk, printed piece by piece through an output.
-fn print_chunk(rt: HostRuntime, s: Stream, chunk: &[u8], out: &mut [u8], prints: bool) -> Shown
+fn print_chunk<W: Write>(to: &mut W, s: Stream, chunk: &[u8], out: &mut [u8], prints: bool) -> Shown
     requires { line_length ≤ length out.old }
-    ensures { (result.stream ≡ (fed_all s chunk.now).stream) × Quiet prints result.written }
+    ensures shown { (result.stream ≡ (fed_all s chunk.now).stream) × Quiet prints result.written }
+    ensures wrote { result.written ≡ true → Appends (W.contents to.old) (W.contents to.new) (shown_of prints (fed_all s chunk.now).text) }
 {
     let mut stream = s;
     let mut written = true;
     let mut at: usize = 0;
     while at < chunk.len() {
         let a = stream.advance(&chunk[at..], out);
-        if !print(rt, prints, out, a.printed) {
+        if !print(to, prints, out, a.printed) {
             written = false;
         }
         let next = a.stream;
@@ -122,8 +126,8 @@ fn after_shown(p: Shown) -> Turn
 }
 
 // Takes what a read gave.
-fn take_read(
-    rt: HostRuntime,
+fn take_read<W: Write>(
+    to: &mut W,
     s: Stream,
     got: Got,
     input: &[u8],
@@ -131,10 +135,11 @@ fn take_read(
     prints: bool,
 ) -> Turn
     requires { (line_length ≤ length out.old) × (byte_count got ≤ length input.now) }
-    ensures { TookRead prints s got input.now result }
+    ensures took { TookRead prints s got input.now result }
+    ensures told { Told prints (W.contents to.old) (W.contents to.new) s (bytes_of got input.now) result }
 {
     match got {
-        Got::Bytes(n) => after_shown(print_chunk(rt, s, &input[..n], out, prints)),
+        Got::Bytes(n) => after_shown(print_chunk(to, s, &input[..n], out, prints)),
         Got::Nothing => Turn {
             stream: s,
             end: End::Input,
@@ -147,12 +152,20 @@ fn take_read(
 }
 
 // Reads once, into a buffer that is lent, as the one printed into is: a buffer made here would be cleared each time.
-fn read_once(rt: HostRuntime, s: Stream, prints: bool, input: &mut [u8], out: &mut [u8]) -> Turn
+fn read_once<R: Read, W: Write>(
+    from: &mut R,
+    to: &mut W,
+    s: Stream,
+    prints: bool,
+    input: &mut [u8],
+    out: &mut [u8],
+) -> Turn
     requires { line_length ≤ length out.old }
-    ensures { ReadOnce prints s result }
+    ensures once { ReadOnce prints s result }
+    ensures carried { 0 < length input.old → Carried prints (R.remaining from.old) (R.remaining from.new) (W.contents to.old) (W.contents to.new) s result }
 {
-    let answer = rt.stdin().read(input);
-    take_read(rt, s, got_of(answer, input), input, out, prints)
+    let answer = from.read(input);
+    take_read(to, s, got_of(answer, input), input, out, prints)
 }
 
 fn is_going(end: End) -> bool
@@ -187,8 +200,9 @@ fn output_buffer() -> [u8; OUTPUT]
 
 // Reads to the end. A proved loop has to end, and nothing says that the input does: the turns are counted down from a
 // number that no run uses up.
-fn read_all(rt: HostRuntime, prints: bool) -> Turn
-    ensures { ReadToEnd prints result }
+fn read_all<R: Read, W: Write>(from: &mut R, to: &mut W, prints: bool) -> Turn
+    ensures ended { ReadToEnd prints result }
+    ensures carried { Carried prints (R.remaining from.old) (R.remaining from.new) (W.contents to.old) (W.contents to.new) begun result }
 {
     let mut input = chunk_buffer();
     let mut out = output_buffer();
@@ -199,7 +213,7 @@ fn read_all(rt: HostRuntime, prints: bool) -> Turn
     let mut turns = u64::MAX;
     while turns > 0 {
         let s = t.stream;
-        t = read_once(rt, s, prints, &mut input, &mut out);
+        t = read_once(from, to, s, prints, &mut input, &mut out);
         let end = t.end;
         if !is_going(end) {
             break;
@@ -211,12 +225,13 @@ fn read_all(rt: HostRuntime, prints: bool) -> Turn
 
 // ---------------------------------------------------------------- the end
 // The stream after the last line, which is printed.
-fn print_last(rt: HostRuntime, s: Stream, prints: bool) -> Shown
-    ensures { (result.stream ≡ (closed s).stream) × Quiet prints result.written }
+fn print_last<W: Write>(to: &mut W, s: Stream, prints: bool) -> Shown
+    ensures shown { (result.stream ≡ (closed s).stream) × Quiet prints result.written }
+    ensures wrote { result.written ≡ true → Appends (W.contents to.old) (W.contents to.new) (shown_of prints (closed s).text) }
 {
     let mut out = output_buffer();
     let a = s.finish(&mut out);
-    let written = print(rt, prints, &out, a.printed);
+    let written = print(to, prints, &out, a.printed);
     let stream = a.stream;
     Shown { stream, written }
 }
@@ -237,13 +252,14 @@ fn after_last(p: Shown) -> Turn
 }
 
 // At the input's end the bytes after the last LF are a line; a line that a failure cut is none.
-fn last_turn(rt: HostRuntime, t: Turn, prints: bool) -> Turn
-    ensures { LastTurn prints t result }
+fn last_turn<W: Write>(to: &mut W, t: Turn, prints: bool) -> Turn
+    ensures last { LastTurn prints t result }
+    ensures wrote { (result.end ≡ Unwritten → ⊥) → Appends (W.contents to.old) (W.contents to.new) (shown_of prints (last_text t.end t.stream)) }
 {
     let s = t.stream;
     let end = t.end;
     match end {
-        End::Input => after_last(print_last(rt, s, prints)),
+        End::Input => after_last(print_last(to, s, prints)),
         End::Going => t,
         End::Table => t,
         End::Unread => t,
@@ -270,18 +286,29 @@ pub fn report(rt: HostRuntime, end: End) -> bool
     }
 }
 
-// A replay of standard input, printed or not.
-pub fn replay(rt: HostRuntime, prints: bool) -> Replayed
-    ensures { AfterInput prints result }
+// A replay of what a reader gives, printed to a writer or not.
+pub fn replay_over<R: Read, W: Write>(from: &mut R, to: &mut W, prints: bool) -> Replayed
+    ensures after { AfterInput prints result }
+    ensures over { ReplayedOver prints (R.remaining from.old) (R.remaining from.new) (W.contents to.old) (W.contents to.new) result }
+    ensures whole { result.end ≡ Input → IfSome (R.remaining from.old) (ReplayedWhole prints (W.contents to.old) (W.contents to.new) result) }
 {
-    let t = last_turn(rt, read_all(rt, prints), prints);
+    let read = read_all(from, to, prints);
+    let t = last_turn(to, read, prints);
     let end = t.end;
-    report(rt, end);
     let s = t.stream;
     Replayed {
         executive: s.executive(),
         end,
     }
+}
+
+// A replay of standard input, printed to standard output or not; a failed read or write is told on standard error.
+pub fn replay(rt: HostRuntime, prints: bool) -> Replayed
+    ensures { AfterInput prints result }
+{
+    let r = replay_over(&mut rt.stdin(), &mut rt.stdout(), prints);
+    report(rt, r.end);
+    r
 }
 
 // ---------------------------------------------------------------- whole inputs

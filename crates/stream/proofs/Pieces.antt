@@ -123,7 +123,19 @@ fed_rest s room bs =
     ∙ ap (λ (f : Fed). f.stream) (fed_both s (take n bs) (drop n bs))
     ∙ ap (λ (f : Fed). (fed_all f.stream (drop n bs)).stream) (run_fed s room bs))
 
+-- and prints what is left to print
+pub rest_text : (s : Stream) (room : ℕ) (bs : List ℕ) → (run s room bs).text ++ (fed_all (run s room bs).stream (drop (run s room bs).taken bs)).text ≡ (fed_all s bs).text
+rest_text s room bs =
+    let n = (run s room bs).taken in
+    sym
+    (ap (λ (l : List ℕ). (fed_all s l).text) (sym (take-append-drop n bs))
+    ∙ ap (λ (f : Fed). f.text) (fed_both s (take n bs) (drop n bs))
+    ∙ ap (λ (f : Fed). f.text ++ (fed_all f.stream (drop n bs)).text) (run_fed s room bs))
+
 -- one input after another
+pub fed_text : (s : Stream) (a b : List ℕ) → (fed_all s (a ++ b)).text ≡ (fed_all s a).text ++ (fed_all (fed_all s a).stream b).text
+fed_text s a b = ap (λ (f : Fed). f.text) (fed_both s a b)
+
 pub fed_on : (s : Stream) (a b : List ℕ) → (fed_all (fed_all s a).stream b).stream ≡ (fed_all s (a ++ b)).stream
 fed_on s a b = sym (ap (λ (f : Fed). f.stream) (fed_both s a b))
 

@@ -5,6 +5,7 @@ use Rattle.std.specs.Io.KnownBytes.{Appends, Consumes, IsAtEnd, ReadConsumes}
 use Rattle.std.proofs.KnownBytes.{Appends-nil, Appends-trans, Consumes-nil, Consumes-trans, Consumes-kept, Consumes-whole}
 use mathlib.Core.Bool.{and-false}
 use lib.ListN.{drop_of_length-le}
+use Rattle.std.proofs.Math.Seq.{take-add}
 use lib.Seq.{drop-drop, take-append_seam}
 use borrow.Author.Tests.{eqb-true, le-ltb}
 use Rattle.machine.specs.Limits.{line_length}
@@ -257,3 +258,13 @@ replayed_whole prints had left held holds e end k i =
     let leaves : e.inner ≡ replayed_record k.read = rw i at (k.leaves n) in
     let wrote : Appends held holds (shown_of prints (replayed k.read)) = rw i at (k.wrote n) in
     Consumes-whole had left k.read (ReplayedWhole prints held holds (record { executive = e; end = end })) k.consumed (k.all i) (record { leaves = leaves; wrote = wrote })
+
+-- ---------------------------------------------------------------- a whole input
+module _ (had mid left : Option (List ℕ)) (input input' : List ℕ) (at : ℕ) (got : Got) (before : Consumes had mid (take at input)) (now : Consumes mid left (bytes_of got (drop at input')))
+    (kept : take at input' ≡ take at input) where
+  -- the buffer's front after a read that gave bytes
+  pub read_further : (n : ℕ) → got ≡ Bytes n → Consumes had left (take (at + n) input')
+  read_further n e =
+      let q : take (at + n) input' ≡ take at input ++ take n (drop at input') = take-add at n input' ∙ ap (λ (l : List ℕ). l ++ take n (drop at input')) kept in
+      let more : Consumes mid left (take n (drop at input')) = rw e at now in
+      rw q (Consumes-trans had mid left (take at input) (take n (drop at input')) before more)

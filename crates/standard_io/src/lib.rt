@@ -2,11 +2,12 @@
 // or written, or whether the system fails; what is done with what a read gives is settled. A failed read or write is told on standard error.
 #![tactic(auto)]
 
-ghost use Rattle.std.specs.Prelude.{◌≡◌, ◌-◌, ◌<◌, ◌≤◌, true, length, take, IfSome};
-ghost use Rattle.std.specs.Io.KnownBytes.{Appends};
+ghost use Rattle.std.specs.Prelude.{◌≡◌, ◌-◌, ◌<◌, ◌≤◌, true, false, length, take, drop, IfSome};
+ghost use Rattle.std.specs.Io.KnownBytes.{Appends, Consumes, IsAtEnd};
 ghost use Rattle.machine.specs.Limits.{line_length};
 ghost use Rattle.stream.specs.Stream.{begun, fed_all, closed};
 ghost use Rattle.standard_io.specs.declared.End.TheVariants.{Input, Unwritten};
+ghost use Rattle.standard_io.specs.declared.Got.TheVariants.{Nothing};
 ghost use Rattle.standard_io.specs.StandardIo.{answer_of, got_of, Quiet, end_after, after_shown, byte_count, bytes_of, shown_of, TookRead, Told, ReadOnce, Carried, is_going, is_failure, ReadToEnd, input_end, after_last, LastTurn, last_text, AfterInput, ReplayedOver, ReplayedWhole, GotFrom, ReadWhole, IsPrefixLen, Wrote};
 
 use executive::Executive;
@@ -313,22 +314,27 @@ pub fn replay(rt: HostRuntime, prints: bool) -> Replayed
 
 // ---------------------------------------------------------------- whole inputs
 // One read into a buffer from a position on.
-fn read_from(rt: HostRuntime, input: &mut [u8], at: usize) -> Got
+fn read_from<R: Read>(from: &mut R, input: &mut [u8], at: usize) -> Got
     requires { at ≤ length input.old }
-    ensures { GotFrom (length input.old - at) result }
+    ensures got { GotFrom (length input.old - at) result }
+    ensures consumed { Consumes (R.remaining from.old) (R.remaining from.new) (bytes_of result (drop at input.new)) }
+    ensures end { at < length input.old → result ≡ Nothing → IsAtEnd (R.remaining from.new) }
+    ensures kept { take at input.new ≡ take at input.old }
 {
-    let answer = rt.stdin().read(&mut input[at..]);
+    let answer = from.read(&mut input[at..]);
     got_of(answer, &input[at..])
 }
 
-// Reads a whole input into a buffer: until it is full, the input ends, or a read fails, which standard error is told.
-pub fn read_whole(rt: HostRuntime, input: &mut [u8]) -> Whole
+// Reads a whole input into a buffer: until it is full, the input ends, or a read fails.
+pub fn read_whole_from<R: Read>(from: &mut R, input: &mut [u8]) -> Whole
     ensures read_whole { ReadWhole (length input.old) result }
     ensures prefix_len { IsPrefixLen result.length input.new }
+    ensures consumed { Consumes (R.remaining from.old) (R.remaining from.new) (take result.length input.new) }
+    ensures end { result.failed ≡ false → result.length < length input.new → IsAtEnd (R.remaining from.new) }
 {
     let mut at: usize = 0;
     while at < input.len() {
-        match read_from(rt, input, at) {
+        match read_from(from, input, at) {
             Got::Bytes(n) => {
                 at += n;
             }
@@ -339,7 +345,6 @@ pub fn read_whole(rt: HostRuntime, input: &mut [u8]) -> Whole
                 };
             }
             Got::Failure => {
-                report(rt, End::Unread);
                 return Whole {
                     length: at,
                     failed: true,
@@ -353,16 +358,33 @@ pub fn read_whole(rt: HostRuntime, input: &mut [u8]) -> Whole
     }
 }
 
-// Writes a whole output, and gives whether it was written; standard error is told where it was not.
+// The same from standard input; standard error is told where a read fails.
+pub fn read_whole(rt: HostRuntime, input: &mut [u8]) -> Whole
+    ensures read_whole { ReadWhole (length input.old) result }
+    ensures prefix_len { IsPrefixLen result.length input.new }
+{
+    let whole = read_whole_from(&mut rt.stdin(), input);
+    if whole.failed {
+        report(rt, End::Unread);
+    }
+    whole
+}
+
+// Writes a whole output, and gives whether it was written.
+pub fn write_whole_to<W: Write>(to: &mut W, text: &[u8]) -> bool
+    ensures wrote { Wrote (length text.now) result }
+    ensures appended { result ≡ true → Appends (W.contents to.old) (W.contents to.new) text.now }
+{
+    text.len() == 0 || to.write_all(text).is_ok()
+}
+
+// The same to standard output; standard error is told where the output was not written.
 pub fn write_whole(rt: HostRuntime, text: &[u8]) -> bool
     ensures { Wrote (length text.now) result }
 {
-    if text.len() == 0 {
-        return true;
+    let written = write_whole_to(&mut rt.stdout(), text);
+    if !written {
+        report(rt, End::Unwritten);
     }
-    if rt.write_all(text).is_ok() {
-        return true;
-    }
-    report(rt, End::Unwritten);
-    false
+    written
 }

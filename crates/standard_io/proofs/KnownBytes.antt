@@ -1,5 +1,5 @@
 -- From a reader to a writer, where their bytes are known. Assumes nothing.
-use Rattle.std.proofs.Common.{ℕ, ◌+◌, ◌≤◌, ◌<◌, min, Bool, true, false, cond, List, [], ◌∷◌, ◌++◌, length, take, drop, eqb, Option, Result, Ok, Err, pos, IfSome, ◌≡◌, refl, sym, ap, ◌∙◌, arith, append_assoc, append-nil}
+use Rattle.std.proofs.Common.{ℕ, ◌+◌, ◌≤◌, ◌<◌, min, Bool, true, false, List, [], ◌++◌, length, take, drop, eqb, Option, Result, Ok, Err, IfSome, ◌≡◌, refl, sym, ap, ◌∙◌, arith, append_assoc, append-nil}
 use Rattle.std.specs.Io.{ReadsAtMost}
 use Rattle.std.specs.Io.KnownBytes.{Appends, Consumes, IsAtEnd, ReadConsumes}
 use Rattle.std.proofs.KnownBytes.{Appends-nil, Appends-trans, Consumes-nil, Consumes-trans, Consumes-kept, Consumes-whole}
@@ -28,8 +28,8 @@ use Rattle.standard_io.specs.declared.End.{End}
 use Rattle.standard_io.specs.declared.End.TheVariants.{Going, Input, Table, Unread, Unwritten}
 use Rattle.standard_io.specs.declared.Shown.{Shown}
 use Rattle.standard_io.specs.declared.Turn.{Turn}
-use Rattle.standard_io.specs.StandardIo.{answer_of, got_of, bytes_of, shown_of, end_after, after_shown, after_read, TookRead, Told, Carried, is_going, ReadToEnd, last_of, last_end, input_end, after_last, last_text, LastTurn, record_after, text_after, ReplayedOver, ReplayedWhole}
-use Rattle.standard_io.proofs.Laws.{FedOn, Goes, reads_go, last_record}
+use Rattle.standard_io.specs.StandardIo.{answer_of, got_of, bytes_of, shown_of, end_after, after_read, TookRead, Told, Carried, is_going, ReadToEnd, last_end, input_end, after_last, last_text, LastTurn, text_after, ReplayedOver, ReplayedWhole}
+use Rattle.standard_io.proofs.Laws.{reads_go, last_record}
 
 absurd_end : {P : Type 0} → (◌≡◌ {A = ℕ} 0 1) → P
 absurd_end q = absurd (omega arith)

@@ -2,18 +2,17 @@
 use Prim.Native.Nat.{ℕ, suc, ◌+◌, ◌-◌, ◌≤◌, ◌<◌, min}
 use mathlib.Core.Bool.{Bool, true, false}
 use mathlib.Core.Path.{◌≡◌, refl, sym, ap, ◌∙◌}
-use mathlib.Core.List.{List, [], ◌∷◌, ◌++◌}
+use mathlib.Core.List.{List, [], ◌++◌}
 use native.Mathlib.Omega.{arith}
 use native.Mathlib.Nat.{min-le_right}
 use lib.ListN.{length, take, drop, length-append, length-drop, drop_of_length-le}
 use lib.Seq.{drop-drop}
 use lib.Dec.{eqb}
 use lib.IntN.{ℤ, pos, negsuc}
-use borrow.Author.Tests.{ltb-true, ne_eqb, eqb-false}
+use borrow.Author.Tests.{eqb-false}
 use Rattle.machine.specs.Limits.{line_length}
 use Rattle.machine.specs.Replay.{replayed_record}
 use Rattle.machine.proofs.Tests.{by_test, not_both}
-use Rattle.line.proofs.Parts.{tail_is}
 use Rattle.executive.specs.declared.Executive.{Executive}
 use Rattle.stream.specs.declared.Stream.{Stream}
 use Rattle.stream.specs.declared.Advance.{Advance}
@@ -31,11 +30,10 @@ use Rattle.standard_io.specs.declared.End.{End}
 use Rattle.standard_io.specs.declared.End.TheVariants.{Going, Input, Table, Unread, Unwritten}
 use Rattle.standard_io.specs.declared.Shown.{Shown}
 use Rattle.standard_io.specs.declared.Turn.{Turn}
-use Rattle.standard_io.specs.StandardIo.{got_of, Quiet, byte_count, end_after, after_shown, after_read, TookRead, ReadOnce, is_going, Reads, ReadToEnd, last_of, last_end, after_last, LastTurn, record_after, AfterInput, GotFrom, Filled, Over, ReadWhole, IsPrefixLen}
+use Rattle.standard_io.specs.StandardIo.{got_of, Quiet, byte_count, end_after, after_shown, after_read, TookRead, ReadOnce, is_going, Reads, ReadToEnd, last_of, last_end, after_last, LastTurn, record_after, AfterInput, GotFrom, Filled, ReadWhole, IsPrefixLen}
 use Rattle.standard_io.specs.StandardIo.Reads.{before, next}
 use Rattle.standard_io.specs.StandardIo.Filled.{empty, more}
 use Rattle.standard_io.specs.StandardIo.Over.{full, ended, cut}
-use Rattle.standard_io.specs.declared.Whole.{Whole}
 
 no_end : {P : Type 0} → (◌≡◌ {A = ℕ} 0 1) → P
 no_end q = absurd (omega arith)

@@ -1,5 +1,4 @@
 -- By what a read gives.
-use Rattle.std.proofs.Common.{arith, sym}
 use Rattle.std.proofs.KnownBytes.{Consumes-nil}
 use Rattle.standard_io.proofs.KnownBytes.{read_further}
 use Rattle.standard_io.proofs.Laws.{filling_begins, filling_goes, filling_ends, filling_cut, filling_full}

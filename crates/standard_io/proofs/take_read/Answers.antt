@@ -1,5 +1,4 @@
 -- A read that gave nothing.
-use Rattle.std.proofs.Common.{refl}
 use Rattle.standard_io.proofs.KnownBytes.{nothing_told}
 use Rattle.standard_io.proofs.take_read.Goals as goal
 

@@ -1,3 +1,4 @@
 pub mod Laws
 pub mod Waiting
 pub mod Held
+pub mod HeldText

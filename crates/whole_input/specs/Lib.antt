@@ -1,2 +1,3 @@
 pub mod WholeInput
 pub mod WaitingTimes
+pub mod HeldText

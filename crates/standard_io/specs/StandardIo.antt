@@ -1,7 +1,6 @@
 -- What the system gives is free: what a read answers, the bytes that it leaves in the buffer, whether a write succeeds. The rest is settled by it.
-use Rattle.std.specs.Prelude.{ℕ, suc, ◌+◌, ◌-◌, ◌<◌, ◌≤◌, min, ◌≡◌, Result, Ok, Err, Bool, true, false, cond, List, [], length, take, eqb, ℤ, pos, negsuc}
+use Rattle.std.specs.Prelude.{ℕ, suc, ◌+◌, ◌-◌, ◌<◌, ◌≤◌, min, ◌≡◌, Option, Result, Ok, Err, Bool, true, false, cond, List, [], length, take, eqb, ℤ, pos, negsuc}
 use Rattle.machine.specs.declared.Module.{Module}
-use Rattle.std.specs.Prelude.{Option}
 use Rattle.std.specs.Io.KnownBytes.{Appends, Consumes, IsAtEnd}
 use Rattle.machine.specs.Replay.{replayed, replayed_record}
 use Rattle.stream.specs.declared.Stream.{Stream}

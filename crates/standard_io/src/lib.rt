@@ -1,5 +1,6 @@
-// Standard input and standard output: a replay in constant memory, and an input that is held whole. No contract can say which bytes are read
-// or written, or whether the system fails; what is done with what a read gives is settled. A failed read or write is told on standard error.
+// Standard input and standard output: a replay in constant memory, and an input that is held whole; each from any reader and to any writer too.
+// Where the bytes of these are known, contracts say which are read and written. No contract can say which bytes standard input gives, or whether
+// the system fails; what is done with what a read gives is settled. A failed read or write of these two is told on standard error.
 #![tactic(auto)]
 
 ghost use Rattle.std.specs.Prelude.{◌≡◌, ◌-◌, ◌<◌, ◌≤◌, true, false, length, take, drop, IfSome};

@@ -54,6 +54,9 @@ def items(text):
 def between(text, words, i, end, owner):
     end = len(words) if end is None else end
     while i < end:
+        if [word.text for word in words[i:i + 2]] == ["#", "!"]:  # an attribute of the file
+            i = matching(words, i + 2) + 1
+            continue
         first = i
         while words[i].text in ("#", "pub", "extern") or words[i].kind == "bytes":
             i = matching(words, i + 1) + 1 if words[i].text == "#" else i + 1
@@ -68,8 +71,8 @@ def between(text, words, i, end, owner):
         if kind == "fn":
             head_end = until(words, i + 2, ("requires", "ensures", "{"))
             head, k = words[i + 2:head_end], head_end
-            while words[k].text in ("requires", "ensures"):
-                k = matching(words, k + 1) + 1
+            while words[k].text in ("requires", "ensures"):  # a clause may have a name
+                k = matching(words, until(words, k + 1, "{")) + 1
             last = matching(words, k)
             contract, body = words[head_end:k], words[k + 1:last]
         else:
@@ -133,4 +136,4 @@ def reached(functions, types, entries):
 
 def pages(text):
     """The pages of specs and proofs that a source or a page cites: crate, part and name."""
-    return re.findall(r"^(?:ghost )?use Rattle·(\w+)(?:·(?:specs|proofs))?\.(specs|proofs)\.(\w+)", text, re.M)
+    return re.findall(r"^(?:pub )?(?:ghost )?use Rattle\.(\w+)\.(specs|proofs)\.(\w+)", text, re.M)

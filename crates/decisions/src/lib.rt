@@ -201,6 +201,7 @@ pub fn changed(change: Change) -> Decision
 }
 
 // The only place that gives code 7: process id has the record x, in which it waits; 5 while preemption is locked.
+#[tactic(auto, unfolding(machine::specs::Decisions::checked, machine::specs::Decisions::blocked))]
 pub fn block(level: u8, id: u8, x: Process) -> Decision
     ensures { result ≡ blocked level id x }
 {

@@ -31,6 +31,7 @@ pub struct Plan {
 }
 
 // 8 for a call, and 9 for a partition that the record has no place for; n where it is another code already.
+#[tactic(auto, unfolding(machine::specs::Decisions::checked))]
 fn call_code(n: u8, k: u32, current: u8) -> u8
     ensures { result ≡ place_code n k current }
 {

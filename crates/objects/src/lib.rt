@@ -255,6 +255,7 @@ fn one_more(n: u16) -> u16
 }
 
 // The first waiter's wait on an object ends; none: the value rises by one.
+#[tactic(auto, using(crate::proofs::Laws::none_signalled, crate::proofs::Laws::first_signalled))]
 fn signal_change(v: View, k: u32) -> Change
     ensures { (p : PartitionT) (c : ContextT) (o : ℕ) → Shows v c k p → v.waiter ≡ first_waiter o p → (o ≡ 0 → ⊥) → result ≡ signalled (waiters o p) k p }
 {

@@ -99,6 +99,7 @@ fn is_malformed(size: u8, r: Request) -> bool
 }
 
 // 13, and for a tick 10, over a table of this many partitions, which is all that is seen of it; a tick that is taken lets t rise by one.
+#[tactic(auto, unfolding(machine::specs::Decisions::checked))]
 pub fn place_event(size: u8, t: u32, r: Request) -> Placed
     ensures { (T : Table) → T.size ≡ size → result ≡ placed_at T t r }
 {

@@ -189,19 +189,19 @@ ready c =
 did_change : (c : Joined-is_restart) → changes c.if-slot-lt-PARTITIONS.d ≡ true → Done (settled c.loop-i.spot c.loop-i.here c.loop-i.m) c.plan_of-x.result c.reply_of-reply.result c.if-x-spot.spot c.if-is_restart.m c.if-is_restart.here c.if-is_restart.currents c.if-is_restart.objects c.if-stale.run c.if-is_restart.soon c.if-is_restart.stale c.if-is_restart.changed
 did_change c = λ h.
     let g = ready c.before in
-    elim c.if-is_restart.branch [ then-is_restart w ↦ (done_as_holds w.m-is w.here-is w.currents-is w.objects-is w.soon-is w.stale-is w.changed-is (done_restarted g (sym c.is_restart.ensures ∙ w.if-is_restart.true) w.mode_of.ensures w.restart-m.result w.restart-m.ensures _ refl)) | else-is_restart+then-does_change+else-loop-turn-test w ↦ (done_as_holds w.m-is w.here-is w.currents-is w.objects-is w.soon-is w.stale-is w.changed-is (done_changed g (sym w.does_change.ensures ∙ w.if-does_change.true) (sym c.is_restart.ensures ∙ w.if-is_restart.false) w.loop-turn.here (rw (← w.first_change-change.ensures, ← w.second_change-second.ensures) (left_done w.loop-turn.turn w.loop-turn.change w.second_change-second.result w.loop-turn.here _ w.loop-turn-test.false w.loop-turn.invariant.1)) w.loop-turn.invariant.2 w.loop-turn.invariant.3)) | else-is_restart+else-does_change+then-put-lt-CHANNELS w ↦ (absurd (true≢false (sym h ∙ sym w.does_change.ensures ∙ w.if-does_change.false))) | else-is_restart+else-does_change+else-put-lt-CHANNELS+then-pass-lt-CHANNELS+then-end-lt-PARTITIONS+then-end-spot w ↦ (absurd (true≢false (sym h ∙ sym w.does_change.ensures ∙ w.if-does_change.false))) | else-is_restart+else-does_change+else-put-lt-CHANNELS+then-pass-lt-CHANNELS+then-end-lt-PARTITIONS+else-end-spot w ↦ (absurd (true≢false (sym h ∙ sym w.does_change.ensures ∙ w.if-does_change.false))) | else-is_restart+else-does_change+else-put-lt-CHANNELS+then-pass-lt-CHANNELS+else-end-lt-PARTITIONS w ↦ (absurd (true≢false (sym h ∙ sym w.does_change.ensures ∙ w.if-does_change.false))) | else-is_restart+else-does_change+else-put-lt-CHANNELS+else-pass-lt-CHANNELS w ↦ (absurd (true≢false (sym h ∙ sym w.does_change.ensures ∙ w.if-does_change.false))) ]
+    elim c.if-is_restart.branch [ then-is_restart w ↦ (done_as_holds w.m-is w.here-is w.currents-is w.objects-is w.soon-is w.stale-is w.changed-is (done_restarted g (sym c.is_restart.ensures ∙ w.if-is_restart.true) w.mode_of.ensures w.restart-m.result w.restart-m.ensures _ refl)) | else-is_restart+then-does_change+else-loop-turn-test w ↦ (done_as_holds w.m-is w.here-is w.currents-is w.objects-is w.soon-is w.stale-is w.changed-is (done_changed g (sym w.does_change.ensures ∙ (search (rules, w.if-does_change.true))) (sym c.is_restart.ensures ∙ w.if-is_restart.false) w.loop-turn.here (rw (← w.first_change-change.ensures, ← w.second_change-second.ensures) (left_done w.loop-turn.turn w.loop-turn.change w.second_change-second.result w.loop-turn.here _ w.loop-turn-test.false w.loop-turn.invariant.1)) w.loop-turn.invariant.2 w.loop-turn.invariant.3)) | else-is_restart+else-does_change+then-put-lt-CHANNELS w ↦ (absurd (true≢false (sym h ∙ sym w.does_change.ensures ∙ (search (rules, w.if-does_change.false))))) | else-is_restart+else-does_change+else-put-lt-CHANNELS+then-pass-lt-CHANNELS+then-end-lt-PARTITIONS+then-end-spot w ↦ (absurd (true≢false (sym h ∙ sym w.does_change.ensures ∙ (search (rules, w.if-does_change.false))))) | else-is_restart+else-does_change+else-put-lt-CHANNELS+then-pass-lt-CHANNELS+then-end-lt-PARTITIONS+else-end-spot w ↦ (absurd (true≢false (sym h ∙ sym w.does_change.ensures ∙ (search (rules, w.if-does_change.false))))) | else-is_restart+else-does_change+else-put-lt-CHANNELS+then-pass-lt-CHANNELS+else-end-lt-PARTITIONS w ↦ (absurd (true≢false (sym h ∙ sym w.does_change.ensures ∙ (search (rules, w.if-does_change.false))))) | else-is_restart+else-does_change+else-put-lt-CHANNELS+else-pass-lt-CHANNELS w ↦ (absurd (true≢false (sym h ∙ sym w.does_change.ensures ∙ (search (rules, w.if-does_change.false))))) ]
 
 -- a transfer
 did_pass : (c : Joined-is_restart) → changes c.if-slot-lt-PARTITIONS.d ≡ false → transfer_at c.if-slot-lt-PARTITIONS.d < channel_limit → Done (settled c.loop-i.spot c.loop-i.here c.loop-i.m) c.plan_of-x.result c.reply_of-reply.result c.if-x-spot.spot c.if-is_restart.m c.if-is_restart.here c.if-is_restart.currents c.if-is_restart.objects c.if-stale.run c.if-is_restart.soon c.if-is_restart.stale c.if-is_restart.changed
 did_pass c = λ h n.
     let g = ready c.before in
-    elim c.if-is_restart.branch [ then-is_restart w ↦ (absurd (true≢false (sym (restart_changes c.if-slot-lt-PARTITIONS.d (sym c.is_restart.ensures ∙ w.if-is_restart.true)) ∙ h))) | else-is_restart+then-does_change+else-loop-turn-test w ↦ (absurd (true≢false (sym (sym w.does_change.ensures ∙ w.if-does_change.true) ∙ h))) | else-is_restart+else-does_change+then-put-lt-CHANNELS w ↦ (absurd (one_of c.if-slot-lt-PARTITIONS.d c.message_at-put.ensures w.if-put-lt-CHANNELS.true n)) | else-is_restart+else-does_change+else-put-lt-CHANNELS+then-pass-lt-CHANNELS+then-end-lt-PARTITIONS+then-end-spot w ↦ (done_as_holds refl w.here-is w.currents-is w.objects-is w.soon-is w.stale-is w.changed-is (done_here g _ c.transfer_at-pass.ensures w.if-pass-lt-CHANNELS.true w.transfer_of-transfer.ensures _ w.change.ensures _ w.ended_slot-end.ensures w.if-end-lt-PARTITIONS.true w.if-end-spot.true w.after_transfer-here.result w.after_transfer-here.ensures _ w.m-is)) | else-is_restart+else-does_change+else-put-lt-CHANNELS+then-pass-lt-CHANNELS+then-end-lt-PARTITIONS+else-end-spot w ↦ (done_as_holds refl w.here-is w.currents-is w.objects-is w.soon-is w.stale-is w.changed-is (done_there g _ c.transfer_at-pass.ensures w.if-pass-lt-CHANNELS.true w.transfer_of-transfer.ensures _ w.change.ensures _ w.ended_slot-end.ensures w.if-end-lt-PARTITIONS.true w.if-end-spot.false w.after_transfer-q.result w.after_transfer-q.ensures _ w.m-is)) | else-is_restart+else-does_change+else-put-lt-CHANNELS+then-pass-lt-CHANNELS+else-end-lt-PARTITIONS w ↦ (done_as_holds refl w.here-is w.currents-is w.objects-is w.soon-is w.stale-is w.changed-is (done_moved g _ c.transfer_at-pass.ensures w.if-pass-lt-CHANNELS.true w.transfer_of-transfer.ensures _ w.change.ensures _ w.ended_slot-end.ensures w.if-end-lt-PARTITIONS.false _ w.m-is)) | else-is_restart+else-does_change+else-put-lt-CHANNELS+else-pass-lt-CHANNELS w ↦ (absurd (not_far c.transfer_at-pass.ensures w.if-pass-lt-CHANNELS.false n)) ]
+    elim c.if-is_restart.branch [ then-is_restart w ↦ (absurd (true≢false (sym (restart_changes c.if-slot-lt-PARTITIONS.d (sym c.is_restart.ensures ∙ w.if-is_restart.true)) ∙ h))) | else-is_restart+then-does_change+else-loop-turn-test w ↦ (absurd (true≢false (sym (sym w.does_change.ensures ∙ (search (rules, w.if-does_change.true))) ∙ h))) | else-is_restart+else-does_change+then-put-lt-CHANNELS w ↦ (absurd (one_of c.if-slot-lt-PARTITIONS.d c.message_at-put.ensures w.if-put-lt-CHANNELS.true n)) | else-is_restart+else-does_change+else-put-lt-CHANNELS+then-pass-lt-CHANNELS+then-end-lt-PARTITIONS+then-end-spot w ↦ (done_as_holds refl w.here-is w.currents-is w.objects-is w.soon-is w.stale-is w.changed-is (done_here g _ c.transfer_at-pass.ensures w.if-pass-lt-CHANNELS.true w.transfer_of-transfer.ensures _ w.change.ensures _ w.ended_slot-end.ensures w.if-end-lt-PARTITIONS.true w.if-end-spot.true w.after_transfer-here.result w.after_transfer-here.ensures _ w.m-is)) | else-is_restart+else-does_change+else-put-lt-CHANNELS+then-pass-lt-CHANNELS+then-end-lt-PARTITIONS+else-end-spot w ↦ (done_as_holds refl w.here-is w.currents-is w.objects-is w.soon-is w.stale-is w.changed-is (done_there g _ c.transfer_at-pass.ensures w.if-pass-lt-CHANNELS.true w.transfer_of-transfer.ensures _ w.change.ensures _ w.ended_slot-end.ensures w.if-end-lt-PARTITIONS.true w.if-end-spot.false w.after_transfer-q.result w.after_transfer-q.ensures _ w.m-is)) | else-is_restart+else-does_change+else-put-lt-CHANNELS+then-pass-lt-CHANNELS+else-end-lt-PARTITIONS w ↦ (done_as_holds refl w.here-is w.currents-is w.objects-is w.soon-is w.stale-is w.changed-is (done_moved g _ c.transfer_at-pass.ensures w.if-pass-lt-CHANNELS.true w.transfer_of-transfer.ensures _ w.change.ensures _ w.ended_slot-end.ensures w.if-end-lt-PARTITIONS.false _ w.m-is)) | else-is_restart+else-does_change+else-put-lt-CHANNELS+else-pass-lt-CHANNELS w ↦ (absurd (not_far c.transfer_at-pass.ensures w.if-pass-lt-CHANNELS.false n)) ]
 
 -- a message on a channel, or nothing
 did_else : (c : Joined-is_restart) → changes c.if-slot-lt-PARTITIONS.d ≡ false → channel_limit ≤ transfer_at c.if-slot-lt-PARTITIONS.d → Done (settled c.loop-i.spot c.loop-i.here c.loop-i.m) c.plan_of-x.result c.reply_of-reply.result c.if-x-spot.spot c.if-is_restart.m c.if-is_restart.here c.if-is_restart.currents c.if-is_restart.objects c.if-stale.run c.if-is_restart.soon c.if-is_restart.stale c.if-is_restart.changed
 did_else c = λ h n.
     let g = ready c.before in
-    elim c.if-is_restart.branch [ then-is_restart w ↦ (absurd (true≢false (sym (restart_changes c.if-slot-lt-PARTITIONS.d (sym c.is_restart.ensures ∙ w.if-is_restart.true)) ∙ h))) | else-is_restart+then-does_change+else-loop-turn-test w ↦ (absurd (true≢false (sym (sym w.does_change.ensures ∙ w.if-does_change.true) ∙ h))) | else-is_restart+else-does_change+then-put-lt-CHANNELS w ↦ (done_as_holds refl w.here-is w.currents-is w.objects-is w.soon-is w.stale-is w.changed-is (done_written g _ c.message_at-put.ensures w.if-put-lt-CHANNELS.true w.message_of-message.ensures _ w.m-is)) | else-is_restart+else-does_change+else-put-lt-CHANNELS+then-pass-lt-CHANNELS+then-end-lt-PARTITIONS+then-end-spot w ↦ (absurd (not_near c.transfer_at-pass.ensures w.if-pass-lt-CHANNELS.true n)) | else-is_restart+else-does_change+else-put-lt-CHANNELS+then-pass-lt-CHANNELS+then-end-lt-PARTITIONS+else-end-spot w ↦ (absurd (not_near c.transfer_at-pass.ensures w.if-pass-lt-CHANNELS.true n)) | else-is_restart+else-does_change+else-put-lt-CHANNELS+then-pass-lt-CHANNELS+else-end-lt-PARTITIONS w ↦ (absurd (not_near c.transfer_at-pass.ensures w.if-pass-lt-CHANNELS.true n)) | else-is_restart+else-does_change+else-put-lt-CHANNELS+else-pass-lt-CHANNELS w ↦ (done_as_holds w.m-is w.here-is w.currents-is w.objects-is w.soon-is w.stale-is w.changed-is (done_same g (sym w.does_change.ensures ∙ w.if-does_change.false) _ _ c.message_at-put.ensures w.if-put-lt-CHANNELS.false c.transfer_at-pass.ensures w.if-pass-lt-CHANNELS.false)) ]
+    elim c.if-is_restart.branch [ then-is_restart w ↦ (absurd (true≢false (sym (restart_changes c.if-slot-lt-PARTITIONS.d (sym c.is_restart.ensures ∙ w.if-is_restart.true)) ∙ h))) | else-is_restart+then-does_change+else-loop-turn-test w ↦ (absurd (true≢false (sym (sym w.does_change.ensures ∙ (search (rules, w.if-does_change.true))) ∙ h))) | else-is_restart+else-does_change+then-put-lt-CHANNELS w ↦ (done_as_holds refl w.here-is w.currents-is w.objects-is w.soon-is w.stale-is w.changed-is (done_written g _ c.message_at-put.ensures w.if-put-lt-CHANNELS.true w.message_of-message.ensures _ w.m-is)) | else-is_restart+else-does_change+else-put-lt-CHANNELS+then-pass-lt-CHANNELS+then-end-lt-PARTITIONS+then-end-spot w ↦ (absurd (not_near c.transfer_at-pass.ensures w.if-pass-lt-CHANNELS.true n)) | else-is_restart+else-does_change+else-put-lt-CHANNELS+then-pass-lt-CHANNELS+then-end-lt-PARTITIONS+else-end-spot w ↦ (absurd (not_near c.transfer_at-pass.ensures w.if-pass-lt-CHANNELS.true n)) | else-is_restart+else-does_change+else-put-lt-CHANNELS+then-pass-lt-CHANNELS+else-end-lt-PARTITIONS w ↦ (absurd (not_near c.transfer_at-pass.ensures w.if-pass-lt-CHANNELS.true n)) | else-is_restart+else-does_change+else-put-lt-CHANNELS+else-pass-lt-CHANNELS w ↦ (done_as_holds w.m-is w.here-is w.currents-is w.objects-is w.soon-is w.stale-is w.changed-is (done_same g (sym w.does_change.ensures ∙ (search (rules, w.if-does_change.false))) _ _ c.message_at-put.ensures w.if-put-lt-CHANNELS.false c.transfer_at-pass.ensures w.if-pass-lt-CHANNELS.false)) ]
 
 -- each way through the event
 did : (c : Joined-is_restart) → Done (settled c.loop-i.spot c.loop-i.here c.loop-i.m) c.plan_of-x.result c.reply_of-reply.result c.if-x-spot.spot c.if-is_restart.m c.if-is_restart.here c.if-is_restart.currents c.if-is_restart.objects c.if-stale.run c.if-is_restart.soon c.if-is_restart.stale c.if-is_restart.changed
@@ -283,7 +283,7 @@ restart_in : (c : Then-is_restart) → c.plan_of-x.result.slot < partition_limit
 restart_in c = let g = ready c.before in restarts_in (planned c.before.before.before.before.before.before.before.before.before.before.before.before) c.if-x-spot.spot c.if-x-spot.here c.if-x-spot.m g.ticked g.long g.here c.if-slot-lt-PARTITIONS.d g.decides (sym c.is_restart.ensures ∙ c.if-is_restart.true)
 
 change_in : (c : Then-does_change) → c.plan_of-x.result.slot < partition_limit
-change_in c = let g = ready c.before.before.before in changes_in (planned c.before.before.before.before.before.before.before.before.before.before.before.before.before.before) c.if-x-spot.spot c.if-x-spot.here c.if-x-spot.m g.ticked g.long g.here c.if-slot-lt-PARTITIONS.d g.decides (sym c.does_change.ensures ∙ c.if-does_change.true)
+change_in c = let g = ready c.before.before.before in changes_in (planned c.before.before.before.before.before.before.before.before.before.before.before.before.before.before) c.if-x-spot.spot c.if-x-spot.here c.if-x-spot.m g.ticked g.long g.here c.if-slot-lt-PARTITIONS.d g.decides (sym c.does_change.ensures ∙ (search (rules, c.if-does_change.true)))
 
 pub offset_bounds-m-place-then-seen-lt-PARTITIONS : goal.offset_bounds-m-place-then-seen-lt-PARTITIONS
 offset_bounds-m-place-then-seen-lt-PARTITIONS c = search (rules, near (goal.at.offset_bounds-m-place-then-seen-lt-PARTITIONS c).Then-seen-lt-PARTITIONS)

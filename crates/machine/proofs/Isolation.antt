@@ -1,4 +1,4 @@
--- Demand 3, proved: one event of each kind (`step-free`, `step_both`), and by `two_runs` whole lists. Assumes nothing.
+-- Demand 3, proved: one event of each kind (`step_free`, `step_both`), and by `two_runs` whole lists. Assumes nothing.
 use Prim.Native.Nat.{ℕ, zero, suc, ◌+◌, ◌-◌, ◌<◌, ◌≤◌}
 use mathlib.Core.Path.{◌≡◌, refl, sym, ap, ap₂, ◌∙◌, subst}
 use mathlib.Core.Bool.{Bool, true, false, cond, not, ◌&&◌, ◌||◌, true≢false}

@@ -12,7 +12,7 @@ use Rattle.machine.specs.declared.Field.{Field}
 use Rattle.machine.specs.Fields.{is_number}
 use Rattle.machine.specs.Decisions.{name_taken}
 
--- the length of an array of structs: `search (needs, length-mapped)` finds it
+-- the length of an array of structs: `search (rules, length_mapped)` finds it
 pub length_mapped : (X Y : Type 0) (f : X → Y) (l : List X) (n : ℕ) → length (map f l) ≡ n → length l ≡ n
 length_mapped X Y f l n h = sym (length-map l f) ∙ h
 

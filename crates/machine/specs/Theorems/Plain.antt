@@ -2,7 +2,7 @@
 -- a full list or queue stays as it is, a level above 16 counts as 16, a channel is queuing between partitions 1 to 8 only, sums of times and
 -- a semaphore's value stop at the greatest, at most 8 partitions are ticked, M = 0 gives 0, and
 -- a number past the greatest time is no number. Here the same is said without them, and what it means that none of them acts at an event:
--- `no-bound-acts` proves it of every event at every record that a run reaches. Nothing of the machine rests on it.
+-- `no_bound_acts` proves it of every event at every record that a run reaches. Nothing of the machine rests on it.
 use Rattle.std.specs.Prelude.{ℕ, zero, suc, ◌+◌, ◌-◌, ◌%◌, ◌≤◌, ◌<◌, ◌≡◌, Bool, true, false, cond, ◌&&◌, ◌||◌, List, [], ◌∷◌, ◌++◌, map, ◌⊎◌, length, get_or, set, drop, eqb, leb, ltb, ℤ, pos, negsuc}
 use Rattle.machine.specs.declared.Time.{Time}
 use Rattle.machine.specs.declared.Time.TheVariants.{Never, At}

@@ -74,7 +74,7 @@ pub record SameObjects (p q : Partition) : Type 0 where
   pub buffers : q.buffers ≡ p.buffers
   pub blackboards : q.blackboards ≡ p.blackboards
 
--- what a call that waits on queue k of a kind looks at, by the kinds of classOf: a semaphore's value is above 0, an event is UP, a buffer has
+-- what a call that waits on queue k of a kind looks at, by the kinds of class_of: a semaphore's value is above 0, an event is UP, a buffer has
 -- room, a buffer holds a message, a blackboard shows one
 abbrev pub available : ℕ → ℕ → Partition → Bool
 available kind k p =

@@ -57,7 +57,7 @@ fn record_of(n: Numbers) -> EventRecord {
         answer: Answer {
             code: 0,
             value: 0,
-            extra: Time::Never,
+            extra: None,
             t: 0,
             current: 0,
             running: 0,

@@ -33,12 +33,12 @@ pub fn blackboard_at(p: Partition, k: u32) -> Blackboard
 }
 
 pub fn is_blackboard_named(p: Partition, name: Field) -> bool
-    ensures { result ≡ blackboard_named name (take p.blackboardCount p.blackboards) }
+    ensures { result ≡ blackboard_named name (take p.blackboard_count p.blackboards) }
 {
     let mut i: usize = 0;
     while i < Module::BLACKBOARDS {
         let x = p.blackboards[i];
-        if decisions::is_named_at(name, x.name, i, p.blackboardCount) {
+        if decisions::is_named_at(name, x.name, i, p.blackboard_count) {
             return true;
         }
         i = i + 1;
@@ -48,7 +48,7 @@ pub fn is_blackboard_named(p: Partition, name: Field) -> bool
 
 // 26 CREATE_BLACKBOARD
 pub fn create_blackboard(v: View, name: Field) -> Decision
-    ensures { (p : PartitionT) (c : ContextT) (id : ℕ) → Shows v c id p → v.taken ≡ blackboard_named name (take p.blackboardCount p.blackboards) → result ≡ create_blackboard name p }
+    ensures { (p : PartitionT) (c : ContextT) (id : ℕ) → Shows v c id p → v.taken ≡ blackboard_named name (take p.blackboard_count p.blackboards) → result ≡ create_blackboard name p }
 {
     let n = v.blackboards as u32;
     let code = decisions::creation_code(
@@ -97,7 +97,7 @@ pub fn read_blackboard(v: View, c: Context, k: u32, a: Field) -> Decision
     let unknown = decisions::is_unknown(k, v.blackboards);
     let code = decisions::wait_code(unknown, v.mode != 3, fields::is_timeout(a));
     let b = decisions::blackboard_in(v);
-    let success = Decision::Unchanged(b.message, Time::At(0));
+    let success = Decision::Unchanged(b.message, Some(0));
     objects::awaited(
         v,
         c,

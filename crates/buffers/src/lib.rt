@@ -26,12 +26,12 @@ pub fn buffer_at(p: Partition, k: u32) -> Buffer
 }
 
 pub fn is_buffer_named(p: Partition, name: Field) -> bool
-    ensures { result ≡ buffer_named name (take p.bufferCount p.buffers) }
+    ensures { result ≡ buffer_named name (take p.buffer_count p.buffers) }
 {
     let mut i: usize = 0;
     while i < Module::BUFFERS {
         let x = p.buffers[i];
-        if decisions::is_named_at(name, x.name, i, p.bufferCount) {
+        if decisions::is_named_at(name, x.name, i, p.buffer_count) {
             return true;
         }
         i = i + 1;
@@ -52,7 +52,7 @@ fn is_buffer_admitted(name: Field, limit: Field) -> bool
 
 // 23 CREATE_BUFFER
 pub fn create_buffer(v: View, name: Field, limit: Field) -> Decision
-    ensures { (p : PartitionT) (c : ContextT) (id : ℕ) → Shows v c id p → v.taken ≡ buffer_named name (take p.bufferCount p.buffers) → result ≡ create_buffer name limit p }
+    ensures { (p : PartitionT) (c : ContextT) (id : ℕ) → Shows v c id p → v.taken ≡ buffer_named name (take p.buffer_count p.buffers) → result ≡ create_buffer name limit p }
 {
     let n = v.buffers as u32;
     let code = decisions::creation_code(

@@ -53,13 +53,13 @@ pub fn set_mode(v: View, c: Context, a: Field) -> Decision
 
 // Whether a process of the partition has this name.
 pub fn is_process_named(p: Partition, name: Field) -> bool
-    ensures { result ≡ process_named name (take p.processCount p.processes) }
+    ensures { result ≡ process_named name (take p.process_count p.processes) }
 {
     let mut i: usize = 0;
     while i < Module::PROCESSES {
         let x = p.processes[i];
         let given = x.given;
-        if decisions::is_named_at(name, given.name, i, p.processCount) {
+        if decisions::is_named_at(name, given.name, i, p.process_count) {
             return true;
         }
         i = i + 1;
@@ -141,7 +141,7 @@ pub fn is_admissible(r: Request, c: Context) -> bool
 
 // 2 CREATE_PROCESS.
 pub fn create_process(v: View, c: Context, r: Request) -> Decision
-    ensures { (p : PartitionT) (id : ℕ) → Shows v c id p → v.taken ≡ process_named r.a (take p.processCount p.processes) → result ≡ create_process c r p }
+    ensures { (p : PartitionT) (id : ℕ) → Shows v c id p → v.taken ≡ process_named r.a (take p.process_count p.processes) → result ≡ create_process c r p }
 {
     let n = v.count as u32;
     let name = r.a;
@@ -284,9 +284,9 @@ pub fn suspend_self(v: View, c: Context, a: Field) -> Decision
         return Decision::Refused(5);
     }
     if fields::is_number(a, 0) {
-        return Decision::Unchanged(0, Time::At(0));
+        return Decision::Unchanged(0, Some(0));
     }
-    let wake = process::later_time(Time::At(c.time), fields::time_of(a));
+    let wake = process::later_time(Some(c.time), fields::time_of(a));
     decisions::block(v.level, c.caller, process::suspended_until(x, wake))
 }
 
@@ -308,7 +308,7 @@ pub fn timed_wait(v: View, c: Context, a: Field) -> Decision
     }
     let id = decisions::caller_of(c);
     let x = decisions::calling_in(v);
-    let wake = process::later_time(Time::At(c.time), fields::time_of(a));
+    let wake = process::later_time(Some(c.time), fields::time_of(a));
     decisions::block(
         v.level,
         c.caller,
@@ -458,5 +458,5 @@ pub fn unlock_preemption(v: View) -> Decision
 pub fn get_ticks_left(c: Context) -> Decision
     ensures { result ≡ get_ticks_left c }
 {
-    Decision::Unchanged(c.left, Time::At(0))
+    Decision::Unchanged(c.left, Some(0))
 }

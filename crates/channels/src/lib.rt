@@ -63,7 +63,7 @@ fn seen_at(k: u32, c: Channel, x: Message) -> Message
 
 // What partition k sees of the channel that a names, which is this one of so many, on which x lies, with this traffic.
 pub fn port_at(count: u8, here: Channel, k: u32, a: Field, x: Message, traffic: Traffic) -> Port
-    ensures { (T : TableT) → T.channelCount ≡ count → here ≡ channel T (number_of a - 1) → result ≡ port_at T k a x traffic }
+    ensures { (T : TableT) → T.channel_count ≡ count → here ≡ channel T (number_of a - 1) → result ≡ port_at T k a x traffic }
 {
     let place = place_of(a);
     Port {
@@ -176,7 +176,7 @@ pub fn read_channel(c: Context, x: Port) -> Decision
     if !message.present {
         return Decision::Refused(1);
     }
-    let extra = Time::At(freshness_at(c.time, message.written, channel.refresh));
+    let extra = Some(freshness_at(c.time, message.written, channel.refresh));
     Decision::Unchanged(message.value, extra)
 }
 

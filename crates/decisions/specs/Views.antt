@@ -11,11 +11,11 @@ pub record Shows (v : View) (c : Context) (id : ℕ) (p : Partition) : Type 0 wh
   pub mode : v.mode ≡ p.mode
   pub level : v.level ≡ p.level
   pub holder : v.holder ≡ p.holder
-  pub count : v.count ≡ p.processCount
-  pub semaphores : v.semaphores ≡ p.semaphoreCount
-  pub events : v.events ≡ p.eventCount
-  pub buffers : v.buffers ≡ p.bufferCount
-  pub blackboards : v.blackboards ≡ p.blackboardCount
+  pub count : v.count ≡ p.process_count
+  pub semaphores : v.semaphores ≡ p.semaphore_count
+  pub events : v.events ≡ p.event_count
+  pub buffers : v.buffers ≡ p.buffer_count
+  pub blackboards : v.blackboards ≡ p.blackboard_count
   pub named : v.named ≡ process id p
   pub calling : v.calling ≡ process c.caller p
   pub semaphore : v.semaphore ≡ semaphore id p

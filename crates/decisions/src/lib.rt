@@ -22,7 +22,7 @@ fn reply(code: u8, value: u32, extra: Time) -> Reply
 pub fn reply_with(code: u8) -> Reply
     ensures { result ≡ coded code }
 {
-    reply(code, 0, Time::At(0))
+    reply(code, 0, Some(0))
 }
 
 // The numbers of a decision.
@@ -34,10 +34,10 @@ pub fn reply_of(d: Decision) -> Reply
         Decision::Unchanged(value, extra) => reply(0, value, extra),
         Decision::Ticked => reply_with(0),
         Decision::Blocked(_, _) => reply_with(7),
-        Decision::Changed(_, _, value) => reply(0, value, Time::At(0)),
+        Decision::Changed(_, _, value) => reply(0, value, Some(0)),
         Decision::Restarted(_) => reply_with(0),
         Decision::Written(_, _) => reply_with(0),
-        Decision::Passed(_, _, value) => reply(0, value, Time::At(0)),
+        Decision::Passed(_, _, value) => reply(0, value, Some(0)),
     }
 }
 

@@ -54,8 +54,8 @@ fn print_never(rt: &impl Print, label: &str) -> io::Result<()> {
 
 fn print_time(rt: &impl Print, label: &str, a: Time) -> io::Result<()> {
     match a {
-        Time::Never => print_never(rt, label),
-        Time::At(t) => print_number(rt, label, t),
+        None => print_never(rt, label),
+        Some(t) => print_number(rt, label, t),
     }
 }
 
@@ -240,25 +240,25 @@ fn print_partition(rt: &impl Print, k: u32, p: Partition) -> io::Result<()> {
     let arrival = p.arrival;
     print_number(rt, "partition ", k)?;
     print_number(rt, " mode ", p.mode as u32)?;
-    print_number(rt, " processes ", p.processCount as u32)?;
-    print_number(rt, " semaphores ", p.semaphoreCount as u32)?;
-    print_number(rt, " events ", p.eventCount as u32)?;
-    print_number(rt, " buffers ", p.bufferCount as u32)?;
-    print_number(rt, " blackboards ", p.blackboardCount as u32)?;
+    print_number(rt, " processes ", p.process_count as u32)?;
+    print_number(rt, " semaphores ", p.semaphore_count as u32)?;
+    print_number(rt, " events ", p.event_count as u32)?;
+    print_number(rt, " buffers ", p.buffer_count as u32)?;
+    print_number(rt, " blackboards ", p.blackboard_count as u32)?;
     print_lock(rt, p.level, p.holder)?;
     print(rt, "\n")?;
-    print_items(rt, p, Item::Process, p.processCount)?;
-    print_items(rt, p, Item::Semaphore, p.semaphoreCount)?;
-    print_items(rt, p, Item::Event, p.eventCount)?;
-    print_items(rt, p, Item::Buffer, p.bufferCount)?;
-    print_items(rt, p, Item::Blackboard, p.blackboardCount)?;
+    print_items(rt, p, Item::Process, p.process_count)?;
+    print_items(rt, p, Item::Semaphore, p.semaphore_count)?;
+    print_items(rt, p, Item::Event, p.event_count)?;
+    print_items(rt, p, Item::Buffer, p.buffer_count)?;
+    print_items(rt, p, Item::Blackboard, p.blackboard_count)?;
     print(rt, "arrival")?;
     print_ids(rt, arrival)?;
-    print_items(rt, p, Item::SemaphoreQueue, p.semaphoreCount)?;
-    print_items(rt, p, Item::EventQueue, p.eventCount)?;
-    print_items(rt, p, Item::SendingQueue, p.bufferCount)?;
-    print_items(rt, p, Item::ReceivingQueue, p.bufferCount)?;
-    print_items(rt, p, Item::BlackboardQueue, p.blackboardCount)
+    print_items(rt, p, Item::SemaphoreQueue, p.semaphore_count)?;
+    print_items(rt, p, Item::EventQueue, p.event_count)?;
+    print_items(rt, p, Item::SendingQueue, p.buffer_count)?;
+    print_items(rt, p, Item::ReceivingQueue, p.buffer_count)?;
+    print_items(rt, p, Item::BlackboardQueue, p.blackboard_count)
 }
 
 // ---------------------------------------------------------------- a partition's ends of queuing channels
@@ -297,7 +297,7 @@ fn print_end(
 }
 
 fn print_ends(rt: &impl Print, table: Table, k: u32, p: Partition, end: End) -> io::Result<()> {
-    let count = table.channelCount;
+    let count = table.channel_count;
     for n in 1..=count {
         print_end(rt, table, k, p, end, n)?;
     }
@@ -387,8 +387,8 @@ fn print_heading(rt: &impl Print, m: Module) -> io::Result<()> {
     print_number(rt, " running ", running_in(m, now.partition))?;
     print_number(rt, " frame ", table.frame as u32)?;
     print_number(rt, " partitions ", table.size as u32)?;
-    print_number(rt, " windows ", table.windowCount as u32)?;
-    print_number(rt, " channels ", table.channelCount as u32)?;
+    print_number(rt, " windows ", table.window_count as u32)?;
+    print_number(rt, " channels ", table.channel_count as u32)?;
     print(rt, "\n")
 }
 
@@ -420,8 +420,8 @@ fn print_module(rt: &impl Print, m: Module) -> io::Result<()> {
         return print(rt, "empty\n");
     }
     print_heading(rt, m)?;
-    print_windows(rt, m, table.windowCount)?;
-    print_channels(rt, m, table.channelCount)?;
+    print_windows(rt, m, table.window_count)?;
+    print_channels(rt, m, table.channel_count)?;
     print_partitions(rt, m, table.size)
 }
 

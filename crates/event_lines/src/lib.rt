@@ -49,8 +49,8 @@ fn time_number(t: Time) -> i64
     ensures { result ≡ time_number t }
 {
     match t {
-        Time::Never => -1,
-        Time::At(n) => n as i64,
+        None => -1,
+        Some(n) => n as i64,
     }
 }
 

@@ -12,7 +12,7 @@ use Rattle.machine.specs.declared.Lookup.{Lookup}
 use Rattle.machine.specs.declared.Reply.{Reply}
 use Rattle.machine.specs.declared.Request.{Request}
 use Rattle.machine.specs.declared.Table.{Table}
-use Rattle.machine.specs.declared.Time.TheVariants.{At}
+use Rattle.std.specs.Prelude.{Some}
 use Rattle.places.specs.Placed.{placed_at}
 use Rattle.places.specs.declared.Placed.{Placed}
 use Rattle.events.specs.declared.Plan.{Plan}
@@ -72,4 +72,4 @@ answer_of a t k n = record { code = a.code; value = a.value; extra = a.extra; t 
 
 -- before the first event
 abbrev pub no_answer : Answer
-no_answer = record { code = 0; value = 0; extra = At 0; t = 0; current = 0; running = 0 }
+no_answer = record { code = 0; value = 0; extra = Some 0; t = 0; current = 0; running = 0 }

@@ -189,7 +189,7 @@ module _ (T : Table) (long : length T.channels ≡ channel_limit) (k i : ℕ) {n
   sees_it h = either (sees_traffic T k i) (λ t. t) (λ t. let z : n ≡ partition_limit = e ∙ rw t in absurd (omega arith))
 
   pub seen_place : n < partition_limit → i < channel_limit
-  seen_place h = placed T i long (and_right (ltb i T.channelCount) _ (and_left (queuing_at T i) _ (sees_it h)))
+  seen_place h = placed T i long (and_right (ltb i T.channel_count) _ (and_left (queuing_at T i) _ (sees_it h)))
 
   pub seen_here : n < partition_limit → (q : Module) → Held q → {o : ℕ} → o ≡ cond (ltb i channel_limit) (other_queue k i (channel T i)) 0 → {v : Traffic} → v ≡ traffic_of (get_or q.queues i past_queue) o (part q n) → v ≡ seen_traffic T q k i
   seen_here h q l {o} is {v} g =
@@ -204,7 +204,7 @@ module _ (T : Table) (long : length T.channels ≡ channel_limit) (k i : ℕ) {n
       near : sees_traffic T k i ≡ true → ⊥
       near t =
           let c = channel T i in
-          let z = and_right (ltb 0 c.size) _ (and_right (ltb i T.channelCount) _ (and_left (queuing_at T i) _ t)) in
+          let z = and_right (ltb 0 c.size) _ (and_right (ltb i T.channel_count) _ (and_left (queuing_at T i) _ t)) in
           let a = within_out partition_limit c.source (and_left (within partition_limit c.source) _ z) in
           let b = within_out partition_limit c.destination (and_right (within partition_limit c.source) _ z) in
           let at : n ≡ other_end k c - 1 = e ∙ rw t in

@@ -87,8 +87,8 @@ fn time_number(t: Time) -> i64
     ensures { result ≡ time_number t }
 {
     match t {
-        Time::Never => -1,
-        Time::At(n) => n as i64,
+        None => -1,
+        Some(n) => n as i64,
     }
 }
 
@@ -191,7 +191,7 @@ impl Executive {
                     held = m.messages[place];
                     channel = table.channels[place];
                 }
-                let seen = queuing::seen_slot(table.channelCount, channel, x.own, place);
+                let seen = queuing::seen_slot(table.channel_count, channel, x.own, place);
                 let mut traffic = queuing::no_traffic();
                 if seen < Module::PARTITIONS {
                     let object = queuing::other_object(channel, x.own, place);
@@ -210,7 +210,7 @@ impl Executive {
                     release: events::release_for(table, m.t, x.own, x.call),
                     caller: run,
                 };
-                let port = channels::port_at(table.channelCount, channel, x.own, a, held, traffic);
+                let port = channels::port_at(table.channel_count, channel, x.own, a, held, traffic);
                 let id = fields::number_of(a);
                 let mut named = Process::blank();
                 let named_at = partition::slot(id, Module::PROCESSES);
@@ -258,11 +258,11 @@ impl Executive {
                     mode: here.mode,
                     level: here.level,
                     holder: here.holder,
-                    count: here.processCount,
-                    semaphores: here.semaphoreCount,
-                    events: here.eventCount,
-                    buffers: here.bufferCount,
-                    blackboards: here.blackboardCount,
+                    count: here.process_count,
+                    semaphores: here.semaphore_count,
+                    events: here.event_count,
+                    buffers: here.buffer_count,
+                    blackboards: here.blackboard_count,
                     taken,
                     named,
                     calling,
@@ -315,14 +315,14 @@ impl Executive {
                             let k = partition::slot(id, Module::SEMAPHORES);
                             if k < Module::SEMAPHORES {
                                 here.semaphores[k] = y;
-                                here.semaphoreCount = partition::counted(here.semaphoreCount, id);
+                                here.semaphore_count = partition::counted(here.semaphore_count, id);
                             }
                         }
                         Change::StoredEvent(id, y) => {
                             let k = partition::slot(id, Module::EVENTS);
                             if k < Module::EVENTS {
                                 here.events[k] = y;
-                                here.eventCount = partition::counted(here.eventCount, id);
+                                here.event_count = partition::counted(here.event_count, id);
                             }
                         }
                         Change::CreatedBuffer(id, name, limit) => here = partition::create_buffer(
@@ -334,7 +334,7 @@ impl Executive {
                                 let mut v = here.buffers[k];
                                 v.queue = messages::change(v.queue, y);
                                 here.buffers[k] = v;
-                                here.bufferCount = partition::counted(here.bufferCount, id);
+                                here.buffer_count = partition::counted(here.buffer_count, id);
                             }
                             let other = partition::ended_id(y);
                             let l = partition::slot(other, Module::PROCESSES);
@@ -362,7 +362,7 @@ impl Executive {
                             let k = partition::slot(id, Module::BLACKBOARDS);
                             if k < Module::BLACKBOARDS {
                                 here.blackboards[k] = y;
-                                here.blackboardCount = partition::counted(here.blackboardCount, id);
+                                here.blackboard_count = partition::counted(here.blackboard_count, id);
                             }
                         }
                         Change::Ended(o) => {
@@ -473,7 +473,7 @@ impl Executive {
         Answer {
             code: 11,
             value: 0,
-            extra: Time::At(0),
+            extra: Some(0),
             t: m.t,
             current: now.partition,
             running: 0,

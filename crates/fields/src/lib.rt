@@ -134,8 +134,8 @@ pub fn time_of(f: Field) -> Time
     ensures { result ≡ time_of f }
 {
     match f {
-        Field::Number(n) => Time::At(n),
-        Field::MinusOne => Time::Never,
-        Field::Other => Time::Never,
+        Field::Number(n) => Some(n),
+        Field::MinusOne => None,
+        Field::Other => None,
     }
 }

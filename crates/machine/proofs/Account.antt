@@ -20,8 +20,8 @@ use Rattle.machine.specs.declared.Event.{Event as EventT}
 use Rattle.machine.specs.declared.Module.{Module}
 use Rattle.machine.specs.declared.Decision.{Decision}
 use Rattle.machine.specs.declared.Decision.TheVariants.{Refused, Unchanged, Ticked, Blocked, Changed, Restarted, Written, Passed as PassedOn}
-use Rattle.machine.specs.declared.Time.{Time}
-use Rattle.machine.specs.declared.Time.TheVariants.{At}
+use Rattle.machine.specs.Time.{Time}
+use Rattle.std.specs.Prelude.{Some}
 use Rattle.machine.specs.declared.Wait.{Wait}
 use Rattle.machine.specs.declared.Wait.TheVariants.{Sending, Receiving}
 use Rattle.machine.specs.declared.Request.{Request}
@@ -104,7 +104,7 @@ module _ (k j : ℕ) where
   module _ (m : Module) (e : EventT) (es : List EventT) where
     record Even (q : Module) (code value : ℕ) : Type 0 where
       is : Fl.Even flow m e es q code value
-      count : (own m k).bufferCount ≤ (own q k).bufferCount
+      count : (own m k).buffer_count ≤ (own q k).buffer_count
 
     -- what stays of a buffer and its senders, where nothing is sent and nothing received
     module _ (low : j ≤ 16) where
@@ -196,10 +196,10 @@ other_queue_holds m s e c a y v b j low =
     let r = request_of e in
     let i = number_of r.partition in
     let there = (on_queue_holds m s r c a y v b).there in
-    by_test (λ (o : ℕ). o ≡ queue_number 3 j → ⊥) (eqb (channel m.table a).source i) (λ _ z. omega (arith, there, s.table.channelCount)) (λ _ z. omega (arith, there, s.table.channelCount))
+    by_test (λ (o : ℕ). o ≡ queue_number 3 j → ⊥) (eqb (channel m.table a).source i) (λ _ z. omega (arith, there, s.table.channel_count)) (λ _ z. omega (arith, there, s.table.channel_count))
 
 -- ---------------------------------------------------------------- an event that leaves the buffer
-module _ (k j : ℕ) (m : Module) (s : SoundModule m) (e : EventT) (es : List EventT) (some : 1 ≤ k) (inside : k - 1 < m.table.size) (known : Between 1 (own m k).bufferCount j) where
+module _ (k j : ℕ) (m : Module) (s : SoundModule m) (e : EventT) (es : List EventT) (some : 1 ≤ k) (inside : k - 1 < m.table.size) (known : Between 1 (own m k).buffer_count j) where
   valid : Valid m.table.frame m.t (own m k)
   valid = s.each_partition (k - 1) inside
 
@@ -298,7 +298,7 @@ module _ (j : ℕ) (m : Module) (s : SoundModule m) (e : EventT) (es : List Even
   put : (q : Partition) → own (with_part (k - 1) q m) k ≡ q
   put q = get_or-set_same m.partitions (k - 1) q no_partition (omega (arith, here, s.partitions_size, s.table.size.1))
 
-  module _ (known : Between 1 p.bufferCount j) (none : NoneWaits p) where
+  module _ (known : Between 1 p.buffer_count j) (none : NoneWaits p) where
     few : j ≤ 16
     few = omega (arith, known.1, own_valid.objects.buffers.numbered.few)
 
@@ -384,7 +384,7 @@ module _ (j : ℕ) (m : Module) (s : SoundModule m) (e : EventT) (es : List Even
     moving_queue : (a : Transfer) → waiters senders (moving a) ≡ waiters senders p
     moving_queue a = Mo.moving_queue m.table.frame m.t p own_valid j known a senders is_some
 
-    moving_count : (a : Transfer) → p.bufferCount ≤ (moving a).bufferCount
+    moving_count : (a : Transfer) → p.buffer_count ≤ (moving a).buffer_count
     moving_count a = Mo.moving_count m.table.frame m.t p own_valid j known a
 
     -- who waits to send then, and what is held
@@ -394,11 +394,11 @@ module _ (j : ℕ) (m : Module) (s : SoundModule m) (e : EventT) (es : List Even
     held_after_holds : (q : Partition) (l : List ℕ) → held (buffer j q).queue ≡ l → flow_is.holds (with_part (k - 1) q m) ≡ l
     held_after_holds q l h = ap (λ (x : Partition). held (buffer j x).queue) (put q) ∙ h
 
-    count_after : (q : Partition) → p.bufferCount ≤ q.bufferCount → p.bufferCount ≤ (own (with_part (k - 1) q m) k).bufferCount
+    count_after : (q : Partition) → p.buffer_count ≤ q.buffer_count → p.buffer_count ≤ (own (with_part (k - 1) q m) k).buffer_count
     count_after q h = rw (put q) h
 
-    stored_count : (q : Partition) (id : ℕ) (x : Process) → p.bufferCount ≤ q.bufferCount → p.bufferCount ≤ (stored id x q).bufferCount
-    stored_count q id x h = let f : (stored id x q).bufferCount ≡ q.bufferCount = ap (λ (r : Partition). r.bufferCount) (stored_rest q id x) in omega arith
+    stored_count : (q : Partition) (id : ℕ) (x : Process) → p.buffer_count ≤ q.buffer_count → p.buffer_count ≤ (stored id x q).buffer_count
+    stored_count q id x h = let f : (stored id x q).buffer_count ≡ q.buffer_count = ap (λ (r : Partition). r.buffer_count) (stored_rest q id x) in omega arith
 
     -- refused
     refused_by : (a : ℕ) → body_refusal a ≡ true → EvenAfter (Refused a)
@@ -468,7 +468,7 @@ module _ (j : ℕ) (m : Module) (s : SoundModule m) (e : EventT) (es : List Even
           let ok = (in_limits 0 duration_limit r.b (and_left (is_message r.b) _ (not-false _ h.1.1.0))).1 in
           by_test EvenAfter (has_room now)
           (λ room. sent_even (waiters (queue_number 4 j) p) refl room ok)
-          (λ _. by_codes EvenAfter body_refusal Refused _ _ refl refused_by (λ _. by_codes EvenAfter body_refusal Refused _ _ refl refused_by (λ _. record { is = blocked_even (running p) (caller_in (in_normal ctx p own_valid sound_ctx h.1.0)) (later (At m.t) (time_of r.c)) refl }))))
+          (λ _. by_codes EvenAfter body_refusal Refused _ _ refl refused_by (λ _. by_codes EvenAfter body_refusal Refused _ _ refl refused_by (λ _. record { is = blocked_even (running p) (caller_in (in_normal ctx p own_valid sound_ctx h.1.0)) (later (Some m.t) (time_of r.c)) refl }))))
 
     -- ------------------------------------------------------------ RECEIVE
     module _ (to : is_send flow_is e ≡ false) (from : is_receive flow_is e ≡ true) (on : (code : ℕ) → restarts_by k e code ≡ false) (Stays-on : gives_up flow_is e 0 ≡ false) where
@@ -498,7 +498,7 @@ module _ (j : ℕ) (m : Module) (s : SoundModule m) (e : EventT) (es : List Even
         moving_process : (y : ℕ) → process y (moving a) ≡ process y p
         moving_process y = Mo.moving_process m.table.frame m.t p own_valid j known a y
 
-        sender_created : Between 1 p.processCount id
+        sender_created : Between 1 p.process_count id
         sender_created = first_created senders is_some p own_valid.lists id l h
 
         queue_then : waiters senders (moving a) ≡ id ∷ l
@@ -534,7 +534,7 @@ module _ (j : ℕ) (m : Module) (s : SoundModule m) (e : EventT) (es : List Even
           by_test EvenAfter (holds now)
           (λ some. received_even (waiters senders p) refl some)
           (λ _. by_codes EvenAfter body_refusal Refused _ _ refl refused_by (λ _. by_codes EvenAfter body_refusal Refused _ _ refl refused_by (λ _.
-          let x = waiting_for (Receiving j) (later (At m.t) (time_of r.b)) (process (running p) p) in
+          let x = waiting_for (Receiving j) (later (Some m.t) (time_of r.b)) (process (running p) p) in
           let q = with_part (k - 1) (stored (running p) x p) m in
           record { is = waits_even (running p) x (caller_in (in_normal ctx p own_valid sound_ctx h.1.0)) (λ z. omega arith) 7 0 (on 7) (and-false (is_receive flow_is e)) (Fl.no_sent flow_is m e es q 7 to) (Fl.refused_received flow_is m e es q 7 0 refl) }))))
 
@@ -578,7 +578,7 @@ module _ (j : ℕ) (m : Module) (s : SoundModule m) (e : EventT) (es : List Even
         (both n 24 (number_of r.a) j)
 
 -- ---------------------------------------------------------------- every event
-module _ (k j : ℕ) (m : Module) (s : SoundModule m) (e : EventT) (es : List EventT) (some : 1 ≤ k) (inside : k - 1 < m.table.size) (known : Between 1 (own m k).bufferCount j) (none : NoneWaits (own m k)) (lasts : erases k m e ≡ false) where
+module _ (k j : ℕ) (m : Module) (s : SoundModule m) (e : EventT) (es : List EventT) (some : 1 ≤ k) (inside : k - 1 < m.table.size) (known : Between 1 (own m k).buffer_count j) (none : NoneWaits (own m k)) (lasts : erases k m e ≡ false) where
   event_even : Even k j m e es (step m e).state (step m e).answer.code (step m e).answer.value
   unfolding step
   event_even =
@@ -606,7 +606,7 @@ record Lasts (k j : ℕ) (es : List EventT) (m : Module) : Type 0 where
   reached : Reached m
   some : 1 ≤ k
   inside : k - 1 < m.table.size
-  known : Between 1 (own m k).bufferCount j
+  known : Between 1 (own m k).buffer_count j
   lasts : erased k m es ≡ false
 
 lasts_even : (k j : ℕ) (e : EventT) (es : List EventT) (m : Module) → Lasts k j (e ∷ es) m → Fl.Even (buffer_flow k j) m e es (next m e) (step m e).answer.code (step m e).answer.value × Lasts k j es (next m e)
@@ -621,12 +621,12 @@ lasts_even k j e es m h =
 record Begins (k j : ℕ) (m q : Module) : Type 0 where
   some : 1 ≤ k
   inside : k - 1 < m.table.size
-  known : Between 1 (own q k).bufferCount j
+  known : Between 1 (own q k).buffer_count j
   nothing : (buffer_flow k j).holds q ≡ []
   free : waiters (queue_number 3 j) (own q k) ≡ []
 
-created_at : (m : Module) → SoundModule m → (w j name limit k : ℕ) → k ≡ w → (w ≡ 0 → ⊥) → w - 1 < m.table.size → (own m w).bufferCount < buffer_limit → (own m w).bufferCount + 1 ≡ j
-    → Begins k j m (with_part (w - 1) (stored_buffer ((own m w).bufferCount + 1) (empty_buffer name limit) (own m w)) m)
+created_at : (m : Module) → SoundModule m → (w j name limit k : ℕ) → k ≡ w → (w ≡ 0 → ⊥) → w - 1 < m.table.size → (own m w).buffer_count < buffer_limit → (own m w).buffer_count + 1 ≡ j
+    → Begins k j m (with_part (w - 1) (stored_buffer ((own m w).buffer_count + 1) (empty_buffer name limit) (own m w)) m)
 created_at m s w j name limit k same some here room is =
     let old = own m w in
     let v = s.each_partition (w - 1) here in
@@ -674,7 +674,7 @@ module _ (m : Module) (s : SoundModule m) (k j : ℕ) (name limit : ℤ) where
     started_call : Started who (create_buffer (field name) (field limit) old)
     unfolding create_buffer Passed
     started_call = by_codes (Started who) (leb 1) Refused _ _ refl (λ n h. not_started who n (λ z. let u = leb-true 1 n h in omega arith)) (λ h.
-        record { is = λ _ e. created_at m s who j (number_of (field name)) (number_of (field limit)) k same_number c.some (place m s asked c) (leb-false buffer_limit old.bufferCount h.0) e })
+        record { is = λ _ e. created_at m s who j (number_of (field name)) (number_of (field limit)) k same_number c.some (place m s asked c) (leb-false buffer_limit old.buffer_count h.0) e })
 
   begins : (step m creates).answer.code ≡ 0 → (step m creates).answer.value ≡ j → Begins k j m (step m creates).state
   unfolding step

@@ -13,7 +13,7 @@ use Rattle.machine.specs.declared.Context.{Context}
 use Rattle.machine.specs.declared.Request.{Request}
 use Rattle.machine.specs.declared.Field.{Field}
 use Rattle.machine.specs.declared.Field.TheVariants.{Number, MinusOne, Other}
-use Rattle.machine.specs.declared.Time.{Time}
+use Rattle.machine.specs.Time.{Time}
 use Rattle.machine.specs.declared.Transfer.{Transfer}
 use Rattle.machine.specs.declared.Wait.TheVariants.{Semaphore, Event, Sending, Receiving, Blackboard}
 use Rattle.machine.specs.declared.Change.{Change}
@@ -39,7 +39,7 @@ pub data StoredBy (c : Context) (r : Request) (p : Partition) (j id : ℕ) (y : 
   marks : j ≡ 7 → id ≡ number_of r.a → (process id p).started ≡ true → (process id p).suspended ≡ false → y ≡ with_suspended true (process id p) → StoredBy c r p j id y
   resumes : j ≡ 11 → id ≡ number_of r.a → (process id p).started ≡ true → (process id p).suspended ≡ true → y ≡ resumed (process id p) → StoredBy c r p j id y
   prioritises : j ≡ 12 → id ≡ number_of r.a → (process id p).started ≡ true → 1 ≤ number_of r.b → y ≡ with_current (number_of r.b) (process id p) → StoredBy c r p j id y
-  serves : j ≡ 16 → Between 1 p.semaphoreCount (number_of r.a) → contains id (waiters (object (Semaphore (number_of r.a))) p) ≡ true → y ≡ served (process id p) → StoredBy c r p j id y
+  serves : j ≡ 16 → Between 1 p.semaphore_count (number_of r.a) → contains id (waiters (object (Semaphore (number_of r.a))) p) ≡ true → y ≡ served (process id p) → StoredBy c r p j id y
 
 -- the caller, of record x, stored with the record y, code 7: by which call, and what y is
 pub data BlockedBy (r : Request) (j : ℕ) (x y : Process) : Type 0 where
@@ -49,8 +49,8 @@ pub data BlockedBy (r : Request) (j : ℕ) (x y : Process) : Type 0 where
 
 -- the transfer of a buffer, by the call that makes it
 pub data TransferBy (r : Request) (p : Partition) (j k : ℕ) (a : Transfer) : Type 0 where
-  sends : j ≡ 24 → k ≡ number_of r.a → Between 1 p.bufferCount k → (m : ℕ) → a ≡ sent (first_waiter (object (Receiving k)) p) m → TransferBy r p j k a
-  receives : j ≡ 25 → k ≡ number_of r.a → Between 1 p.bufferCount k → (m : ℕ) → a ≡ received (first_waiter (object (Sending k 0)) p) m → TransferBy r p j k a
+  sends : j ≡ 24 → k ≡ number_of r.a → Between 1 p.buffer_count k → (m : ℕ) → a ≡ sent (first_waiter (object (Receiving k)) p) m → TransferBy r p j k a
+  receives : j ≡ 25 → k ≡ number_of r.a → Between 1 p.buffer_count k → (m : ℕ) → a ≡ received (first_waiter (object (Sending k 0)) p) m → TransferBy r p j k a
 
 -- a change of p by call j
 abbrev pub Makes : Context → Request → Partition → ℕ → Change → Type 0
@@ -63,8 +63,8 @@ Makes c r p j (StoredEvent k e) = Unit {0}
 Makes c r p j (CreatedBuffer k name limit) = Unit {0}
 Makes c r p j (Moved k a) = TransferBy r p j k a
 Makes c r p j (StoredBlackboard k b) = Unit {0}
-Makes c r p j (Ended o) = (j ≡ 18) × (o ≡ object (Event (number_of r.a))) × Between 1 p.eventCount (number_of r.a)
-Makes c r p j (Handed o m) = (j ≡ 27) × (o ≡ object (Blackboard (number_of r.a))) × Between 1 p.blackboardCount (number_of r.a)
+Makes c r p j (Ended o) = (j ≡ 18) × (o ≡ object (Event (number_of r.a))) × Between 1 p.event_count (number_of r.a)
+Makes c r p j (Handed o m) = (j ≡ 27) × (o ≡ object (Blackboard (number_of r.a))) × Between 1 p.blackboard_count (number_of r.a)
 Makes c r p j (LevelSet level holder) = Unit {0}
 Makes c r p j (Entered d) = (j ≡ 1) × (is_number 3 r.a ≡ true)
 
@@ -142,7 +142,7 @@ pub live : (y : Process) → (not y.started || periodic y) ≡ false → y.start
 live y h = not-false y.started (or_left (not y.started) (periodic y) h)
 
 module _ (c : Context) (r : Request) (p : Partition) where
-  pub signals : Between 1 p.semaphoreCount (number_of r.a) → (l : List ℕ) → waiters (object (Semaphore (number_of r.a))) p ≡ l → let a = signalled l (number_of r.a) p in Makes c r p 16 a × (last_of a ≡ 0)
+  pub signals : Between 1 p.semaphore_count (number_of r.a) → (l : List ℕ) → waiters (object (Semaphore (number_of r.a))) p ≡ l → let a = signalled l (number_of r.a) p in Makes c r p 16 a × (last_of a ≡ 0)
   unfolding signalled contains
   signals b [] e = (tt, refl)
   signals b (id ∷ l) e = (serves refl b (rw (e, eq-eqb id id refl)) refl, refl)

@@ -198,10 +198,10 @@ destination_some x q = in_place partition_limit x.destination (and_right (within
 
 module _ (T : Table) (S : ℕ → Bool) (closed : Closed T S) where
   -- a queuing channel has both ends in S or neither, and a channel into S has its source in S
-  pub ends : (i : ℕ) → i < T.channelCount → queuing (channel T i) ≡ true → S (channel T i).source ≡ S (channel T i).destination
+  pub ends : (i : ℕ) → i < T.channel_count → queuing (channel T i) ≡ true → S (channel T i).source ≡ S (channel T i).destination
   ends i l q = rw q at (closed i l)
 
-  pub source_in : (i : ℕ) → i < T.channelCount → S (channel T i).destination ≡ true → S (channel T i).source ≡ true
+  pub source_in : (i : ℕ) → i < T.channel_count → S (channel T i).destination ≡ true → S (channel T i).source ≡ true
   source_in i l s = either (queuing (channel T i)) (λ q. ends i l q ∙ s) (λ q. (rw q at (closed i l)) s)
 
   -- a channel of the table that is queuing and leads into partition k
@@ -209,7 +209,7 @@ module _ (T : Table) (S : ℕ → Bool) (closed : Closed T S) where
   fills k i U = queuing_at U i && leads_into k (channel U i)
 
   -- one queue filled anew: in S with the senders' partition, or all of it unseen
-  refill_at_both : (i : ℕ) (m n : Module) → Agree T S m n → i < T.channelCount → queuing (channel T i) ≡ true → Agree T S (refilled_at i m) (refilled_at i n)
+  refill_at_both : (i : ℕ) (m n : Module) → Agree T S m n → i < T.channel_count → queuing (channel T i) ≡ true → Agree T S (refilled_at i m) (refilled_at i n)
   refill_at_both i m n a l q =
       let x = channel m.table i in
       let j = x.source - 1 in
@@ -234,7 +234,7 @@ module _ (T : Table) (S : ℕ → Bool) (closed : Closed T S) where
       (λ t.
       let w : fills k c T ≡ true = ap (fills k c) (sym h.left) ∙ t in
       let g = and_left (queuing_at T c) _ w in
-      refill_at_both c u v h (ltb-true c T.channelCount (and_left (ltb c T.channelCount) _ g)) (and_right (ltb c T.channelCount) _ g))
+      refill_at_both c u v h (ltb-true c T.channel_count (and_left (ltb c T.channel_count) _ g)) (and_right (ltb c T.channel_count) _ g))
       (λ _. h)
 
   pub refill_free : (k c : ℕ) (m n : Module) → Agree T S m n → S k ≡ false → Agree T S (refilled_to k c m) n
@@ -248,8 +248,8 @@ module _ (T : Table) (S : ℕ → Bool) (closed : Closed T S) where
       (λ t.
       let w : fills k c T ≡ true = ap (fills k c) (sym h.left) ∙ t in
       let g = and_left (queuing_at T c) _ w in
-      let q = and_right (ltb c T.channelCount) _ g in
+      let q = and_right (ltb c T.channel_count) _ g in
       let d : S x.destination ≡ false = ap S (eqb-true _ _ (and_right (queuing_at T c) _ w)) ∙ f in
-      let e : S (suc (x.source - 1)) ≡ false = ap S (source_some x q) ∙ ends c (ltb-true c T.channelCount (and_left (ltb c T.channelCount) _ g)) q ∙ d in
+      let e : S (suc (x.source - 1)) ≡ false = ap S (source_some x q) ∙ ends c (ltb-true c T.channel_count (and_left (ltb c T.channel_count) _ g)) q ∙ d in
       part_free T S _ n _ _ (queue_free T S u n c _ h d) (ap (λ (U : Table). S (suc ((channel U c).source - 1))) h.left ∙ e))
       (λ _. h)

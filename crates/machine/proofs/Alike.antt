@@ -13,8 +13,8 @@ use Rattle.machine.specs.declared.Context.{Context}
 use Rattle.machine.specs.declared.Change.{Change}
 use Rattle.machine.specs.declared.Change.TheVariants.{Nothing, Stored, Created, Last, StoredSemaphore, StoredEvent, CreatedBuffer, Moved, StoredBlackboard, Ended, Handed, LevelSet, Entered}
 use Rattle.machine.specs.declared.Wait.TheVariants.{Normal}
-use Rattle.machine.specs.declared.Time.{Time}
-use Rattle.machine.specs.declared.Time.TheVariants.{Never, At}
+use Rattle.machine.specs.Time.{Time}
+use Rattle.std.specs.Prelude.{None, Some}
 use Rattle.machine.specs.Limits.{process_limit, semaphore_limit, event_limit, buffer_limit, blackboard_limit}
 use Rattle.machine.specs.Process.{blank_process, is_never, object, periodic, start_rule, waits_for_normal, entered, with_suspended, with_current}
 use Rattle.machine.specs.Partition.{within, by_id, process, arrived_last, stored_semaphore, stored_event, stored_buffer, stored_blackboard, empty_buffer, waiters, applied}
@@ -93,12 +93,12 @@ pub alike_waiters : (p q : Partition) → Alike p q → (o : ℕ) → waiters o 
 alike_waiters p q a o = same_queue o p q a.waiting (λ y. ap (λ (x : Process). object x.wait) (alike_process p q a y))
 
 -- where no process has been created stands a blank one
-pub not_created : (p : Partition) → ListedIn p → (id : ℕ) → contains id (ids_from p.processCount 1) ≡ false → process id p ≡ blank_process
+pub not_created : (p : Partition) → ListedIn p → (id : ℕ) → contains id (ids_from p.process_count 1) ≡ false → process id p ≡ blank_process
 not_created p v id h = either (within process_limit id)
     (λ e. ⊎_elim
-    (λ (out : p.processCount < id). v.numbered.past id out)
-    (λ (few : id ≤ p.processCount). not_both _ (from_has p.processCount 1 id (within_out process_limit id e).0 (omega arith)) h)
-    (either (ltb p.processCount id) (λ t. inl (ltb-true _ _ t)) (λ t. inr (ltb-false _ _ t))))
+    (λ (out : p.process_count < id). v.numbered.past id out)
+    (λ (few : id ≤ p.process_count). not_both _ (from_has p.process_count 1 id (within_out process_limit id e).0 (omega arith)) h)
+    (either (ltb p.process_count id) (λ t. inl (ltb-true _ _ t)) (λ t. inr (ltb-false _ _ t))))
     (λ e. named_out process_limit id blank_process p.processes e)
 
 -- ---------------------------------------------------------------- the start rule
@@ -108,8 +108,8 @@ pub record Begun (x y : Process) (n : ℕ) (mark : Bool) : Type 0 where
   pub wait : StartWait x y.wait
 
 periodic_at_holds : (a : Time) (b : Bool) → not (is_never a) ≡ b → periodic_at a ≡ b
-periodic_at_holds Never b e = e
-periodic_at_holds (At n) b e = e
+periodic_at_holds None b e = e
+periodic_at_holds (Some n) b e = e
 
 pub starts_as : (c : Context) (delay : ℕ) (x : Process) → Begun x (start_rule c delay x) x.given.base false
 unfolding start_rule

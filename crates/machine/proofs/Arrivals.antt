@@ -190,16 +190,16 @@ module _ (m : Module) (h : Reached m) (e : EventT) (k : ℕ) (b : Between 1 m.ta
   }
 
   -- by ascending id
-  ticked_arrival : e.partition ≡ pos 0 → (step m e).answer.code ≡ 0 → let q = own (step m e).state k in members q.arrival ≡ kept (ready_in q) (members (own m k).arrival) ++ kept (becomes_ready (own m k) q) (ids_from (own m k).processCount 1)
+  ticked_arrival : e.partition ≡ pos 0 → (step m e).answer.code ≡ 0 → let q = own (step m e).state k in members q.arrival ≡ kept (ready_in q) (members (own m k).arrival) ++ kept (becomes_ready (own m k) q) (ids_from (own m k).process_count 1)
   unfolding tick_partition
   ticked_arrival by z =
       let p = own m k in
       let v = (sound_here.each_partition (k - 1) (omega (arith, b.0, b.1))).lists in
       let is = ap (λ (u : Module). own u k) (tick_state m e by z) ∙ ticked_part m sound_here k b in
-      subst (λ (q : Partition). members q.arrival ≡ kept (ready_in q) (members p.arrival) ++ kept (becomes_ready p q) (ids_from p.processCount 1)) (sym is)
-      (by_test (λ (q : Partition). members q.arrival ≡ kept (ready_in q) (members p.arrival) ++ kept (becomes_ready p q) (ids_from p.processCount 1)) (normal_mode p)
-      (λ _. rw (each_changed (ticked (m.t + 1)) p.processCount 1 p) (arrive_all (ticked (m.t + 1)) (ids_from p.processCount 1) p v (λ y t. let b = from_range p.processCount 1 y t in (b.0, omega arith)) (distinct_from p.processCount 1)))
-      (λ _. sym (kept_ready p v) ∙ ap (λ (l : List ℕ). kept (ready_in p) (members p.arrival) ++ l) (sym (kept_no (becomes_ready p p) (ids_from p.processCount 1) (λ y _. never (ready_in p y))))))
+      subst (λ (q : Partition). members q.arrival ≡ kept (ready_in q) (members p.arrival) ++ kept (becomes_ready p q) (ids_from p.process_count 1)) (sym is)
+      (by_test (λ (q : Partition). members q.arrival ≡ kept (ready_in q) (members p.arrival) ++ kept (becomes_ready p q) (ids_from p.process_count 1)) (normal_mode p)
+      (λ _. rw (each_changed (ticked (m.t + 1)) p.process_count 1 p) (arrive_all (ticked (m.t + 1)) (ids_from p.process_count 1) p v (λ y t. let b = from_range p.process_count 1 y t in (b.0, omega arith)) (distinct_from p.process_count 1)))
+      (λ _. sym (kept_ready p v) ∙ ap (λ (l : List ℕ). kept (ready_in p) (members p.arrival) ++ l) (sym (kept_no (becomes_ready p p) (ids_from p.process_count 1) (λ y _. never (ready_in p y))))))
     where
       never : (t : Bool) → (t && not t) ≡ false
       never true = refl

@@ -69,15 +69,15 @@ kept_ready q v = append-nil _ ∙ kept_all (ready_in q) (members q.arrival) (λ 
 pub keeps_same : (p q : Partition) → ListedIn q → q.arrival ≡ p.arrival → Keeps p q
 keeps_same p q v e = record { joined = []; order = sym (kept_ready q v) ∙ ap (λ (a : Ids). kept (ready_in q) (members a) ++ []) e }
 
-pub keeps_all : (f : Process → Process) (l : List ℕ) (p : Partition) → ListedIn p → AllCreated l p.processCount → Distinct l → Keeps p (changed_all f l p)
+pub keeps_all : (f : Process → Process) (l : List ℕ) (p : Partition) → ListedIn p → AllCreated l p.process_count → Distinct l → Keeps p (changed_all f l p)
 keeps_all f l p v all dis = record { joined = _; order = arrive_all f l p v all dis }
 
-pub keeps_one : (id : ℕ) (x : Process) (p : Partition) → ListedIn p → Between 1 p.processCount id → Keeps p (stored id x p)
+pub keeps_one : (id : ℕ) (x : Process) (p : Partition) → ListedIn p → Between 1 p.process_count id → Keeps p (stored id x p)
 unfolding changed_all contains Distinct
-keeps_one id x p v b = keeps_all (λ _. x) (id ∷ []) p v (λ y c. subst (Between 1 p.processCount) (eqb-true id y (sym (or-false (eqb id y)) ∙ c)) b) (refl, tt)
+keeps_one id x p v b = keeps_all (λ _. x) (id ∷ []) p v (λ y c. subst (Between 1 p.process_count) (eqb-true id y (sym (or-false (eqb id y)) ∙ c)) b) (refl, tt)
 
 pub keeps_each : (f : Process → Process) (p : Partition) → ListedIn p → Keeps p (each f p)
-keeps_each f p v = rw (each_changed f p.processCount 1 p) (keeps_all f (ids_from p.processCount 1) p v (λ y t. let b = from_range p.processCount 1 y t in (b.0, omega arith)) (distinct_from p.processCount 1))
+keeps_each f p v = rw (each_changed f p.process_count 1 p) (keeps_all f (ids_from p.process_count 1) p v (λ y t. let b = from_range p.process_count 1 y t in (b.0, omega arith)) (distinct_from p.process_count 1))
 
 -- from a partition with the same list
 pub keeps_from : (p p' q : Partition) → p'.arrival ≡ p.arrival → Keeps p' q → Keeps p q

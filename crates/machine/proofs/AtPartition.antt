@@ -59,7 +59,7 @@ module _ (m : Module) (s : SoundModule m) (e : EventT) (q : Calls m (request_of 
   made_acts =
       let h = number_of (request_of e).partition in
       (call_acts (context_of m h) (port_of m h (request_of e)) (number_of (request_of e).call) (request_of e) (part m (h - 1))
-      (λ there. let w = in_limits 1 m.table.channelCount (request_of e).a there in omega (arith, w.0))).is
+      (λ there. let w = in_limits 1 m.table.channel_count (request_of e).a there in omega (arith, w.0))).is
 
 pub ticked_part : (m : Module) → SoundModule m → (k : ℕ) → Between 1 m.table.size k → own (tick_module m) k ≡ tick_partition (m.t + 1) (own m k)
 ticked_part m s k b = tick_each m s (k - 1) (omega (arith, b.0, b.1))
@@ -94,7 +94,7 @@ module _ (m : Module) (s : SoundModule m) (e : EventT) (k : ℕ) (b : Between 1 
     -- modes 0, 1 and 2 of this partition, and of another, whose channels let in the first who wait at their sources
     pub erased : e.partition ≡ pos k → e.call ≡ pos 1 → (mode : ℕ) → mode ≤ 2 → e.a ≡ pos mode → Is 0 (nothing_created mode)
     pub left_first : Left p
-    pub left_next : e.call ≡ pos 1 → (mode : ℕ) → mode ≤ 2 → e.a ≡ pos mode → (i : ℕ) → i < m.table.channelCount → e.partition ≡ pos (channel m.table i).destination → k ≡ (channel m.table i).source
+    pub left_next : e.call ≡ pos 1 → (mode : ℕ) → mode ≤ 2 → e.a ≡ pos mode → (i : ℕ) → i < m.table.channel_count → e.partition ≡ pos (channel m.table i).destination → k ≡ (channel m.table i).source
         → (size frame t : ℕ) (o : Partition) → Valid frame t o → Left o → Left (changed_all served (take size (waiters (object (Source (i + 1) 0)) o)) o)
     pub left_last : (h : ℕ) → e.partition ≡ pos h → (h ≡ k → ⊥) → (h ≡ 0 → ⊥) → e.call ≡ pos 1 → (o : Partition) → Left o → Is 0 o
     -- a transfer on a channel, at whose other end this partition is
@@ -167,7 +167,7 @@ module _ (m : Module) (s : SoundModule m) (e : EventT) (k : ℕ) (b : Between 1 
           let w = on_queue_holds m s asks q i a v g in
           let h = s.table.each_channel i w.there in
           let end : Between 1 m.table.size (other_end from c) = by_test (Between 1 m.table.size) (eqb c.source from) (λ _. h.destination) (λ _. h.source) in
-          let known = in_limits 1 m.table.channelCount asks.a g.there in
+          let known = in_limits 1 m.table.channel_count asks.a g.there in
           let none : Is 0 p = f.quiet from number by q.some call (⊎_elim (λ (d : Sends (port_of m from asks) number a v). rw d.call) (λ (d : Receives (port_of m from asks) number a v). rw d.call) g.end) in
           by_test (λ (u : Module). Is 0 (part u (k - 1))) (ends_wait a)
           (λ _. puts 0 (with_queue i (moved a (queue m i)) m) refl j w.inside (λ _. none) (ended_by a (part m j)) (λ z.

@@ -26,12 +26,12 @@ unfolding services create_blackboard Passed
 create_blackboard_holds = laws (λ _ _ _ _ _ _. refl) λ c x r p. checks _ _ refl (λ h. record {
   codes = (refl, refl);
   sound = λ _ _ _.
-      let room = leb-false blackboard_limit p.blackboardCount h.0 in
+      let room = leb-false blackboard_limit p.blackboard_count h.0 in
       ((((omega arith, omega arith), omega arith), record { name = in_limits 1 name_limit r.a (not-false _ h.1.1.0); message = omega arith; blank = λ _. refl }), tt, omega arith);
   order = (tt, tt);
   fair = λ v k kind i t. ⊎_elim inl (λ y. not_both _ y.2 refl) (blackboard_available c.frame c.time p v kind i _ _ t);
   calm = λ _ _ _ _ _. (tt, tt);
-  stores = λ v. ((inr (refl, free_name (λ (x : BlackboardT). x.name) no_blackboard blackboard_limit p.blackboardCount p.blackboards v.objects.blackboards.numbered r.a h.1.0 (not-false _ h.1.1.0)), λ low. absurd (omega arith)), tt);
+  stores = λ v. ((inr (refl, free_name (λ (x : BlackboardT). x.name) no_blackboard blackboard_limit p.blackboard_count p.blackboards v.objects.blackboards.numbered r.a h.1.0 (not-false _ h.1.1.0)), λ low. absurd (omega arith)), tt);
   acts = λ _. (tt, tt, refl, refl, (refl, refl));
 })
 
@@ -40,7 +40,7 @@ unfolding services show Passed
 show_call = laws (λ _ _ _ _ _ _. refl) λ c x r p. checks _ _ refl (λ h.
     let i = number_of r.a in
     let m = number_of r.b in
-    let b = known_id i p.blackboardCount h.0 in
+    let b = known_id i p.blackboard_count h.0 in
     record {
       codes = (refl, refl);
       sound = λ v k _.
@@ -61,9 +61,9 @@ unfolding services read_blackboard Passed
 read_blackboard_holds = laws (λ _ c u x r p. waits_unseen c u _ _ _ _ _ _ _ p) λ c x r p.
     let i = number_of r.a in
     waits _ _ _ _ _ _ (Blackboard i) 5 i 0 refl
-    (λ h _ _. answers refl (λ v _ _. (omega (arith, (v.objects.blackboards.each i (known_id i p.blackboardCount h.0)).message), omega arith)))
+    (λ h _ _. answers refl (λ v _ _. (omega (arith, (v.objects.blackboards.each i (known_id i p.blackboard_count h.0)).message), omega arith)))
     (λ h _ e.
-    let b = known_id i p.blackboardCount h.0 in
+    let b = known_id i p.blackboard_count h.0 in
     record {
       class = refl;
       known = (b, omega arith);
@@ -77,10 +77,10 @@ pub clear_call : Laws 29
 unfolding services clear Passed
 clear_call = laws (λ _ _ _ _ _ _. refl) λ c x r p. checks _ _ refl (λ h. let i = number_of r.a in record {
   codes = (refl, refl);
-  sound = λ v k _. (blackboard_known c p v k i (known_id i p.blackboardCount h.0) false 0 (omega arith) (λ _. refl), tt, omega arith);
+  sound = λ v k _. (blackboard_known c p v k i (known_id i p.blackboard_count h.0) false 0 (omega arith) (λ _. refl), tt, omega arith);
   order = (tt, tt);
   fair = λ v k kind j t. ⊎_elim inl (λ y. not_both _ y.2 refl) (blackboard_available c.frame c.time p v kind j i _ t);
   calm = λ _ _ _ _ _. (tt, tt);
-  stores = λ _. ((inl (known_id i p.blackboardCount h.0, refl), λ _. (inr refl, refl)), tt);
+  stores = λ _. ((inl (known_id i p.blackboard_count h.0, refl), λ _. (inr refl, refl)), tt);
   acts = λ _. (tt, tt, refl, refl, (refl, refl));
 })

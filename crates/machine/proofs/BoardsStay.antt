@@ -44,29 +44,29 @@ use Rattle.machine.proofs.Sampling.{done_so}
 -- ---------------------------------------------------------------- what leaves events and blackboards
 -- those that exist stay, but for the one that a call 18 or 19, 27 or 29 names
 record Left (n : ℕ) (r : Request) (p q : Partition) : Type 0 where
-  eventCount : p.eventCount ≤ q.eventCount
-  board_count : p.blackboardCount ≤ q.blackboardCount
-  events : (j : ℕ) → j ≤ p.eventCount → ((n ≡ 18) ⊎ (n ≡ 19) → j ≡ number_of r.a → ⊥) → event j q ≡ event j p
-  boards : (j : ℕ) → j ≤ p.blackboardCount → ((n ≡ 27) ⊎ (n ≡ 29) → j ≡ number_of r.a → ⊥) → blackboard j q ≡ blackboard j p
+  event_count : p.event_count ≤ q.event_count
+  board_count : p.blackboard_count ≤ q.blackboard_count
+  events : (j : ℕ) → j ≤ p.event_count → ((n ≡ 18) ⊎ (n ≡ 19) → j ≡ number_of r.a → ⊥) → event j q ≡ event j p
+  boards : (j : ℕ) → j ≤ p.blackboard_count → ((n ≡ 27) ⊎ (n ≡ 29) → j ≡ number_of r.a → ⊥) → blackboard j q ≡ blackboard j p
 
 module _ (n : ℕ) (r : Request) where
   -- where both lists and their counts are as they were
-  same_left : (p q : Partition) → q.events ≡ p.events → q.eventCount ≡ p.eventCount → q.blackboards ≡ p.blackboards → q.blackboardCount ≡ p.blackboardCount → Left n r p q
-  same_left p q a b c d = record { eventCount = omega arith; board_count = omega arith; events = λ j _ _. rw a; boards = λ j _ _. rw c }
+  same_left : (p q : Partition) → q.events ≡ p.events → q.event_count ≡ p.event_count → q.blackboards ≡ p.blackboards → q.blackboard_count ≡ p.blackboard_count → Left n r p q
+  same_left p q a b c d = record { event_count = omega arith; board_count = omega arith; events = λ j _ _. rw a; boards = λ j _ _. rw c }
 
   rest_left : (p q : Partition) → Rest p q → Left n r p q
-  rest_left p q e = same_left p q (ap (λ (x : Partition). x.events) e) (ap (λ (x : Partition). x.eventCount) e) (ap (λ (x : Partition). x.blackboards) e) (ap (λ (x : Partition). x.blackboardCount) e)
+  rest_left p q e = same_left p q (ap (λ (x : Partition). x.events) e) (ap (λ (x : Partition). x.event_count) e) (ap (λ (x : Partition). x.blackboards) e) (ap (λ (x : Partition). x.blackboard_count) e)
 
   left_along : (p q s : Partition) → Left n r p q → Left n r q s → Left n r p s
   left_along p q s f g = record {
-    eventCount = omega (arith, f.eventCount, g.eventCount);
+    event_count = omega (arith, f.event_count, g.event_count);
     board_count = omega (arith, f.board_count, g.board_count);
-    events = λ j l h. g.events j (omega (arith, f.eventCount)) h ∙ f.events j l h;
+    events = λ j l h. g.events j (omega (arith, f.event_count)) h ∙ f.events j l h;
     boards = λ j l h. g.boards j (omega (arith, f.board_count)) h ∙ f.boards j l h;
   }
 
   each_left : (f : Process → Process) (p : Partition) → Left n r p (each f p)
-  each_left f p = rw (each_changed f p.processCount 1 p) (rest_left p _ (changed_rest f _ p))
+  each_left f p = rw (each_changed f p.process_count 1 p) (rest_left p _ (changed_rest f _ p))
 
   ended_left : (a : Transfer) (p : Partition) → Left n r p (ended_by a p)
   ended_left (Put m) p = same_left p p refl refl refl refl
@@ -87,7 +87,7 @@ module _ (n : ℕ) (r : Request) where
   change_left p (StoredSemaphore k s) h = by_test (Left n r p) (within semaphore_limit k) (λ _. same_left p _ refl refl refl refl) (λ _. same_left p p refl refl refl refl)
   change_left p (StoredEvent k s) h = either (within event_limit k)
       (λ e. rw (event_in k s p e) (record {
-        eventCount = omega arith;
+        event_count = omega arith;
         board_count = omega arith;
         events = λ j l none. named_other event_limit no_event k s p.events (within_out event_limit k e).0 j (λ z. let g = h.1 (rw z at l) in none g.0 (z ∙ g.1));
         boards = λ j _ _. refl;
@@ -99,7 +99,7 @@ module _ (n : ℕ) (r : Request) where
       left_along p q _ (by_test (Left n r p) (within buffer_limit k) (λ _. same_left p _ refl refl refl refl) (λ _. same_left p p refl refl refl refl)) (ended_left a q)
   change_left p (StoredBlackboard k s) h = either (within blackboard_limit k)
       (λ e. rw (blackboard_in k s p e) (record {
-        eventCount = omega arith;
+        event_count = omega arith;
         board_count = omega arith;
         events = λ j _ _. refl;
         boards = λ j l none. named_other blackboard_limit no_blackboard k s p.blackboards (within_out blackboard_limit k e).0 j (λ z. let g = h.1 (rw z at l) in none g.0 (z ∙ g.1));
@@ -117,10 +117,10 @@ module _ (m : Module) (e : EventT) where
 
   -- those of partition k that exist stay, but for the one of which the event is an accepted 18 or 19, 27 or 29
   pub record LeftBy (k : ℕ) (p q : Partition) : Type 0 where
-    pub eventCount : p.eventCount ≤ q.eventCount
-    pub board_count : p.blackboardCount ≤ q.blackboardCount
-    pub events : (j : ℕ) → Between 1 p.eventCount j → done k 18 j here ≡ false → done k 19 j here ≡ false → event j q ≡ event j p
-    pub boards : (j : ℕ) → Between 1 p.blackboardCount j → done k 27 j here ≡ false → done k 29 j here ≡ false → blackboard j q ≡ blackboard j p
+    pub event_count : p.event_count ≤ q.event_count
+    pub board_count : p.blackboard_count ≤ q.blackboard_count
+    pub events : (j : ℕ) → Between 1 p.event_count j → done k 18 j here ≡ false → done k 19 j here ≡ false → event j q ≡ event j p
+    pub boards : (j : ℕ) → Between 1 p.blackboard_count j → done k 27 j here ≡ false → done k 29 j here ≡ false → blackboard j q ≡ blackboard j p
 
   -- no call of the partition's own
   none : (a b : ℕ) → 1 ≤ a → 1 ≤ b → {X : Type 0} → (0 ≡ a) ⊎ (0 ≡ b) → X
@@ -128,14 +128,14 @@ module _ (m : Module) (e : EventT) where
 
   by_along : (k : ℕ) (p q s : Partition) → LeftBy k p q → Left 0 (request_of e) q s → LeftBy k p s
   by_along k p q s f g = record {
-    eventCount = omega (arith, f.eventCount, g.eventCount);
+    event_count = omega (arith, f.event_count, g.event_count);
     board_count = omega (arith, f.board_count, g.board_count);
-    events = λ j b x y. g.events j (omega (arith, b.1, f.eventCount)) (none 18 19 (omega arith) (omega arith)) ∙ f.events j b x y;
+    events = λ j b x y. g.events j (omega (arith, b.1, f.event_count)) (none 18 19 (omega arith) (omega arith)) ∙ f.events j b x y;
     boards = λ j b x y. g.boards j (omega (arith, b.1, f.board_count)) (none 27 29 (omega arith) (omega arith)) ∙ f.boards j b x y;
   }
 
   by_same : (k : ℕ) (p : Partition) → LeftBy k p p
-  by_same k p = record { eventCount = omega arith; board_count = omega arith; events = λ _ _ _ _. refl; boards = λ _ _ _ _. refl }
+  by_same k p = record { event_count = omega arith; board_count = omega arith; events = λ _ _ _ _. refl; boards = λ _ _ _ _. refl }
 
   by_left : (k : ℕ) (p q : Partition) → Left 0 (request_of e) p q → LeftBy k p q
   by_left k p q g = by_along k p p q (by_same k p) g
@@ -156,7 +156,7 @@ module _ (m : Module) (e : EventT) where
 
     own_left : (q : Partition) → code_at m e ≡ 0 → Left (number_of r.call) r p q → LeftBy (k - 1 + 1) p q
     own_left q z g = record {
-      eventCount = g.eventCount;
+      event_count = g.event_count;
       board_count = g.board_count;
       events = λ j b x y. g.events j b.1 (λ w at. ⊎_elim (λ (i : number_of r.call ≡ 18). not_both _ (told z 18 j b.0 i at) x) (λ (i : number_of r.call ≡ 19). not_both _ (told z 19 j b.0 i at) y) w);
       boards = λ j b x y. g.boards j b.1 (λ w at. ⊎_elim (λ (i : number_of r.call ≡ 27). not_both _ (told z 27 j b.0 i at) x) (λ (i : number_of r.call ≡ 29). not_both _ (told z 29 j b.0 i at) y) w);

@@ -125,7 +125,7 @@ module _ {A : Type 0} (limit : ℕ) (d : A) (id : ℕ) (a : A) (l : List A) (lo 
 
 -- ---------------------------------------------------------------- what a partition's stores do
 module _ (id : ℕ) (x : Process) (p : Partition) where
-  pub stored_in : within process_limit id ≡ true → stored id x p ≡ (let old = get_or p.processes (id - 1) blank_process in with_processes (set p.processes (id - 1) x) p.processCount (follow (ready old) (ready x) id p.arrival) (follow (on_object old) (on_object x) id p.waiting) p)
+  pub stored_in : within process_limit id ≡ true → stored id x p ≡ (let old = get_or p.processes (id - 1) blank_process in with_processes (set p.processes (id - 1) x) p.process_count (follow (ready old) (ready x) id p.arrival) (follow (on_object old) (on_object x) id p.waiting) p)
   unfolding stored
   stored_in h = rw (replaced_in process_limit id x p.processes h, named_in process_limit id blank_process p.processes h, h)
 
@@ -133,7 +133,7 @@ module _ (id : ℕ) (x : Process) (p : Partition) where
   unfolding stored
   stored_out h = rw h
 
-  pub created_in : within process_limit id ≡ true → created id x p ≡ with_processes (set p.processes (id - 1) x) (max p.processCount id) p.arrival p.waiting p
+  pub created_in : within process_limit id ≡ true → created id x p ≡ with_processes (set p.processes (id - 1) x) (max p.process_count id) p.arrival p.waiting p
   unfolding created replaced
   created_in h = rw h
 
@@ -142,7 +142,7 @@ module _ (id : ℕ) (x : Process) (p : Partition) where
   created_out h = rw h
 
 module _ (k : ℕ) (s : SemaphoreT) (p : Partition) where
-  pub semaphore_in : within semaphore_limit k ≡ true → stored_semaphore k s p ≡ with_semaphores (set p.semaphores (k - 1) s) (max p.semaphoreCount k) p
+  pub semaphore_in : within semaphore_limit k ≡ true → stored_semaphore k s p ≡ with_semaphores (set p.semaphores (k - 1) s) (max p.semaphore_count k) p
   unfolding stored_semaphore replaced
   semaphore_in h = rw h
 
@@ -151,7 +151,7 @@ module _ (k : ℕ) (s : SemaphoreT) (p : Partition) where
   semaphore_out h = rw h
 
 module _ (k : ℕ) (e : EventState) (p : Partition) where
-  pub event_in : within event_limit k ≡ true → stored_event k e p ≡ with_events (set p.events (k - 1) e) (max p.eventCount k) p
+  pub event_in : within event_limit k ≡ true → stored_event k e p ≡ with_events (set p.events (k - 1) e) (max p.event_count k) p
   unfolding stored_event replaced
   event_in h = rw h
 
@@ -160,7 +160,7 @@ module _ (k : ℕ) (e : EventState) (p : Partition) where
   event_out h = rw h
 
 module _ (k : ℕ) (b : Buffer) (p : Partition) where
-  pub buffer_in : within buffer_limit k ≡ true → stored_buffer k b p ≡ with_buffers (set p.buffers (k - 1) b) (max p.bufferCount k) p
+  pub buffer_in : within buffer_limit k ≡ true → stored_buffer k b p ≡ with_buffers (set p.buffers (k - 1) b) (max p.buffer_count k) p
   unfolding stored_buffer replaced
   buffer_in h = rw h
 
@@ -169,7 +169,7 @@ module _ (k : ℕ) (b : Buffer) (p : Partition) where
   buffer_out h = rw h
 
 module _ (k : ℕ) (b : BlackboardT) (p : Partition) where
-  pub blackboard_in : within blackboard_limit k ≡ true → stored_blackboard k b p ≡ with_blackboards (set p.blackboards (k - 1) b) (max p.blackboardCount k) p
+  pub blackboard_in : within blackboard_limit k ≡ true → stored_blackboard k b p ≡ with_blackboards (set p.blackboards (k - 1) b) (max p.blackboard_count k) p
   unfolding stored_blackboard replaced
   blackboard_in h = rw h
 

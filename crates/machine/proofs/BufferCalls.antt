@@ -31,7 +31,7 @@ use Rattle.machine.proofs.Stores.{free_name}
 pub create_buffer_holds : Laws 23
 unfolding services create_buffer Passed AllMessages
 create_buffer_holds = laws (λ _ _ _ _ _ _. refl) λ c x r p. checks _ _ refl (λ h.
-    let room = leb-false buffer_limit p.bufferCount h.0 in
+    let room = leb-false buffer_limit p.buffer_count h.0 in
     record {
       codes = (refl, refl);
       sound = λ _ _ _.
@@ -43,11 +43,11 @@ create_buffer_holds = laws (λ _ _ _ _ _ _. refl) λ c x r p. checks _ _ refl (�
       order = (tt, tt);
       fair = λ v k kind i t. ⊎_elim inl
           (⊎_elim
-          (λ y. inr (rw (y.0, y.1) (buffer_queue p v.lists (queue_number 3 (p.bufferCount + 1)) (λ z. omega arith) (p.bufferCount + 1) _ ∙ created_free c p v k x 23 3 p.bufferCount _ (omega arith) (omega arith) refl refl)))
+          (λ y. inr (rw (y.0, y.1) (buffer_queue p v.lists (queue_number 3 (p.buffer_count + 1)) (λ z. omega arith) (p.buffer_count + 1) _ ∙ created_free c p v k x 23 3 p.buffer_count _ (omega arith) (omega arith) refl refl)))
           (λ y. not_both _ y.2 refl))
           (buffer_available c.frame c.time p v kind i _ _ t);
       calm = λ _ _ _ _ a. (λ e z. a.there e (omega arith), tt);
-      stores = λ v. ((refl, free_name (λ (x : Buffer). x.name) no_buffer buffer_limit p.bufferCount p.buffers v.objects.buffers.numbered r.a h.1.0 (and_left (is_name r.a) _ (not-false _ h.1.1.0))), tt);
+      stores = λ v. ((refl, free_name (λ (x : Buffer). x.name) no_buffer buffer_limit p.buffer_count p.buffers v.objects.buffers.numbered r.a h.1.0 (and_left (is_name r.a) _ (not-false _ h.1.1.0))), tt);
       acts = λ _. (tt, tt, refl, refl, (refl, refl));
     })
 
@@ -59,7 +59,7 @@ send_buffer_holds = laws (λ _ c u x r p. waits_unseen c u _ _ _ _ _ _ _ p) λ c
     let few : is_message r.b ≡ true → m ≤ duration_limit = λ g. (in_limits 0 duration_limit r.b g).1 in
     waits _ _ _ _ _ _ (Sending i m) 3 i m refl
     (λ h g e.
-    let b = known_id i p.bufferCount h.0 in
+    let b = known_id i p.buffer_count h.0 in
     record {
       codes = (refl, refl);
       sound = λ v k _.
@@ -74,7 +74,7 @@ send_buffer_holds = laws (λ _ c u x r p. waits_unseen c u _ _ _ _ _ _ _ p) λ c
       acts = λ _. (TransferBy.sends refl refl b _ refl, tt, refl, refl, (refl, refl));
     })
     (λ h g e.
-    let b = known_id i p.bufferCount h.0 in
+    let b = known_id i p.buffer_count h.0 in
     record {
       class = refl;
       known = (b, few g);
@@ -90,7 +90,7 @@ receive_buffer_holds = laws (λ _ c u x r p. waits_unseen c u _ _ _ _ _ _ _ p) �
     let i = number_of r.a in
     waits _ _ _ _ _ _ (Receiving i) 4 i 0 refl
     (λ h _ e.
-    let b = known_id i p.bufferCount h.0 in
+    let b = known_id i p.buffer_count h.0 in
     record {
       codes = (refl, refl);
       sound = λ v k _.
@@ -106,7 +106,7 @@ receive_buffer_holds = laws (λ _ c u x r p. waits_unseen c u _ _ _ _ _ _ _ p) �
       acts = λ _. (TransferBy.receives refl refl b _ refl, tt, refl, refl, (refl, refl));
     })
     (λ h _ e.
-    let b = known_id i p.bufferCount h.0 in
+    let b = known_id i p.buffer_count h.0 in
     record {
       class = refl;
       known = (b, omega arith);

@@ -12,7 +12,7 @@ use Rattle.machine.specs.declared.Decision.TheVariants.{Refused, Unchanged}
 use Rattle.machine.specs.declared.Request.{Request}
 use Rattle.machine.specs.declared.Field.{Field}
 use Rattle.machine.specs.declared.Wait.{Wait}
-use Rattle.machine.specs.declared.Time.{Time}
+use Rattle.machine.specs.Time.{Time}
 use Rattle.machine.specs.Limits.{duration_limit}
 use Rattle.machine.specs.Fields.{is_timeout, number_of, time_of}
 use Rattle.machine.specs.Process.{Class, class_of, object, later, waiting_for, waits_for_nothing}
@@ -29,7 +29,7 @@ use Rattle.machine.proofs.Orders.{Orderly}
 use Rattle.machine.proofs.Fairness.{NotThere, Fair}
 use Rattle.machine.proofs.Calmness.{OfSenders, senders, Calm}
 use Rattle.machine.proofs.Acts.{Acts, BlockedBy, acts_on_named}
-use Rattle.machine.specs.declared.Time.TheVariants.{At}
+use Rattle.std.specs.Prelude.{Some}
 use Rattle.machine.proofs.Stores.{Marks}
 use lib.Dec.{eqb}
 use mathlib.Core.Logic.{inr}
@@ -39,7 +39,7 @@ use Rattle.machine.specs.Theorems.EachProcess.{wait_of}
 pub record Other (kind j n : ℕ) (c : Context) (x : Port) (r : Request) (p : Partition) : Type 0 where
   pub valid : Valid c.frame c.time p
   pub context : SoundContext c p
-  pub there : kind ≡ 3 → p.bufferCount < j → ⊥
+  pub there : kind ≡ 3 → p.buffer_count < j → ⊥
   pub no_send : kind ≡ 3 → n ≡ 24 → number_of r.a ≡ j → ⊥
   pub no_receive : kind ≡ 3 → n ≡ 25 → number_of r.a ≡ j → ⊥
   pub no_send_channel : kind ≡ 6 → n ≡ 30 → x.exists ≡ true → x.place + 1 ≡ j → ⊥
@@ -132,6 +132,6 @@ module _ {n : ℕ} {c : Context} {x : Port} {r : Request} {p : Partition} where
         stores = λ _. refl;
         acts = λ at.
             let is = g.named at in
-            let until = later (At c.time) (time_of a) in
+            let until = later (Some c.time) (time_of a) in
             (refl, on, BlockedBy.waits g.listed.0 (inr is.1) until g.listed.1 (ap (λ (v : Wait). waiting_for v until (process c.caller p)) is.0));
       }))))

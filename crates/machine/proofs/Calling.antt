@@ -9,7 +9,7 @@ use lib.Seq.{get_or-set_same}
 use lib.Dec.{leb}
 use borrow.Author.Tests.{eq-eqb, ne_eqb, eqb-true, le-leb, le-ltb}
 use Rattle.machine.specs.declared.Partition.{Partition}
-use Rattle.machine.specs.declared.Time.{Time}
+use Rattle.machine.specs.Time.{Time}
 use Rattle.machine.specs.declared.Event.{Event as EventT}
 use Rattle.machine.specs.declared.Request.{Request}
 use Rattle.machine.specs.declared.Module.{Module}
@@ -145,8 +145,8 @@ pub puts_is : (m : Module) (k : ℕ) {e : EventT} {code value : ℕ} (p q : Part
 puts_is m k p q g e = record { code_is = g.code_is; value_is = g.value_is; extra_is = g.extra_is; state = g.state ∙ ap (λ (x : Partition). with_part (k - 1) x m) e }
 
 -- ---------------------------------------------------------------- a process stored
-module _ (p : Partition) (v : ListedIn p) (id : ℕ) (b : Between 1 p.processCount id) (x : Process) where
-  inside : stored id x p ≡ with_processes (set p.processes (id - 1) x) p.processCount (follow (ready (process id p)) (ready x) id p.arrival) (follow (on_object (process id p)) (on_object x) id p.waiting) p
+module _ (p : Partition) (v : ListedIn p) (id : ℕ) (b : Between 1 p.process_count id) (x : Process) where
+  inside : stored id x p ≡ with_processes (set p.processes (id - 1) x) p.process_count (follow (ready (process id p)) (ready x) id p.arrival) (follow (on_object (process id p)) (on_object x) id p.waiting) p
   inside = let w = within_in process_limit id b.0 (omega (arith, b.1, v.numbered.few)) in stored_in id x p w ∙ rw (← named_in process_limit id blank_process p.processes w)
 
   -- READY or not, waiting on an object or not, as before

@@ -84,7 +84,7 @@ module _ (kind j : ℕ) (of : OfSenders kind) (low : j ≤ 16) where
   -- what stays: buffer j with its messages, and each wait to send, but for call 5
   pub record Stays (n : ℕ) (p q : Partition) : Type 0 where
     pub same : kind ≡ 3 → buffer j q ≡ buffer j p
-    pub count : p.bufferCount ≤ q.bufferCount
+    pub count : p.buffer_count ≤ q.buffer_count
     pub waits : (id : ℕ) → KeepsSending n (process id p).wait (process id q).wait
 
   pub stays_same : (n : ℕ) (p : Partition) → Stays n p p
@@ -125,14 +125,14 @@ module _ (kind j : ℕ) (of : OfSenders kind) (low : j ≤ 16) where
 
   -- processes that change, and nothing else
   rest_stays : (n : ℕ) (p q : Partition) → Rest p q → ((id : ℕ) → KeepsSending n (process id p).wait (process id q).wait) → Stays n p q
-  rest_stays n p q e w = record { same = λ _. ap (λ (r : Partition). buffer j r) e; count = let f : q.bufferCount ≡ p.bufferCount = ap (λ (r : Partition). r.bufferCount) e in omega arith; waits = w }
+  rest_stays n p q e w = record { same = λ _. ap (λ (r : Partition). buffer j r) e; count = let f : q.buffer_count ≡ p.buffer_count = ap (λ (r : Partition). r.buffer_count) e in omega arith; waits = w }
 
   -- a process that is as it was
   same_process : (n id : ℕ) (p q : Partition) → process id q ≡ process id p → KeepsSending n (process id p).wait (process id q).wait
   same_process n id p q e = rw e (keeps_same n (process id p).wait)
 
   -- one process stored
-  stored_stays : (n : ℕ) (p : Partition) → ListedIn p → (id : ℕ) → Between 1 p.processCount id → (x : Process) → KeepsSending n (process id p).wait x.wait → Stays n p (stored id x p)
+  stored_stays : (n : ℕ) (p : Partition) → ListedIn p → (id : ℕ) → Between 1 p.process_count id → (x : Process) → KeepsSending n (process id p).wait x.wait → Stays n p (stored id x p)
   stored_stays n p v id b x g = rest_stays n p _ (stored_rest p id x) (λ y. ⊎_elim
       (λ (s : y ≡ id). rw (s, process_stored p id x v b) g)
       (λ (ne : y ≡ id → ⊥). same_process n y p (stored id x p) (process_other p id x y ne))
@@ -160,7 +160,7 @@ module _ (kind j : ℕ) (of : OfSenders kind) (low : j ≤ 16) where
 
   -- these processes, which wait on another object, are changed by f, which ends waits
   waits_stay : (n : ℕ) (f : Process → Process) → ((x : Process) → object (f x).wait ≡ 0) → (o : ℕ) (p : Partition) → ListedIn p → (o ≡ senders → ⊥)
-      → (l : List ℕ) → AllCreated l p.processCount → Distinct l → ((id : ℕ) → contains id l ≡ true → object (process id p).wait ≡ o) → Stays n p (changed_all f l p)
+      → (l : List ℕ) → AllCreated l p.process_count → Distinct l → ((id : ℕ) → contains id l ≡ true → object (process id p).wait ≡ o) → Stays n p (changed_all f l p)
   waits_stay n f ends o p v ne l all once on =
       let q = changed_all f l p in
       rest_stays n p q (changed_rest f l p) (λ id.
@@ -181,8 +181,8 @@ module _ (kind j : ℕ) (of : OfSenders kind) (low : j ≤ 16) where
 
   -- every process changed
   each_stays : (n : ℕ) (f : Process → Process) (p : Partition) → ListedIn p → ((x : Process) → KeepsSending n x.wait (f x).wait) → Stays n p (each f p)
-  each_stays n f p v k = rest_stays n p _ (each_rest f p v) (λ id. either (leb 1 id && leb id p.processCount)
-      (λ e. rw (each_process_holds f p v id (leb-true 1 id (and_left (leb 1 id) _ e), leb-true id p.processCount (and_right (leb 1 id) _ e))) (k (process id p)))
+  each_stays n f p v k = rest_stays n p _ (each_rest f p v) (λ id. either (leb 1 id && leb id p.process_count)
+      (λ e. rw (each_process_holds f p v id (leb-true 1 id (and_left (leb 1 id) _ e), leb-true id p.process_count (and_right (leb 1 id) _ e))) (k (process id p)))
       (λ e. keeps_off n (process id p).wait (process id (each f p)).wait
       (λ s. not_both _ (inside id (process_created on_object refl p v id (on (process id p).wait s))) e)
       (λ s. not_both _ (inside id (rw (rest_count p _ (each_rest f p v)) at (process_created on_object refl (each f p) (each_listed f p v) id (on (process id (each f p)).wait s)))) e)))
@@ -190,8 +190,8 @@ module _ (kind j : ℕ) (of : OfSenders kind) (low : j ≤ 16) where
       on : (w : Wait) → object w ≡ senders → not (eqb (object w) 0) ≡ true
       on w s = rw (s, ne_eqb senders 0 senders_some)
 
-      inside : (id : ℕ) → Between 1 p.processCount id → (leb 1 id && leb id p.processCount) ≡ true
-      inside id b = rw (le-leb 1 id b.0, le-leb id p.processCount b.1)
+      inside : (id : ℕ) → Between 1 p.process_count id → (leb 1 id && leb id p.process_count) ≡ true
+      inside id b = rw (le-leb 1 id b.0, le-leb id p.process_count b.1)
 
   -- one change
   change_stays : (n : ℕ) (c : Context) (p : Partition) → Valid c.frame c.time p → (a : Change) → SoundChange c p a → CalmChange n p a → Stays n p (applied a p)
@@ -219,7 +219,7 @@ module _ (kind j : ℕ) (of : OfSenders kind) (low : j ≤ 16) where
   change_stays n c p v (Moved k a) h g =
       let b = moved_in a (buffer k p) in
       let is = buffer_in k b p (within_in buffer_limit k h.0.0 (omega (arith, h.0.1, v.objects.buffers.numbered.few))) in
-      stays_along n p (stored_buffer k b p) _ (other_stays n k b p g.0) (end_stays n (stored_buffer k b p) (rw is v.lists) a (end_stored k b p a is h.2) (rw is (calm_same n p (with_buffers (set p.buffers (k - 1) b) (max p.bufferCount k) p) a refl g.1)))
+      stays_along n p (stored_buffer k b p) _ (other_stays n k b p g.0) (end_stays n (stored_buffer k b p) (rw is v.lists) a (end_stored k b p a is h.2) (rw is (calm_same n p (with_buffers (set p.buffers (k - 1) b) (max p.buffer_count k) p) a refl g.1)))
   change_stays n c p v (StoredBlackboard k b) h g = by_test (Stays n p) (within blackboard_limit k) (λ _. record { same = λ _. refl; count = omega arith; waits = λ id. keeps_same n (process id p).wait }) (λ _. stays_same n p)
   change_stays n c p v (Ended o) h g = ended_stays n served (λ _. refl) o p v.lists g
   change_stays n c p v (Handed o m) h g = ended_stays n (handed m) (λ _. refl) o p v.lists g
@@ -246,7 +246,7 @@ module _ (kind j : ℕ) (of : OfSenders kind) (low : j ≤ 16) where
   changed_stays n c s p v a b f g h k = stays_along n p (applied a p) _ (change_stays n c p v a f h) (change_stays n c (applied a p) (change_valid c s p v a f) b g k)
 
   -- the caller, which is READY, begins to wait, and not to send
-  pub blocked_stays : (n : ℕ) (p : Partition) → ListedIn p → (id : ℕ) → Between 1 p.processCount id → (x : Process) → ready (process id p) ≡ true → (object x.wait ≡ senders → ⊥) → Stays n p (stored id x p)
+  pub blocked_stays : (n : ℕ) (p : Partition) → ListedIn p → (id : ℕ) → Between 1 p.process_count id → (x : Process) → ready (process id p) ≡ true → (object x.wait ≡ senders → ⊥) → Stays n p (stored id x p)
   blocked_stays n p v id b x h ne = stored_stays n p v id b x (keeps_off n (process id p).wait x.wait (no_sender _ (ready_off (process id p) h)) ne)
 
   -- a transfer to or from the first of another queue
@@ -263,7 +263,7 @@ module _ (kind j : ℕ) (of : OfSenders kind) (low : j ≤ 16) where
     received_calm m = by_test (CalmEnd n p) (eqb (first_waiter o p) 0) (λ _. tt) (λ e. first_calm (eqb-false _ 0 e))
 
   -- ---------------------------------------------------------------- every other call
-  module _ (n : ℕ) (f : Field) (c : Context) (p : Partition) (v : Valid c.frame c.time p) (s : SoundContext c p) (there : kind ≡ 3 → p.bufferCount < j → ⊥) where
+  module _ (n : ℕ) (f : Field) (c : Context) (p : Partition) (v : Valid c.frame c.time p) (s : SoundContext c p) (there : kind ≡ 3 → p.buffer_count < j → ⊥) where
     -- a process on another object, whose wait ends; one on no object
     pub elsewhere : (id : ℕ) (w : Wait) (o : ℕ) → object (process id p).wait ≡ o → (o ≡ senders → ⊥) → object w ≡ 0 → KeepsSending n (process id p).wait w
     elsewhere id w o is ne off = keeps_off n (process id p).wait w (λ e. ne (sym is ∙ e)) (no_sender _ off)

@@ -26,8 +26,8 @@ use Rattle.machine.specs.declared.Field.TheVariants.{Number, MinusOne, Other}
 use Rattle.machine.specs.declared.Request.{Request}
 use Rattle.machine.specs.declared.Event.{Event as EventT}
 use Rattle.machine.specs.declared.Module.{Module}
-use Rattle.machine.specs.declared.Time.{Time}
-use Rattle.machine.specs.declared.Time.TheVariants.{At}
+use Rattle.machine.specs.Time.{Time}
+use Rattle.std.specs.Prelude.{Some}
 use Rattle.machine.specs.declared.Wait.{Wait}
 use Rattle.machine.specs.declared.Wait.TheVariants.{Source, Destination}
 use Rattle.machine.specs.Limits.{process_limit, duration_limit, message_limit, mode_limit, channel_limit, partition_limit}
@@ -123,7 +123,7 @@ unfolding call_decision services
 call_receive c x r p = refl
 
 -- ---------------------------------------------------------------- one event
-module _ (m : Module) (s : SoundModule m) (ends : ChannelEnds m) (i : ℕ) (there : i < m.table.channelCount) (some_size : (channel m.table i).size ≡ 0 → ⊥) (e : EventT) (es : List EventT) where
+module _ (m : Module) (s : SoundModule m) (ends : ChannelEnds m) (i : ℕ) (there : i < m.table.channel_count) (some_size : (channel m.table i).size ≡ 0 → ⊥) (e : EventT) (es : List EventT) where
   abbrev T : Table
   T = m.table
 
@@ -152,7 +152,7 @@ module _ (m : Module) (s : SoundModule m) (ends : ChannelEnds m) (i : ℕ) (ther
   some_receivers z = omega arith
 
   low : i + 1 ≤ 16
-  low = omega (arith, there, s.table.channelCount)
+  low = omega (arith, there, s.table.channel_count)
 
   kind : queuing c ≡ true
   kind = queuing_plain T s.table i there ∙ lt-ltb 0 c.size (omega (arith, some_size))
@@ -314,7 +314,7 @@ module _ (m : Module) (s : SoundModule m) (ends : ChannelEnds m) (i : ℕ) (ther
 
     moving_held : (a : Transfer) → SoundMove c.size (queue m i) a → held (queue (moving a) i) ≡ plain_moved a messages
     moving_held a h =
-        ap held (get_or-set_same m.queues i (moved a (queue m i)) no_queue (omega (arith, there, s.table.channelCount, s.queues_size)))
+        ap held (get_or-set_same m.queues i (moved a (queue m i)) no_queue (omega (arith, there, s.table.channel_count, s.queues_size)))
         ∙ moved_held c.size (queue m i) (s.each_queue i) few_size a h
 
     -- ------------------------------------------------------------ SEND
@@ -336,7 +336,7 @@ module _ (m : Module) (s : SoundModule m) (ends : ChannelEnds m) (i : ℕ) (ther
 
       -- what is seen of the channel
       sees : x.traffic ≡ record { len = (queue m i).len; first = first (queue m i); waiter = first_waiter receivers (own m to); carried = carried (process (first_waiter receivers (own m to)) (own m to)) }
-      sees = rw (place_is, lt-ltb i T.channelCount there, kind, eq-eqb from k (sym caller))
+      sees = rw (place_is, lt-ltb i T.channel_count there, kind, eq-eqb from k (sym caller))
 
       sound_room : (queue m i).len < c.size → word ≤ duration_limit → SoundMove c.size (queue m i) (Put word)
       sound_room h g = (h, g)
@@ -399,7 +399,7 @@ module _ (m : Module) (s : SoundModule m) (ends : ChannelEnds m) (i : ℕ) (ther
           let first_is : x.traffic.waiter ≡ first_waiter receivers (own m to) = ap (λ (y : Traffic). y.waiter) sees in
           record { is = subst (λ d. Even (passed k d (sent x.traffic.waiter word) m) 0 0) (sym place_is) (subst (λ d. Even (passed k i (sent d word) m) 0 0) (sym first_is) (sent_even (waiters receivers (own m to)) refl w few is)) })
           (λ _. by_codes EvenAfter body_refusal Refused _ _ refl refused_by (λ _. by_codes EvenAfter body_refusal Refused _ _ refl refused_by (λ _.
-          record { is = subst (λ d. Even (with_part (k - 1) (stored (running p) (waiting_for (Source (d + 1) word) (later (At m.t) (time_of r.c)) (process (running p) p)) p) m) 7 0) (sym place_is) (blocked_even (running p) (normal_caller ctx p own_valid sound_ctx (in_normal ctx p own_valid sound_ctx u.0)) (later (At m.t) (time_of r.c)) refl is) }))))
+          record { is = subst (λ d. Even (with_part (k - 1) (stored (running p) (waiting_for (Source (d + 1) word) (later (Some m.t) (time_of r.c)) (process (running p) p)) p) m) 7 0) (sym place_is) (blocked_even (running p) (normal_caller ctx p own_valid sound_ctx (in_normal ctx p own_valid sound_ctx u.0)) (later (Some m.t) (time_of r.c)) refl is) }))))
 
     -- ------------------------------------------------------------ RECEIVE
     module _ (caller : k ≡ to) (is-receive : n ≡ 31) (number : number_of r.a ≡ i + 1) where
@@ -422,7 +422,7 @@ module _ (m : Module) (s : SoundModule m) (ends : ChannelEnds m) (i : ℕ) (ther
       other_side = ne_eqb from k (λ z. apart_ends (z ∙ caller))
 
       seen : x.traffic ≡ record { len = (queue m i).len; first = first (queue m i); waiter = first_waiter senders (own m from); carried = carried (process (first_waiter senders (own m from)) (own m from)) }
-      seen = rw (at_place, lt-ltb i T.channelCount there, kind, other_side, eq-eqb to k (sym caller))
+      seen = rw (at_place, lt-ltb i T.channel_count there, kind, other_side, eq-eqb to k (sym caller))
 
       abbrev value : ℕ
       value = first (queue m i)
@@ -472,7 +472,7 @@ module _ (m : Module) (s : SoundModule m) (ends : ChannelEnds m) (i : ℕ) (ther
                 (received_even (waiters senders o) refl held_some)));
           })
           (λ _. by_codes EvenAfter body_refusal Refused _ _ refl refused_by (λ _. by_codes EvenAfter body_refusal Refused _ _ refl refused_by (λ _.
-          let y = waiting_for (Destination (number_of r.a - 1 + 1)) (later (At m.t) (time_of r.b)) (process (running p) p) in
+          let y = waiting_for (Destination (number_of r.a - 1 + 1)) (later (Some m.t) (time_of r.b)) (process (running p) p) in
           let z = with_part (k - 1) (stored (running p) y p) m in
           let same : own z from ≡ own m from = put_other (k - 1) (from - 1) (stored (running p) y p) m refl (λ z. apart_ends (let w = q.some in omega (arith, from_some, to_some, caller))) in
           record { is = leaves_quiet z (rw same same_leaves) refl 7 0 (never_restart 7) (and-false (is_receive flow e)) (Fl.no_sent flow m e es z 7 no_send_holds) (Fl.refused_received flow m e es z 7 0 refl) }))))
@@ -595,7 +595,7 @@ module _ (m : Module) (s : SoundModule m) (ends : ChannelEnds m) (i : ℕ) (ther
       passed_even : (j : ℕ) (a : Transfer) (v : ℕ) → PassedOn j a v ≡ made m s r q → OnQueue x n j a v → Even (passed k j a m) 0 v
       passed_even j a v is b =
           let w = on_queue_holds m s r q j a v b in
-          let named = in_limits 1 T.channelCount r.a b.there in
+          let named = in_limits 1 T.channel_count r.a b.there in
           let number : j ≡ i → number_of r.a ≡ i + 1 = λ z. omega (arith, b.place, named.0) in
           let ne : j ≡ i → ⊥ = λ z.
           let same : x.channel ≡ c = w.is ∙ ap (λ d. channel T d) z in
@@ -603,7 +603,7 @@ module _ (m : Module) (s : SoundModule m) (ends : ChannelEnds m) (i : ℕ) (ther
           (λ (h : Sends x n a v). not-send (sym h.source ∙ ap (λ (y : Channel). y.source) same) h.call (number z))
           (λ (h : Receives x n a v). not-receive (sym h.destination ∙ ap (λ (y : Channel). y.destination) same) h.call (number z))
           b.end in
-          let other : other_queue k j (channel T j) ≡ senders → ⊥ = by_test (λ (o : ℕ). o ≡ senders → ⊥) (eqb (channel T j).source k) (λ _ z. omega (arith, w.there, s.table.channelCount, low)) (λ _ z. ne (omega arith)) in
+          let other : other_queue k j (channel T j) ≡ senders → ⊥ = by_test (λ (o : ℕ). o ≡ senders → ⊥) (eqb (channel T j).source k) (λ _ z. omega (arith, w.there, s.table.channel_count, low)) (λ _ z. ne (omega arith)) in
           leaves_by (PassedOn j a v) is (λ z. z) (passed_leaves 6 (i + 1) of_channels low m s r q from from_inside j a v b other)
           (by_test (λ (y : Module). queue y i ≡ queue m i) (ends_wait a) (λ _. get_or-set_other m.queues j i (moved a (queue m j)) no_queue (λ z. ne (sym z))) (λ _. get_or-set_other m.queues j i (moved a (queue m j)) no_queue (λ z. ne (sym z))))
 
@@ -660,7 +660,7 @@ module _ (m : Module) (s : SoundModule m) (ends : ChannelEnds m) (i : ℕ) (ther
           let sound = made_sound m s r q in
           ⊎_elim
           (λ (at : k ≡ from). own_even at d refl sound body (call_order ctx p x n r).is
-          (call_calm 6 (i + 1) of_channels low n ctx x r p (record { valid = own_valid; context = sound_ctx; there = λ z. absurd (omega arith); no_send = λ z. absurd (omega arith); no_receive = λ z. absurd (omega arith); no_send_channel = λ _ thirty exists is. let b = in_limits 1 T.channelCount r.a exists in not-send at thirty (omega (arith, b.0)) })).is)
+          (call_calm 6 (i + 1) of_channels low n ctx x r p (record { valid = own_valid; context = sound_ctx; there = λ z. absurd (omega arith); no_send = λ z. absurd (omega arith); no_receive = λ z. absurd (omega arith); no_send_channel = λ _ thirty exists is. let b = in_limits 1 T.channel_count r.a exists in not-send at thirty (omega (arith, b.0)) })).is)
           (λ (ne : k ≡ from → ⊥). other_even ne d refl sound body
           (call_calm 6 0 of_channels zero_low n ctx x r p (record { valid = own_valid; context = sound_ctx; there = λ z. absurd (omega arith); no_send = λ z. absurd (omega arith); no_receive = λ z. absurd (omega arith); no_send_channel = λ _ _ _ z. omega arith })).is)
           (same_or_not k from)
@@ -697,23 +697,23 @@ module _ (m : Module) (s : SoundModule m) (ends : ChannelEnds m) (i : ℕ) (ther
 
 -- ---------------------------------------------------------------- a list of events
 -- the empty record has no channel
-none_there : (m : Module) → m ≡ empty_module → (i : ℕ) → i < m.table.channelCount → ⊥
+none_there : (m : Module) → m ≡ empty_module → (i : ℕ) → i < m.table.channel_count → ⊥
 unfolding empty_module empty_table
-none_there m e i l = omega (arith, ap (λ (q : Module). q.table.channelCount) e)
+none_there m e i l = omega (arith, ap (λ (q : Module). q.table.channel_count) e)
 
-sound : (m : Module) → Reached m → (i : ℕ) → i < m.table.channelCount → SoundModule m
+sound : (m : Module) → Reached m → (i : ℕ) → i < m.table.channel_count → SoundModule m
 sound m r i l = ⊎_elim (λ (z : m ≡ empty_module). absurd (none_there m z i l)) (λ (s : SoundModule m). s) (reached_valid m r)
 
 -- from a reached record of the table on
 record Runs (T : Table) (i : ℕ) (es : List EventT) (m : Module) : Type 0 where
   reached : Reached m
   table : m.table ≡ T
-  there : i < T.channelCount
+  there : i < T.channel_count
   queues : (channel T i).size ≡ 0 → ⊥
 
 runs_even : (T : Table) (i : ℕ) (e : EventT) (es : List EventT) (m : Module) → Runs T i (e ∷ es) m → Fl.Even (channel_flow T i) m e es (next m e) (step m e).answer.code (step m e).answer.value × Runs T i es (next m e)
 runs_even T i e es m h =
-    let inside : i < m.table.channelCount = rw h.table h.there in
+    let inside : i < m.table.channel_count = rw h.table h.there in
     let s = sound m h.reached i inside in
     let ev = event_even m s (channel_ends m h.reached) i inside (rw h.table h.queues) e es in (
       subst (λ (U : Table). Fl.Even (channel_flow U i) m e es (next m e) (step m e).answer.code (step m e).answer.value) h.table ev,
@@ -731,7 +731,7 @@ fresh_none T i = (
 -- Law of a queuing channel. From the fresh module on: sent and not lost = received ++ held ++ kept with waiting senders, in order.
 channel_account : (input : List ℕ) (i : ℕ) (es : List EventT)
     → let m = (read_table input).state in
-    i < m.table.channelCount → ((channel m.table i).size ≡ 0 → ⊥) → Balances (channel_flow m.table i) m es
+    i < m.table.channel_count → ((channel m.table i).size ≡ 0 → ⊥) → Balances (channel_flow m.table i) m es
 channel_account input i es there queues =
     let m = (read_table input).state in
     let T = m.table in

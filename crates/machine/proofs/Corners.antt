@@ -13,8 +13,8 @@ use Rattle.machine.specs.declared.EventState.{EventState}
 use Rattle.machine.specs.declared.Buffer.{Buffer}
 use Rattle.machine.specs.declared.Blackboard.{Blackboard as BlackboardT}
 use Rattle.machine.specs.declared.Wait.TheVariants.{Normal}
-use Rattle.machine.specs.declared.Time.{Time}
-use Rattle.machine.specs.declared.Time.TheVariants.{Never, At}
+use Rattle.machine.specs.Time.{Time}
+use Rattle.std.specs.Prelude.{None, Some}
 use Rattle.machine.specs.Limits.{process_limit, semaphore_limit, event_limit, buffer_limit, message_limit, blackboard_limit, name_limit, priority_limit, value_limit, duration_limit}
 use Rattle.machine.specs.Process.{blank_process, ready, with_current}
 use Rattle.machine.specs.Partition.{process, semaphore, event, buffer, blackboard, by_id, no_semaphore, no_event, no_buffer, no_blackboard, running, with_processes, with_mode_and_lock}
@@ -56,17 +56,17 @@ module _ {A : Type 0} (name_of : A → ℕ) (name : ℕ) (d : A) where
 
 -- ---------------------------------------------------------------- what CREATE_PROCESS admits
 time_in_holds : (x : Time) → time_in (time_number x) ≡ x
-time_in_holds Never = refl
-time_in_holds (At n) = refl
+time_in_holds None = refl
+time_in_holds (Some n) = refl
 
 period_admitted : (M : ℕ) (x : Time) → SoundPeriod M x → (plain_minus_one (time_number x) || (plain_between 1 9999999 (time_number x) && eqb (id_of (time_number x) % M) 0)) ≡ true
-period_admitted M Never h = refl
-period_admitted M (At n) h = rw (le-leb 1 n h.0.0, le-leb n 9999999 h.0.1, h.1)
+period_admitted M None h = refl
+period_admitted M (Some n) h = rw (le-leb 1 n h.0.0, le-leb n 9999999 h.0.1, h.1)
 
 capacity_admitted : (period x : Time) → SoundCapacity period x → ((plain_minus_one (time_number x) || plain_between 1 9999999 (time_number x)) && not (above_in (time_number x) (time_number period))) ≡ true
-capacity_admitted period Never h = refl
-capacity_admitted Never (At n) h = rw (le-leb 1 n h.0.0, le-leb n 9999999 h.0.1)
-capacity_admitted (At q) (At n) h = rw (le-leb 1 n h.0.0, le-leb n 9999999 h.0.1, le-ltb q n h.1)
+capacity_admitted period None h = refl
+capacity_admitted None (Some n) h = rw (le-leb 1 n h.0.0, le-leb n 9999999 h.0.1)
+capacity_admitted (Some q) (Some n) h = rw (le-leb 1 n h.0.0, le-leb n 9999999 h.0.1, le-ltb q n h.1)
 
 module _ (m : Module) (k : ℕ) (u : SoundModule m) (h : Calling m k) where
   abbrev p : Partition
@@ -94,15 +94,15 @@ module _ (m : Module) (k : ℕ) (u : SoundModule m) (h : Calling m k) where
       let r = (g.1 (lt-leb limit n room.less)).1 (new_name name_of name d limit n l s new) in
       (λ t. (r.1 (rw t)).1 (ne_eqb p.mode 3 room.early), λ f. r.0 (rw f))
 
-  module _ (name priority : ℕ) (period capacity : ℤ) (room : Room p p.processCount process_limit) (new : NewProcess p name) where
+  module _ (name priority : ℕ) (period capacity : ℤ) (room : Room p p.process_count process_limit) (new : NewProcess p name) where
     create_process_holds : let e = call_by k 2 (pos name) (pos priority) period capacity in
         let ok = process_admitted m.table.frame (pos name) (pos priority) period capacity in
-        (ok ≡ true → Puts m e 0 (p.processCount + 1) k (with_new (given name priority (time_in period) (time_in capacity)) p)) × (ok ≡ false → Refuses m e 3)
-    create_process_holds = creating (λ (x : Process). x.given.name) name blank_process process_limit p.processes p.processCount v.lists.numbered room new _ _ _ (c.create_process (pos name) (pos priority) period capacity)
+        (ok ≡ true → Puts m e 0 (p.process_count + 1) k (with_new (given name priority (time_in period) (time_in capacity)) p)) × (ok ≡ false → Refuses m e 3)
+    create_process_holds = creating (λ (x : Process). x.given.name) name blank_process process_limit p.processes p.process_count v.lists.numbered room new _ _ _ (c.create_process (pos name) (pos priority) period capacity)
 
   -- a process as given by its four numbers
-  create_fits : (name priority : ℕ) (period capacity : Time) → Room p p.processCount process_limit → NewProcess p name → SoundGiven m.table.frame (given name priority period capacity)
-      → Puts m (create_by k name priority period capacity) 0 (p.processCount + 1) k (with_new (given name priority period capacity) p)
+  create_fits : (name priority : ℕ) (period capacity : Time) → Room p p.process_count process_limit → NewProcess p name → SoundGiven m.table.frame (given name priority period capacity)
+      → Puts m (create_by k name priority period capacity) 0 (p.process_count + 1) k (with_new (given name priority period capacity) p)
   create_fits name priority period capacity room new g =
       rw (time_in_holds period, time_in_holds capacity) at
       ((create_process_holds name priority (time_number period) (time_number capacity) room new).0
@@ -112,16 +112,16 @@ module _ (m : Module) (k : ℕ) (u : SoundModule m) (h : Calling m k) where
   past_name : NewProcess p (name_limit + 1)
   past_name id b e = omega (arith, (v.each_process id b).lasting.given.name.1)
 
-  priority_corner : (name : ℕ) (period capacity : Time) → Room p p.processCount process_limit → NewProcess p name → Between 1 name_limit name → SoundPeriod m.table.frame period → SoundCapacity period capacity
-      → Puts m (create_by k name priority_limit period capacity) 0 (p.processCount + 1) k (with_new (given name priority_limit period capacity) p)
+  priority_corner : (name : ℕ) (period capacity : Time) → Room p p.process_count process_limit → NewProcess p name → Between 1 name_limit name → SoundPeriod m.table.frame period → SoundCapacity period capacity
+      → Puts m (create_by k name priority_limit period capacity) 0 (p.process_count + 1) k (with_new (given name priority_limit period capacity) p)
       × Refuses m (create_by k name (priority_limit + 1) period capacity) 3
   priority_corner name period capacity room new n f g = (
     create_fits name priority_limit period capacity room new (record { name = n; base = (omega arith, omega arith); period = f; capacity = g }),
     (create_process_holds name (priority_limit + 1) (time_number period) (time_number capacity) room new).1 (rw (le-leb 1 name n.0, le-leb name 255 n.1)),
   )
 
-  process_name_corner : (priority : ℕ) (period capacity : Time) → Room p p.processCount process_limit → NewProcess p name_limit → Between 1 priority_limit priority → SoundPeriod m.table.frame period → SoundCapacity period capacity
-      → Puts m (create_by k name_limit priority period capacity) 0 (p.processCount + 1) k (with_new (given name_limit priority period capacity) p)
+  process_name_corner : (priority : ℕ) (period capacity : Time) → Room p p.process_count process_limit → NewProcess p name_limit → Between 1 priority_limit priority → SoundPeriod m.table.frame period → SoundCapacity period capacity
+      → Puts m (create_by k name_limit priority period capacity) 0 (p.process_count + 1) k (with_new (given name_limit priority period capacity) p)
       × Refuses m (create_by k (name_limit + 1) priority period capacity) 3
   process_name_corner priority period capacity room new b f g = (
     create_fits name_limit priority period capacity room new (record { name = (omega arith, omega arith); base = b; period = f; capacity = g }),
@@ -130,79 +130,79 @@ module _ (m : Module) (k : ℕ) (u : SoundModule m) (h : Calling m k) where
 
   -- M divides M and, above 1, does not divide M + 1
   period_corner : (name priority : ℕ) (capacity : Time) (e : ℤ) → let M = m.table.frame in
-      1 < M → Room p p.processCount process_limit → NewProcess p name → Between 1 name_limit name → Between 1 priority_limit priority → SoundCapacity (At M) capacity
-      → Puts m (create_by k name priority (At M) capacity) 0 (p.processCount + 1) k (with_new (given name priority (At M) capacity) p)
+      1 < M → Room p p.process_count process_limit → NewProcess p name → Between 1 name_limit name → Between 1 priority_limit priority → SoundCapacity (Some M) capacity
+      → Puts m (create_by k name priority (Some M) capacity) 0 (p.process_count + 1) k (with_new (given name priority (Some M) capacity) p)
       × Refuses m (call_by k 2 (pos name) (pos priority) (pos (M + 1)) e) 3
   period_corner name priority capacity e above room new n b g =
       let M = m.table.frame in
       let high = u.table.frame.1 in
       let o : (M + 1) % M ≡ 1 = add-mod_left M 1 ∙ mod-eq_of_lt above in (
-        create_fits name priority (At M) capacity room new (record { name = n; base = b; period = ((omega arith, omega arith), mod_self M); capacity = g }),
+        create_fits name priority (Some M) capacity room new (record { name = n; base = b; period = ((omega arith, omega arith), mod_self M); capacity = g }),
         (create_process_holds name priority (pos (M + 1)) e room new).1 (rw (le-leb 1 name n.0, le-leb name 255 n.1, le-leb 1 priority b.0, le-leb priority 239 b.1, le-leb 1 (M + 1) (omega arith), le-leb (M + 1) 9999999 (omega arith), o)),
       )
 
-  semaphore_name_corner : (start max : ℕ) → Room p p.semaphoreCount semaphore_limit → NewSemaphore p name_limit → Between 1 value_limit max → start ≤ max
-      → Puts m (call_by k 14 (pos name_limit) (pos start) (pos max) (pos 0)) 0 (p.semaphoreCount + 1) k (with_new_semaphore name_limit start max p)
+  semaphore_name_corner : (start max : ℕ) → Room p p.semaphore_count semaphore_limit → NewSemaphore p name_limit → Between 1 value_limit max → start ≤ max
+      → Puts m (call_by k 14 (pos name_limit) (pos start) (pos max) (pos 0)) 0 (p.semaphore_count + 1) k (with_new_semaphore name_limit start max p)
       × Refuses m (call_by k 14 (pos (name_limit + 1)) (pos start) (pos max) (pos 0)) 3
   semaphore_name_corner start max room new b s =
       let o = v.objects.semaphores in (
-        (creating (λ (x : SemaphoreT). x.name) name_limit no_semaphore semaphore_limit p.semaphores p.semaphoreCount o.numbered room new _ (plain_between 1 255 (pos name_limit) && (plain_between 1 32767 (pos max) && plain_between 0 max (pos start))) _ (c.create_semaphore (pos name_limit) (pos start) (pos max))).0 (rw (le-leb 1 max b.0, le-leb max 32767 b.1, from_zero start, le-leb start max s)),
-        (creating (λ (x : SemaphoreT). x.name) (name_limit + 1) no_semaphore semaphore_limit p.semaphores p.semaphoreCount o.numbered room (λ j r q. omega (arith, (o.each j r).name.1)) _ _ _ (c.create_semaphore (pos (name_limit + 1)) (pos start) (pos max))).1 refl,
+        (creating (λ (x : SemaphoreT). x.name) name_limit no_semaphore semaphore_limit p.semaphores p.semaphore_count o.numbered room new _ (plain_between 1 255 (pos name_limit) && (plain_between 1 32767 (pos max) && plain_between 0 max (pos start))) _ (c.create_semaphore (pos name_limit) (pos start) (pos max))).0 (rw (le-leb 1 max b.0, le-leb max 32767 b.1, from_zero start, le-leb start max s)),
+        (creating (λ (x : SemaphoreT). x.name) (name_limit + 1) no_semaphore semaphore_limit p.semaphores p.semaphore_count o.numbered room (λ j r q. omega (arith, (o.each j r).name.1)) _ _ _ (c.create_semaphore (pos (name_limit + 1)) (pos start) (pos max))).1 refl,
       )
 
-  event_name_corner : Room p p.eventCount event_limit → NewEvent p name_limit
-      → Puts m (call_by k 17 (pos name_limit) (pos 0) (pos 0) (pos 0)) 0 (p.eventCount + 1) k (with_new_event name_limit p)
+  event_name_corner : Room p p.event_count event_limit → NewEvent p name_limit
+      → Puts m (call_by k 17 (pos name_limit) (pos 0) (pos 0) (pos 0)) 0 (p.event_count + 1) k (with_new_event name_limit p)
       × Refuses m (call_by k 17 (pos (name_limit + 1)) (pos 0) (pos 0) (pos 0)) 3
   event_name_corner room new =
       let o = v.objects.events in (
-        (creating (λ (x : EventState). x.name) name_limit no_event event_limit p.events p.eventCount o.numbered room new _ _ _ (c.create_event (pos name_limit))).0 refl,
-        (creating (λ (x : EventState). x.name) (name_limit + 1) no_event event_limit p.events p.eventCount o.numbered room (λ j r q. omega (arith, (o.each j r).name.1)) _ _ _ (c.create_event (pos (name_limit + 1)))).1 refl,
+        (creating (λ (x : EventState). x.name) name_limit no_event event_limit p.events p.event_count o.numbered room new _ _ _ (c.create_event (pos name_limit))).0 refl,
+        (creating (λ (x : EventState). x.name) (name_limit + 1) no_event event_limit p.events p.event_count o.numbered room (λ j r q. omega (arith, (o.each j r).name.1)) _ _ _ (c.create_event (pos (name_limit + 1)))).1 refl,
       )
 
-  buffer_name_corner : (limit : ℕ) → Room p p.bufferCount buffer_limit → NewBuffer p name_limit → Between 1 message_limit limit
-      → Puts m (call_by k 23 (pos name_limit) (pos limit) (pos 0) (pos 0)) 0 (p.bufferCount + 1) k (with_new_buffer name_limit limit p)
+  buffer_name_corner : (limit : ℕ) → Room p p.buffer_count buffer_limit → NewBuffer p name_limit → Between 1 message_limit limit
+      → Puts m (call_by k 23 (pos name_limit) (pos limit) (pos 0) (pos 0)) 0 (p.buffer_count + 1) k (with_new_buffer name_limit limit p)
       × Refuses m (call_by k 23 (pos (name_limit + 1)) (pos limit) (pos 0) (pos 0)) 3
   buffer_name_corner limit room new b =
       let o = v.objects.buffers in (
-        (creating (λ (x : Buffer). x.name) name_limit no_buffer buffer_limit p.buffers p.bufferCount o.numbered room new _ (plain_between 1 255 (pos name_limit) && plain_between 1 16 (pos limit)) _ (c.create_buffer (pos name_limit) (pos limit))).0 (rw (le-leb 1 limit b.0, le-leb limit 16 b.1)),
-        (creating (λ (x : Buffer). x.name) (name_limit + 1) no_buffer buffer_limit p.buffers p.bufferCount o.numbered room (λ j r q. omega (arith, (o.each j r).name.1)) _ _ _ (c.create_buffer (pos (name_limit + 1)) (pos limit))).1 refl,
+        (creating (λ (x : Buffer). x.name) name_limit no_buffer buffer_limit p.buffers p.buffer_count o.numbered room new _ (plain_between 1 255 (pos name_limit) && plain_between 1 16 (pos limit)) _ (c.create_buffer (pos name_limit) (pos limit))).0 (rw (le-leb 1 limit b.0, le-leb limit 16 b.1)),
+        (creating (λ (x : Buffer). x.name) (name_limit + 1) no_buffer buffer_limit p.buffers p.buffer_count o.numbered room (λ j r q. omega (arith, (o.each j r).name.1)) _ _ _ (c.create_buffer (pos (name_limit + 1)) (pos limit))).1 refl,
       )
 
-  blackboard_name_corner : Room p p.blackboardCount blackboard_limit → NewBlackboard p name_limit
-      → Puts m (call_by k 26 (pos name_limit) (pos 0) (pos 0) (pos 0)) 0 (p.blackboardCount + 1) k (with_new_blackboard name_limit p)
+  blackboard_name_corner : Room p p.blackboard_count blackboard_limit → NewBlackboard p name_limit
+      → Puts m (call_by k 26 (pos name_limit) (pos 0) (pos 0) (pos 0)) 0 (p.blackboard_count + 1) k (with_new_blackboard name_limit p)
       × Refuses m (call_by k 26 (pos (name_limit + 1)) (pos 0) (pos 0) (pos 0)) 3
   blackboard_name_corner room new =
       let o = v.objects.blackboards in (
-        (creating (λ (x : BlackboardT). x.name) name_limit no_blackboard blackboard_limit p.blackboards p.blackboardCount o.numbered room new _ _ _ (c.create_blackboard (pos name_limit))).0 refl,
-        (creating (λ (x : BlackboardT). x.name) (name_limit + 1) no_blackboard blackboard_limit p.blackboards p.blackboardCount o.numbered room (λ j r q. omega (arith, (o.each j r).name.1)) _ _ _ (c.create_blackboard (pos (name_limit + 1)))).1 refl,
+        (creating (λ (x : BlackboardT). x.name) name_limit no_blackboard blackboard_limit p.blackboards p.blackboard_count o.numbered room new _ _ _ (c.create_blackboard (pos name_limit))).0 refl,
+        (creating (λ (x : BlackboardT). x.name) (name_limit + 1) no_blackboard blackboard_limit p.blackboards p.blackboard_count o.numbered room (λ j r q. omega (arith, (o.each j r).name.1)) _ _ _ (c.create_blackboard (pos (name_limit + 1)))).1 refl,
       )
 
   -- ---------------------------------------------------------------- priorities, delays
-  set_priority_corner : (id : ℕ) → Between 1 p.processCount id → (process id p).started ≡ true
+  set_priority_corner : (id : ℕ) → Between 1 p.process_count id → (process id p).started ≡ true
       → Puts m (call_by k 12 (pos id) (pos priority_limit) (pos 0) (pos 0)) 0 0 k
       (with_process id (with_current priority_limit (process id p)) (cond (ready (process id p)) (at_end id p.arrival) p.arrival) p)
       × Refuses m (call_by k 12 (pos id) (pos (priority_limit + 1)) (pos 0) (pos 0)) 3
   unfolding Checks
   set_priority_corner id b s = (
-    (((c.set_priority (pos id) (pos priority_limit)).1 (known_id id p.processCount b)).1 refl).1 (rw s),
-    ((c.set_priority (pos id) (pos (priority_limit + 1))).1 (known_id id p.processCount b)).0 refl,
+    (((c.set_priority (pos id) (pos priority_limit)).1 (known_id id p.process_count b)).1 refl).1 (rw s),
+    ((c.set_priority (pos id) (pos (priority_limit + 1))).1 (known_id id p.process_count b)).0 refl,
   )
 
-  period_high : (id n : ℕ) → Between 1 p.processCount id → (process id p).given.period ≡ At n → Between 1 duration_limit n
+  period_high : (id n : ℕ) → Between 1 p.process_count id → (process id p).given.period ≡ Some n → Between 1 duration_limit n
   period_high id n b e = (rw e at (v.each_process id b).lasting.given.period).0
 
   -- DELAYED_START of a DORMANT process, delay not below the period
-  delay_refused : (id n : ℕ) → Between 1 p.processCount id → (process id p).given.period ≡ At n → Refuses m (call_by k 4 (pos id) (pos n) (pos 0) (pos 0)) 3
+  delay_refused : (id n : ℕ) → Between 1 p.process_count id → (process id p).given.period ≡ Some n → Refuses m (call_by k 4 (pos id) (pos n) (pos 0) (pos 0)) 3
   unfolding Checks
   delay_refused id n b e =
       let top = (period_high id n b e).1 in
-      ((c.delayed (pos id) (pos n)).1 (known_id id p.processCount b)).0 (rw (from_zero n, le-leb n 9999999 top, e, le-leb n n (omega arith)))
+      ((c.delayed (pos id) (pos n)).1 (known_id id p.process_count b)).0 (rw (from_zero n, le-leb n 9999999 top, e, le-leb n n (omega arith)))
 
   -- one that is accepted
-  module _ (id delay n : ℕ) (b : Between 1 p.processCount id) (off : (process id p).started ≡ false) (e : (process id p).given.period ≡ At n) (below : delay < n) where
+  module _ (id delay n : ℕ) (b : Between 1 p.process_count id) (off : (process id p).started ≡ false) (e : (process id p).given.period ≡ Some n) (below : delay < n) where
     delayed_early : (p.mode ≡ 3 → ⊥) → Puts m (call_by k 4 (pos id) (pos delay) (pos 0) (pos 0)) 0 0 k (with_process id (awaits_normal delay (process id p)) p.arrival p)
     unfolding Checks
-    delayed_early = ((((c.delayed (pos id) (pos delay)).1 (known_id id p.processCount b)).1 fits).1 off).0
+    delayed_early = ((((c.delayed (pos id) (pos delay)).1 (known_id id p.process_count b)).1 fits).1 off).0
       where
         fits : (not (in_d (pos delay)) || too_long delay (process id p).given.period) ≡ false
         fits = rw (from_zero delay, le-leb delay 9999999 (omega (arith, (period_high id n b e).1)), e, lt-leb n delay below)
@@ -210,17 +210,17 @@ module _ (m : Module) (k : ℕ) (u : SoundModule m) (h : Calling m k) where
     delayed_release : (r : ℕ) → p.mode ≡ 3 → Release m.table k m.t r
         → Puts m (call_by k 4 (pos id) (pos delay) (pos 0) (pos 0)) 0 0 k (with_process id (awaits_release (r + delay) (process id p).times.delay (process id p).given.base false false (process id p)) p.arrival p)
     unfolding Checks
-    delayed_release r normal f = ((((c.delayed (pos id) (pos delay)).1 (known_id id p.processCount b)).1 fits).1 off).2 n r normal e f
+    delayed_release r normal f = ((((c.delayed (pos id) (pos delay)).1 (known_id id p.process_count b)).1 fits).1 off).2 n r normal e f
       where
         fits : (not (in_d (pos delay)) || too_long delay (process id p).given.period) ≡ false
         fits = rw (from_zero delay, le-leb delay 9999999 (omega (arith, (period_high id n b e).1)), e, lt-leb n delay below)
 
-  delay_early_corner : (id n : ℕ) → Between 1 p.processCount id → (process id p).started ≡ false → (process id p).given.period ≡ At n → (p.mode ≡ 3 → ⊥)
+  delay_early_corner : (id n : ℕ) → Between 1 p.process_count id → (process id p).started ≡ false → (process id p).given.period ≡ Some n → (p.mode ≡ 3 → ⊥)
       → Puts m (call_by k 4 (pos id) (pos (n - 1)) (pos 0) (pos 0)) 0 0 k (with_process id (awaits_normal (n - 1) (process id p)) p.arrival p)
       × Refuses m (call_by k 4 (pos id) (pos n) (pos 0) (pos 0)) 3
   delay_early_corner id n b off e early = (delayed_early id (n - 1) n b off e (omega (arith, (period_high id n b e).0)) early, delay_refused id n b e)
 
-  delay_normal_corner : (id n r : ℕ) → Between 1 p.processCount id → (process id p).started ≡ false → (process id p).given.period ≡ At n → p.mode ≡ 3 → Release m.table k m.t r
+  delay_normal_corner : (id n r : ℕ) → Between 1 p.process_count id → (process id p).started ≡ false → (process id p).given.period ≡ Some n → p.mode ≡ 3 → Release m.table k m.t r
       → Puts m (call_by k 4 (pos id) (pos (n - 1)) (pos 0) (pos 0)) 0 0 k
       (with_process id (awaits_release (r + (n - 1)) (process id p).times.delay (process id p).given.base false false (process id p)) p.arrival p)
       × Refuses m (call_by k 4 (pos id) (pos n) (pos 0) (pos 0)) 3
@@ -228,15 +228,15 @@ module _ (m : Module) (k : ℕ) (u : SoundModule m) (h : Calling m k) where
 
   -- ---------------------------------------------------------------- a periodic process is released
   module _ (r : ℕ) (f : Release m.table k m.t r) where
-    started_release : (id n : ℕ) → p.mode ≡ 3 → Between 1 p.processCount id → (process id p).started ≡ false → (process id p).given.period ≡ At n
+    started_release : (id n : ℕ) → p.mode ≡ 3 → Between 1 p.process_count id → (process id p).started ≡ false → (process id p).given.period ≡ Some n
         → Puts m (call_by k 3 (pos id) (pos 0) (pos 0) (pos 0)) 0 0 k (with_process id (awaits_release r (process id p).times.delay (process id p).given.base false false (process id p)) p.arrival p)
     unfolding Checks
     started_release id n normal b off e =
         let some = (period_high id n b e).0 in
-        rw (add-zero r) at (((((c.start (pos id)).1 (known_id id p.processCount b)).1 (rw (e, lt-leb n 0 (omega arith)))).1 off).2 n r normal e f)
+        rw (add-zero r) at (((((c.start (pos id)).1 (known_id id p.process_count b)).1 (rw (e, lt-leb n 0 (omega arith)))).1 off).2 n r normal e f)
 
     -- the process after START
-    pub started_process : (id n : ℕ) → p.mode ≡ 3 → Between 1 p.processCount id → (process id p).started ≡ false → (process id p).given.period ≡ At n
+    pub started_process : (id n : ℕ) → p.mode ≡ 3 → Between 1 p.process_count id → (process id p).started ≡ false → (process id p).given.period ≡ Some n
         → process id (own (step m (call_by k 3 (pos id) (pos 0) (pos 0) (pos 0))).state k) ≡ awaits_release r (process id p).times.delay (process id p).given.base false false (process id p)
     started_process id n normal b off e =
         let x = awaits_release r (process id p).times.delay (process id p).given.base false false (process id p) in
@@ -244,13 +244,13 @@ module _ (m : Module) (k : ℕ) (u : SoundModule m) (h : Calling m k) where
         ap (process id) (own_after m k u h _ (started_release id n normal b off e)) ∙ named_same process_limit blank_process id x p.processes b.0 (omega (arith, b.1)) (omega (arith, b.1, v.lists.numbered.size))
 
     -- entering NORMAL
-    enter_release : (id n : ℕ) → (p.mode ≡ 3 → ⊥) → Between 1 p.processCount id → (process id p).wait ≡ Normal → (process id p).given.period ≡ At n → let a = call_by k 1 (pos 3) (pos 0) (pos 0) (pos 0) in
+    enter_release : (id n : ℕ) → (p.mode ≡ 3 → ⊥) → Between 1 p.process_count id → (process id p).wait ≡ Normal → (process id p).given.period ≡ Some n → let a = call_by k 1 (pos 3) (pos 0) (pos 0) (pos 0) in
         let x = process id p in
         ((step m a).answer.code ≡ 0) × ((own (step m a).state k).mode ≡ 3)
         × (process id (own (step m a).state k) ≡ awaits_release (r + x.times.delay) x.times.delay x.current x.suspended false x)
     unfolding Checks
     enter_release id n early b w e =
-        let g = (((((c.set_mode (pos 3)).1 refl).1 (rw (ne_eqb p.mode 3 early))).1 refl).1 (rw (ne_eqb p.processCount 0 (λ z. omega (arith, b.0, b.1))))).0 refl r f in
+        let g = (((((c.set_mode (pos 3)).1 refl).1 (rw (ne_eqb p.mode 3 early))).1 refl).1 (rw (ne_eqb p.process_count 0 (λ z. omega (arith, b.0, b.1))))).0 refl r f in
         let q = with_mode_and_lock 3 0 0 p in
         let f = entering m.t r in
         let is = own_after m k u h _ g ∙ sym (each_plain f q v.lists) in (
@@ -268,65 +268,65 @@ module _ (m : Module) (k : ℕ) (u : SoundModule m) (h : Calling m k) where
   -- ---------------------------------------------------------------- reading a channel
   age_corner : (i : ℕ) → let x = message m (i - 1) in
       let refresh = (channel m.table (i - 1)).refresh in
-      Between 1 m.table.channelCount i → (channel m.table (i - 1)).size ≡ 0 → (channel m.table (i - 1)).destination ≡ k → x.present ≡ true
-      → (m.t ≡ x.written + refresh → Gives m (call_by k 22 (pos i) (pos 0) (pos 0) (pos 0)) 0 x.value (At 1) m)
-      × (m.t ≡ x.written + refresh + 1 → Gives m (call_by k 22 (pos i) (pos 0) (pos 0) (pos 0)) 0 x.value (At 0) m)
+      Between 1 m.table.channel_count i → (channel m.table (i - 1)).size ≡ 0 → (channel m.table (i - 1)).destination ≡ k → x.present ≡ true
+      → (m.t ≡ x.written + refresh → Gives m (call_by k 22 (pos i) (pos 0) (pos 0) (pos 0)) 0 x.value (Some 1) m)
+      × (m.t ≡ x.written + refresh + 1 → Gives m (call_by k 22 (pos i) (pos 0) (pos 0) (pos 0)) 0 x.value (Some 0) m)
   unfolding Checks
   age_corner i b sampling d here =
       let x = message m (i - 1) in
       let y = channel m.table (i - 1) in
       let at : eqb y.destination k ≡ true = eq-eqb _ _ d in
-      let g = (((((c.read (pos i)).1 (known_id i m.table.channelCount b)).1 (rw sampling)).1 (rw at (and-false (not (eqb y.source k))))).1 (rw at)).1 (rw here) in
+      let g = (((((c.read (pos i)).1 (known_id i m.table.channel_count b)).1 (rw sampling)).1 (rw at (and-false (not (eqb y.source k))))).1 (rw at)).1 (rw here) in
       (λ t. rw (le-leb (m.t - x.written) y.refresh (omega arith)) at g, λ t. rw (lt-leb (m.t - x.written) y.refresh (omega arith)) at g)
 
   -- ---------------------------------------------------------------- time-out 0
-  suspend_self_corner : p.mode ≡ 3 → p.level ≡ 0 → (process (running p) p).given.period ≡ Never → Gives m (call_by k 8 (pos 0) (pos 0) (pos 0) (pos 0)) 0 0 (At 0) m
+  suspend_self_corner : p.mode ≡ 3 → p.level ≡ 0 → (process (running p) p).given.period ≡ None → Gives m (call_by k 8 (pos 0) (pos 0) (pos 0) (pos 0)) 0 0 (Some 0) m
   unfolding Checks
   suspend_self_corner n free never = ((((c.suspend_self (pos 0)).1 (rw (eq-eqb p.mode 3 n, never))).1 refl).1 (le-ltb 0 p.level (omega (arith, free)))).0 refl
 
-  timed_wait_corner : p.mode ≡ 3 → p.level ≡ 0 → Puts m (call_by k 9 (pos 0) (pos 0) (pos 0) (pos 0)) 0 0 k (with_processes p.processes p.processCount (at_end (running p) p.arrival) p.waiting p)
+  timed_wait_corner : p.mode ≡ 3 → p.level ≡ 0 → Puts m (call_by k 9 (pos 0) (pos 0) (pos 0) (pos 0)) 0 0 k (with_processes p.processes p.process_count (at_end (running p) p.arrival) p.waiting p)
   unfolding Checks
   timed_wait_corner n free = ((((c.timed_wait (pos 0)).1 (in_normal n)).1 refl).1 (le-ltb 0 p.level (omega (arith, free)))).0 refl
 
-  wait_semaphore_corner : (j : ℕ) → p.mode ≡ 3 → Between 1 p.semaphoreCount j
+  wait_semaphore_corner : (j : ℕ) → p.mode ≡ 3 → Between 1 p.semaphore_count j
       → ((semaphore j p).value ≡ 0 → Refuses m (call_by k 15 (pos j) (pos 0) (pos 0) (pos 0)) 2)
       × ((n : ℕ) → (semaphore j p).value ≡ suc n → Puts m (call_by k 15 (pos j) (pos 0) (pos 0) (pos 0)) 0 0 k (with_semaphore_at j n p))
   unfolding Checks
   wait_semaphore_corner j n b =
-      let g = (((c.wait_semaphore (pos j) (pos 0)).1 (known_id j p.semaphoreCount b)).1 (in_normal n)).1 refl in (
+      let g = (((c.wait_semaphore (pos j) (pos 0)).1 (known_id j p.semaphore_count b)).1 (in_normal n)).1 refl in (
         λ z. (g.1 (rw z)).0 refl,
         λ r z. let e : (semaphore j p).value - 1 ≡ r = rw z (omega arith) in rw e at (g.0 (lt-ltb 0 (semaphore j p).value (omega (arith, z)))),
       )
 
-  wait_event_corner : (j : ℕ) → p.mode ≡ 3 → Between 1 p.eventCount j
+  wait_event_corner : (j : ℕ) → p.mode ≡ 3 → Between 1 p.event_count j
       → ((event j p).up ≡ false → Refuses m (call_by k 20 (pos j) (pos 0) (pos 0) (pos 0)) 2)
-      × ((event j p).up ≡ true → Gives m (call_by k 20 (pos j) (pos 0) (pos 0) (pos 0)) 0 0 (At 0) m)
+      × ((event j p).up ≡ true → Gives m (call_by k 20 (pos j) (pos 0) (pos 0) (pos 0)) 0 0 (Some 0) m)
   unfolding Checks
-  wait_event_corner j n b = let g = (((c.wait_event (pos j) (pos 0)).1 (known_id j p.eventCount b)).1 (in_normal n)).1 refl in (λ z. (g.1 z).0 refl, λ z. g.0 z)
+  wait_event_corner j n b = let g = (((c.wait_event (pos j) (pos 0)).1 (known_id j p.event_count b)).1 (in_normal n)).1 refl in (λ z. (g.1 z).0 refl, λ z. g.0 z)
 
-  send_buffer_corner : (j x : ℕ) → p.mode ≡ 3 → Between 1 p.bufferCount j → x ≤ duration_limit → (buffer j p).queue.len ≡ (buffer j p).limit → Refuses m (call_by k 24 (pos j) (pos x) (pos 0) (pos 0)) 2
+  send_buffer_corner : (j x : ℕ) → p.mode ≡ 3 → Between 1 p.buffer_count j → x ≤ duration_limit → (buffer j p).queue.len ≡ (buffer j p).limit → Refuses m (call_by k 24 (pos j) (pos x) (pos 0) (pos 0)) 2
   unfolding Checks
   send_buffer_corner j x n b ok full =
-      (((((c.send_buffer (pos j) (pos x) (pos 0)).1 (known_id j p.bufferCount b)).1 (in_normal n)).1 (rw (from_zero x, le-leb x 9999999 ok))).1 (le-ltb (buffer j p).queue.len (buffer j p).limit (omega (arith, full)))).0 refl
+      (((((c.send_buffer (pos j) (pos x) (pos 0)).1 (known_id j p.buffer_count b)).1 (in_normal n)).1 (rw (from_zero x, le-leb x 9999999 ok))).1 (le-ltb (buffer j p).queue.len (buffer j p).limit (omega (arith, full)))).0 refl
 
-  receive_buffer_corner : (j : ℕ) → p.mode ≡ 3 → Between 1 p.bufferCount j → (buffer j p).queue.len ≡ 0 → Refuses m (call_by k 25 (pos j) (pos 0) (pos 0) (pos 0)) 2
+  receive_buffer_corner : (j : ℕ) → p.mode ≡ 3 → Between 1 p.buffer_count j → (buffer j p).queue.len ≡ 0 → Refuses m (call_by k 25 (pos j) (pos 0) (pos 0) (pos 0)) 2
   unfolding Checks
-  receive_buffer_corner j n b none = (((((c.receive_buffer (pos j) (pos 0)).1 (known_id j p.bufferCount b)).1 (in_normal n)).1 refl).1 (rw none)).0 refl
+  receive_buffer_corner j n b none = (((((c.receive_buffer (pos j) (pos 0)).1 (known_id j p.buffer_count b)).1 (in_normal n)).1 refl).1 (rw none)).0 refl
 
-  read_blackboard_corner : (j : ℕ) → p.mode ≡ 3 → Between 1 p.blackboardCount j
+  read_blackboard_corner : (j : ℕ) → p.mode ≡ 3 → Between 1 p.blackboard_count j
       → ((blackboard j p).shown ≡ false → Refuses m (call_by k 28 (pos j) (pos 0) (pos 0) (pos 0)) 2)
-      × ((blackboard j p).shown ≡ true → Gives m (call_by k 28 (pos j) (pos 0) (pos 0) (pos 0)) 0 (blackboard j p).message (At 0) m)
+      × ((blackboard j p).shown ≡ true → Gives m (call_by k 28 (pos j) (pos 0) (pos 0) (pos 0)) 0 (blackboard j p).message (Some 0) m)
   unfolding Checks
-  read_blackboard_corner j n b = let g = (((c.read_blackboard (pos j) (pos 0)).1 (known_id j p.blackboardCount b)).1 (in_normal n)).1 refl in (λ z. (g.1 z).0 refl, λ z. g.0 z)
+  read_blackboard_corner j n b = let g = (((c.read_blackboard (pos j) (pos 0)).1 (known_id j p.blackboard_count b)).1 (in_normal n)).1 refl in (λ z. (g.1 z).0 refl, λ z. g.0 z)
 
   -- ---------------------------------------------------------------- SIGNAL, PERIODIC_WAIT
-  signal_corner : (j : ℕ) → Between 1 p.semaphoreCount j → (semaphore j p).value ≡ (semaphore j p).max → Refuses m (call_by k 16 (pos j) (pos 0) (pos 0) (pos 0)) 1
+  signal_corner : (j : ℕ) → Between 1 p.semaphore_count j → (semaphore j p).value ≡ (semaphore j p).max → Refuses m (call_by k 16 (pos j) (pos 0) (pos 0) (pos 0)) 1
   unfolding Checks
-  signal_corner j b z = ((c.signal (pos j)).1 (known_id j p.semaphoreCount b)).0 (eq-eqb (semaphore j p).value (semaphore j p).max z)
+  signal_corner j b z = ((c.signal (pos j)).1 (known_id j p.semaphore_count b)).0 (eq-eqb (semaphore j p).value (semaphore j p).max z)
 
   periodic_wait_corner : (r n : ℕ) → let id = running p in
       let x = process id p in
-      p.mode ≡ 3 → p.level ≡ 0 → x.times.release ≡ At r → x.given.period ≡ At n
+      p.mode ≡ 3 → p.level ≡ 0 → x.times.release ≡ Some r → x.given.period ≡ Some n
       → Puts m (call_by k 10 (pos 0) (pos 0) (pos 0) (pos 0)) 7 0 k (with_process id (awaits_next (r + n) x) (without id p.arrival) p)
   unfolding Checks
   periodic_wait_corner r n normal free e f = (c.periodic_wait.1 (rw (eq-eqb p.mode 3 normal, f))).1 (le-ltb 0 p.level (omega (arith, free))) r n e f

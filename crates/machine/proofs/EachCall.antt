@@ -25,8 +25,8 @@ use Rattle.machine.specs.declared.Blackboard.{Blackboard as BlackboardT}
 use Rattle.machine.specs.declared.Buffer.{Buffer}
 use Rattle.machine.specs.declared.Wait.{Wait}
 use Rattle.machine.specs.declared.Wait.TheVariants.{Timed, Semaphore, Event, Sending, Receiving, Blackboard, Source, Destination}
-use Rattle.machine.specs.declared.Time.{Time}
-use Rattle.machine.specs.declared.Time.TheVariants.{Never, At}
+use Rattle.machine.specs.Time.{Time}
+use Rattle.std.specs.Prelude.{None, Some}
 use Rattle.machine.specs.declared.Field.TheVariants.{Number}
 use Rattle.machine.specs.Limits.{call_limit, duration_limit, time_limit, greatest_time, greatest_value, process_limit, semaphore_limit, event_limit, buffer_limit, blackboard_limit, channel_limit, name_limit, message_limit, value_limit, priority_limit, level_limit, mode_limit}
 use Rattle.machine.specs.Fields.{field, request_of, is_number, is_timeout, time_of, number_of}
@@ -102,8 +102,8 @@ periodic_is : (x : Process) → periodic x ≡ periodic_at x.given.period
 periodic_is x = go x.given.period
   where
     go : (a : Time) → not (is_never a) ≡ periodic_at a
-    go Never = refl
-    go (At n) = refl
+    go None = refl
+    go (Some n) = refl
 
 flip : {A : Type 0} (b : Bool) (x y : A) → cond (not b) x y ≡ cond b y x
 flip true x y = refl
@@ -114,7 +114,7 @@ or_of_right true b h = refl
 or_of_right false b h = h
 
 -- a time of D
-timed : (a : ℤ) → in_d a ≡ true → (t : ℕ) → At (t + id_of a) ≡ plain_later (At t) (time_in a)
+timed : (a : ℤ) → in_d a ≡ true → (t : ℕ) → Some (t + id_of a) ≡ plain_later (Some t) (time_in a)
 timed (pos n) h t = refl
 timed (negsuc n) h t = not_both _ h refl
 
@@ -268,18 +268,18 @@ module _ (m : Module) (k : ℕ) (u : SoundModule m) (h : Calling m k) where
     unfolding Checks
     by_none stray is = (λ _. gives m k u h n (negsuc j) b c e lo hi stray (Refused 3) is, λ t. not_both _ refl t)
 
-  few : p.processCount ≤ greatest_time
+  few : p.process_count ≤ greatest_time
   few = omega (arith, v.lists.numbered.few)
 
   -- a process stored
-  puts_stored : (e : EventT) (code : ℕ) (id : ℕ) (x : Process) → Between 1 p.processCount id → Puts m e code 0 k (stored id x p) → Puts m e code 0 k (plain_stored id x p)
+  puts_stored : (e : EventT) (code : ℕ) (id : ℕ) (x : Process) → Between 1 p.process_count id → Puts m e code 0 k (stored id x p) → Puts m e code 0 k (plain_stored id x p)
   puts_stored e code id x b g = puts_is m k _ _ g (stored_plain p v.lists id b x)
 
   stop_law : Stop m k
   unfolding call_decision services stray_field D.checked C.stop
-  stop_law (pos j) = by_id_holds 5 j (pos 0) (pos 0) (pos 0) (omega arith) (omega arith) p.processCount few _ _ refl (D.changed (Stored j (now_dormant (process j p))))
-      (λ t. rw (unknown_is (pos j) p.processCount few, t)) (λ f b. rw (f, known m k u h j p.processCount b)) (λ b _ g. puts_stored _ 0 j _ b g)
-  stop_law (negsuc j) = by_none 5 j (pos 0) (pos 0) (pos 0) (omega arith) (omega arith) p.processCount few _ _ refl (rw (unknown_is (negsuc j) p.processCount few))
+  stop_law (pos j) = by_id_holds 5 j (pos 0) (pos 0) (pos 0) (omega arith) (omega arith) p.process_count few _ _ refl (D.changed (Stored j (now_dormant (process j p))))
+      (λ t. rw (unknown_is (pos j) p.process_count few, t)) (λ f b. rw (f, known m k u h j p.process_count b)) (λ b _ g. puts_stored _ 0 j _ b g)
+  stop_law (negsuc j) = by_none 5 j (pos 0) (pos 0) (pos 0) (omega arith) (omega arith) p.process_count few _ _ refl (rw (unknown_is (negsuc j) p.process_count few))
 
   stop_self_law : StopSelf m k
   unfolding call_decision services stray_field D.checked C.stop_self
@@ -288,30 +288,30 @@ module _ (m : Module) (k : ℕ) (u : SoundModule m) (h : Calling m k) where
 
   suspend_law : Suspend m k
   unfolding call_decision services stray_field D.checked C.suspend
-  suspend_law (pos j) = by_id_holds 7 j (pos 0) (pos 0) (pos 0) (omega arith) (omega arith) p.processCount few _ _ refl (let x = process j p in D.changed (Stored j (with true x.times.wake x.code x.wait x)))
-      (λ t. rw (unknown_is (pos j) p.processCount few, t)) (λ f b. rw (f, known m k u h j p.processCount b, periodic_is (process j p))) (λ b _ g. puts_stored _ 0 j _ b g)
-  suspend_law (negsuc j) = by_none 7 j (pos 0) (pos 0) (pos 0) (omega arith) (omega arith) p.processCount few _ _ refl (rw (unknown_is (negsuc j) p.processCount few))
+  suspend_law (pos j) = by_id_holds 7 j (pos 0) (pos 0) (pos 0) (omega arith) (omega arith) p.process_count few _ _ refl (let x = process j p in D.changed (Stored j (with true x.times.wake x.code x.wait x)))
+      (λ t. rw (unknown_is (pos j) p.process_count few, t)) (λ f b. rw (f, known m k u h j p.process_count b, periodic_is (process j p))) (λ b _ g. puts_stored _ 0 j _ b g)
+  suspend_law (negsuc j) = by_none 7 j (pos 0) (pos 0) (pos 0) (omega arith) (omega arith) p.process_count few _ _ refl (rw (unknown_is (negsuc j) p.process_count few))
 
   resume_law : Resume m k
   unfolding call_decision services stray_field D.checked C.resume
-  resume_law (pos j) = by_id_holds 11 j (pos 0) (pos 0) (pos 0) (omega arith) (omega arith) p.processCount few _ _ refl (D.changed (Stored j (resumed (process j p))))
-      (λ t. rw (unknown_is (pos j) p.processCount few, t)) (λ f b. rw (f, known m k u h j p.processCount b, periodic_is (process j p))) (λ b _ g. (
+  resume_law (pos j) = by_id_holds 11 j (pos 0) (pos 0) (pos 0) (omega arith) (omega arith) p.process_count few _ _ refl (D.changed (Stored j (resumed (process j p))))
+      (λ t. rw (unknown_is (pos j) p.process_count few, t)) (λ f b. rw (f, known m k u h j p.process_count b, periodic_is (process j p))) (λ b _ g. (
         λ w. puts_stored _ 0 j _ b (puts_is m k _ _ g (ap (λ (y : Process). stored j y p) (rw w))),
         λ w. puts_stored _ 0 j _ b (puts_is m k _ _ g (ap (λ (y : Process). stored j y p) (rw (waits (process j p).wait w)))),
       ))
-  resume_law (negsuc j) = by_none 11 j (pos 0) (pos 0) (pos 0) (omega arith) (omega arith) p.processCount few _ _ refl (rw (unknown_is (negsuc j) p.processCount few))
+  resume_law (negsuc j) = by_none 11 j (pos 0) (pos 0) (pos 0) (omega arith) (omega arith) p.process_count few _ _ refl (rw (unknown_is (negsuc j) p.process_count few))
 
   status_law : GetStatus m k
   unfolding call_decision services stray_field D.checked C.get_status
-  status_law (pos j) = by_id_holds 13 j (pos 0) (pos 0) (pos 0) (omega arith) (omega arith) p.processCount few _ _ refl (let x = process j p in Unchanged (cond x.started (cond (eqb j (running p)) 2 (cond (ready x) 1 3)) 0) x.times.deadline)
-      (λ t. rw (unknown_is (pos j) p.processCount few, t)) (λ f b. rw (f, known m k u h j p.processCount b) (ap (λ s. Unchanged s (process j p).times.deadline) (flip (process j p).started 0 _))) (λ _ _ g. g)
-  status_law (negsuc j) = by_none 13 j (pos 0) (pos 0) (pos 0) (omega arith) (omega arith) p.processCount few _ _ refl (rw (unknown_is (negsuc j) p.processCount few))
+  status_law (pos j) = by_id_holds 13 j (pos 0) (pos 0) (pos 0) (omega arith) (omega arith) p.process_count few _ _ refl (let x = process j p in Unchanged (cond x.started (cond (eqb j (running p)) 2 (cond (ready x) 1 3)) 0) x.times.deadline)
+      (λ t. rw (unknown_is (pos j) p.process_count few, t)) (λ f b. rw (f, known m k u h j p.process_count b) (ap (λ s. Unchanged s (process j p).times.deadline) (flip (process j p).started 0 _))) (λ _ _ g. g)
+  status_law (negsuc j) = by_none 13 j (pos 0) (pos 0) (pos 0) (omega arith) (omega arith) p.process_count few _ _ refl (rw (unknown_is (negsuc j) p.process_count few))
 
   -- t + a, or −1
-  until_plain : (a : ℤ) → in_t a ≡ true → later (At m.t) (time_of (field a)) ≡ plain_later (At m.t) (time_in a)
+  until_plain : (a : ℤ) → in_t a ≡ true → later (Some m.t) (time_of (field a)) ≡ plain_later (Some m.t) (time_in a)
   until_plain (pos n) t =
       let hi = (in_range_holds 0 9999999 n t).1 in
-      rw (field_number n (omega arith)) (later_uncapped time_limit duration_limit (At m.t) (At n) u.time hi (omega arith))
+      rw (field_number n (omega arith)) (later_uncapped time_limit duration_limit (Some m.t) (Some n) u.time hi (omega arith))
   until_plain (negsuc zero) t = refl
   until_plain (negsuc (suc n)) t = refl
 
@@ -319,13 +319,13 @@ module _ (m : Module) (k : ℕ) (u : SoundModule m) (h : Calling m k) where
   timeout_is a = let l = lossless a in rw (l.is_minus_one, l.between 0 duration_limit (omega arith))
 
   -- the caller of a NORMAL partition
-  caller : p.mode ≡ 3 → (Between 1 p.processCount (running p)) × (ready (process (running p) p) ≡ true)
+  caller : p.mode ≡ 3 → (Between 1 p.process_count (running p)) × (ready (process (running p) p) ≡ true)
   caller n = let c = running_caller p v.lists v.lock (h.runs n) in (c.created, c.is_ready)
 
   suspend_self_law : SuspendSelf m k
   unfolding call_decision services stray_field D.checked Passed D.blocked C.suspend_self
   suspend_self_law a = by_list 8 a (pos 0) (pos 0) (pos 0) (omega arith) (omega arith) refl _
-      (cond (is_number 0 (field a)) D.unchanged (D.blocked p.level (running p) (suspended_until (later (At m.t) (time_of (field a))) (process (running p) p)))) _
+      (cond (is_number 0 (field a)) D.unchanged (D.blocked p.level (running p) (suspended_until (later (Some m.t) (time_of (field a))) (process (running p) p)))) _
       (rw (periodic_is (process (running p) p), timeout_is a)) (λ q g.
       let normal = eqb-true _ 3 (not-false _ (or_left _ _ q.0)) in
       let t = until_plain a (not-false _ q.1.0) in (
@@ -336,7 +336,7 @@ module _ (m : Module) (k : ℕ) (u : SoundModule m) (h : Calling m k) where
   timed_wait_law : TimedWait m k
   unfolding call_decision services stray_field D.checked Passed D.blocked C.timed_wait
   timed_wait_law a = by_list 9 a (pos 0) (pos 0) (pos 0) (omega arith) (omega arith) refl _
-      (cond (is_number 0 (field a)) (D.changed (Last (running p))) (D.blocked p.level (running p) (waiting_for Timed (later (At m.t) (time_of (field a))) (process (running p) p)))) _
+      (cond (is_number 0 (field a)) (D.changed (Last (running p))) (D.blocked p.level (running p) (waiting_for Timed (later (Some m.t) (time_of (field a))) (process (running p) p)))) _
       (rw ((lossless a).between 0 duration_limit (omega arith))) (λ q g.
       let normal = eqb-true _ 3 (not-false _ q.0) in
       let t = until_plain a (or_of_right (plain_minus_one a) _ (not-false _ q.1.0)) in (
@@ -345,68 +345,68 @@ module _ (m : Module) (k : ℕ) (u : SoundModule m) (h : Calling m k) where
       ))
 
   -- an event and a blackboard stored
-  event_at_holds : (j : ℕ) → Between 1 p.eventCount j → (up : Bool) → stored_event j (record { name = (event j p).name; up = up }) p ≡ with_event_at j up p
-  event_at_holds j b up = let s : max p.eventCount j ≡ p.eventCount = omega (arith, b.1) in event_in j _ p (within_in event_limit j b.0 (omega (arith, b.1, v.objects.events.numbered.few))) ∙ rw s
+  event_at_holds : (j : ℕ) → Between 1 p.event_count j → (up : Bool) → stored_event j (record { name = (event j p).name; up = up }) p ≡ with_event_at j up p
+  event_at_holds j b up = let s : max p.event_count j ≡ p.event_count = omega (arith, b.1) in event_in j _ p (within_in event_limit j b.0 (omega (arith, b.1, v.objects.events.numbered.few))) ∙ rw s
 
-  board_at_holds : (j : ℕ) → Between 1 p.blackboardCount j → (shown : Bool) (x : ℕ) → stored_blackboard j (record { name = (blackboard j p).name; shown = shown; message = x }) p ≡ with_board_at j shown x p
-  board_at_holds j b shown x = let s : max p.blackboardCount j ≡ p.blackboardCount = omega (arith, b.1) in blackboard_in j _ p (within_in blackboard_limit j b.0 (omega (arith, b.1, v.objects.blackboards.numbered.few))) ∙ rw s
+  board_at_holds : (j : ℕ) → Between 1 p.blackboard_count j → (shown : Bool) (x : ℕ) → stored_blackboard j (record { name = (blackboard j p).name; shown = shown; message = x }) p ≡ with_board_at j shown x p
+  board_at_holds j b shown x = let s : max p.blackboard_count j ≡ p.blackboard_count = omega (arith, b.1) in blackboard_in j _ p (within_in blackboard_limit j b.0 (omega (arith, b.1, v.objects.blackboards.numbered.few))) ∙ rw s
 
-  semaphore_at : (j : ℕ) → Between 1 p.semaphoreCount j → (n : ℕ) → stored_semaphore j (record { name = (semaphore j p).name; value = n; max = (semaphore j p).max }) p ≡ with_semaphore_at j n p
-  semaphore_at j b n = let s : max p.semaphoreCount j ≡ p.semaphoreCount = omega (arith, b.1) in semaphore_in j _ p (within_in semaphore_limit j b.0 (omega (arith, b.1, v.objects.semaphores.numbered.few))) ∙ rw s
+  semaphore_at : (j : ℕ) → Between 1 p.semaphore_count j → (n : ℕ) → stored_semaphore j (record { name = (semaphore j p).name; value = n; max = (semaphore j p).max }) p ≡ with_semaphore_at j n p
+  semaphore_at j b n = let s : max p.semaphore_count j ≡ p.semaphore_count = omega (arith, b.1) in semaphore_in j _ p (within_in semaphore_limit j b.0 (omega (arith, b.1, v.objects.semaphores.numbered.few))) ∙ rw s
 
-  few_semaphores : p.semaphoreCount ≤ greatest_time
+  few_semaphores : p.semaphore_count ≤ greatest_time
   few_semaphores = omega (arith, v.objects.semaphores.numbered.few)
 
-  few_events : p.eventCount ≤ greatest_time
+  few_events : p.event_count ≤ greatest_time
   few_events = omega (arith, v.objects.events.numbered.few)
 
-  few_blackboards : p.blackboardCount ≤ greatest_time
+  few_blackboards : p.blackboard_count ≤ greatest_time
   few_blackboards = omega (arith, v.objects.blackboards.numbered.few)
 
   reset_event_law : ResetEvent m k
   unfolding call_decision services stray_field D.checked Ob.reset_event
-  reset_event_law (pos j) = by_id_holds 19 j (pos 0) (pos 0) (pos 0) (omega arith) (omega arith) p.eventCount few_events _ _ refl (D.changed (StoredEvent j (record { name = (event j p).name; up = false })))
-      (λ t. rw (unknown_is (pos j) p.eventCount few_events, t)) (λ f b. rw (f, known m k u h j p.eventCount b)) (λ b _ g. puts_is m k _ _ g (event_at_holds j b false))
-  reset_event_law (negsuc j) = by_none 19 j (pos 0) (pos 0) (pos 0) (omega arith) (omega arith) p.eventCount few_events _ _ refl (rw (unknown_is (negsuc j) p.eventCount few_events))
+  reset_event_law (pos j) = by_id_holds 19 j (pos 0) (pos 0) (pos 0) (omega arith) (omega arith) p.event_count few_events _ _ refl (D.changed (StoredEvent j (record { name = (event j p).name; up = false })))
+      (λ t. rw (unknown_is (pos j) p.event_count few_events, t)) (λ f b. rw (f, known m k u h j p.event_count b)) (λ b _ g. puts_is m k _ _ g (event_at_holds j b false))
+  reset_event_law (negsuc j) = by_none 19 j (pos 0) (pos 0) (pos 0) (omega arith) (omega arith) p.event_count few_events _ _ refl (rw (unknown_is (negsuc j) p.event_count few_events))
 
   set_event_law : SetEvent m k
   unfolding call_decision services stray_field D.checked Ob.set_event
-  set_event_law (pos j) = by_id_holds 18 j (pos 0) (pos 0) (pos 0) (omega arith) (omega arith) p.eventCount few_events _ _ refl (Changed (StoredEvent j (record { name = (event j p).name; up = true })) (Ended (object (Event j))) 0)
-      (λ t. rw (unknown_is (pos j) p.eventCount few_events, t)) (λ f b. rw (f, known m k u h j p.eventCount b)) (λ b _ g.
+  set_event_law (pos j) = by_id_holds 18 j (pos 0) (pos 0) (pos 0) (omega arith) (omega arith) p.event_count few_events _ _ refl (Changed (StoredEvent j (record { name = (event j p).name; up = true })) (Ended (object (Event j))) 0)
+      (λ t. rw (unknown_is (pos j) p.event_count few_events, t)) (λ f b. rw (f, known m k u h j p.event_count b)) (λ b _ g.
       let o = object (Event j) in
       let q = with_event_at j true p in
       let same = event_queue p v.lists o (λ z. omega arith) j (record { name = (event j p).name; up = true }) in
       puts_is m k _ _ g (rw (same, event_at_holds j b true) (all_plain served (waiters o p) q v.lists (waiters_created p v.lists o))))
-  set_event_law (negsuc j) = by_none 18 j (pos 0) (pos 0) (pos 0) (omega arith) (omega arith) p.eventCount few_events _ _ refl (rw (unknown_is (negsuc j) p.eventCount few_events))
+  set_event_law (negsuc j) = by_none 18 j (pos 0) (pos 0) (pos 0) (omega arith) (omega arith) p.event_count few_events _ _ refl (rw (unknown_is (negsuc j) p.event_count few_events))
 
   clear_law : Clear m k
   unfolding call_decision services stray_field D.checked Bb.clear
-  clear_law (pos j) = by_id_holds 29 j (pos 0) (pos 0) (pos 0) (omega arith) (omega arith) p.blackboardCount few_blackboards _ _ refl (D.changed (StoredBlackboard j (record { name = (blackboard j p).name; shown = false; message = 0 })))
-      (λ t. rw (unknown_is (pos j) p.blackboardCount few_blackboards, t)) (λ f b. rw (f, known m k u h j p.blackboardCount b)) (λ b _ g. puts_is m k _ _ g (board_at_holds j b false 0))
-  clear_law (negsuc j) = by_none 29 j (pos 0) (pos 0) (pos 0) (omega arith) (omega arith) p.blackboardCount few_blackboards _ _ refl (rw (unknown_is (negsuc j) p.blackboardCount few_blackboards))
+  clear_law (pos j) = by_id_holds 29 j (pos 0) (pos 0) (pos 0) (omega arith) (omega arith) p.blackboard_count few_blackboards _ _ refl (D.changed (StoredBlackboard j (record { name = (blackboard j p).name; shown = false; message = 0 })))
+      (λ t. rw (unknown_is (pos j) p.blackboard_count few_blackboards, t)) (λ f b. rw (f, known m k u h j p.blackboard_count b)) (λ b _ g. puts_is m k _ _ g (board_at_holds j b false 0))
+  clear_law (negsuc j) = by_none 29 j (pos 0) (pos 0) (pos 0) (omega arith) (omega arith) p.blackboard_count few_blackboards _ _ refl (rw (unknown_is (negsuc j) p.blackboard_count few_blackboards))
 
   signal_law : Signal m k
   unfolding call_decision services stray_field D.checked Ob.signal Ob.signalled
-  signal_law (pos j) = by_id_holds 16 j (pos 0) (pos 0) (pos 0) (omega arith) (omega arith) p.semaphoreCount few_semaphores _ _ refl (D.changed (Ob.signalled (waiters (object (Semaphore j)) p) j p))
-      (λ t. rw (unknown_is (pos j) p.semaphoreCount few_semaphores, t)) (λ f b. rw (f, known m k u h j p.semaphoreCount b)) (λ b _ g. (
+  signal_law (pos j) = by_id_holds 16 j (pos 0) (pos 0) (pos 0) (omega arith) (omega arith) p.semaphore_count few_semaphores _ _ refl (D.changed (Ob.signalled (waiters (object (Semaphore j)) p) j p))
+      (λ t. rw (unknown_is (pos j) p.semaphore_count few_semaphores, t)) (λ f b. rw (f, known m k u h j p.semaphore_count b)) (λ b _ g. (
         λ w.
             let t = v.objects.semaphores.each j b in
             let more = lt-ltb (semaphore j p).value greatest_value (omega (arith, t.value, t.max.1)) in
             puts_is m k _ _ (rw (w, more) at g) (semaphore_at j b ((semaphore j p).value + 1)),
         λ id rest w. puts_stored _ 0 id _ (first_created (object (Semaphore j)) (λ z. omega arith) p v.lists id rest w) (rw w at g),
       ))
-  signal_law (negsuc j) = by_none 16 j (pos 0) (pos 0) (pos 0) (omega arith) (omega arith) p.semaphoreCount few_semaphores _ _ refl (rw (unknown_is (negsuc j) p.semaphoreCount few_semaphores))
+  signal_law (negsuc j) = by_none 16 j (pos 0) (pos 0) (pos 0) (omega arith) (omega arith) p.semaphore_count few_semaphores _ _ refl (rw (unknown_is (negsuc j) p.semaphore_count few_semaphores))
 
   show_law : Show m k
   unfolding call_decision services stray_field D.checked Passed Bb.show
-  show_law (pos j) b = by_id_holds 27 j b (pos 0) (pos 0) (omega arith) (omega arith) p.blackboardCount few_blackboards _ _ refl
+  show_law (pos j) b = by_id_holds 27 j b (pos 0) (pos 0) (omega arith) (omega arith) p.blackboard_count few_blackboards _ _ refl
       (Changed (StoredBlackboard j (record { name = (blackboard j p).name; shown = true; message = number_of (field b) })) (Handed (object (Blackboard j)) (number_of (field b))) 0)
-      (λ t. rw (unknown_is (pos j) p.blackboardCount few_blackboards, t)) (λ f r. rw (f, known m k u h j p.blackboardCount r, (lossless b).between 0 duration_limit (omega arith))) (λ r q g.
+      (λ t. rw (unknown_is (pos j) p.blackboard_count few_blackboards, t)) (λ f r. rw (f, known m k u h j p.blackboard_count r, (lossless b).between 0 duration_limit (omega arith))) (λ r q g.
       let o = object (Blackboard j) in
       let is = number_in 0 duration_limit b (omega arith) (not-false _ q.0) in
       let same = blackboard_queue p v.lists o (λ z. omega arith) j (record { name = (blackboard j p).name; shown = true; message = id_of b }) in
       puts_is m k _ _ (rw is at g) (rw (same, board_at_holds j r true (id_of b)) (all_plain (handed (id_of b)) (waiters o p) (with_board_at j true (id_of b) p) v.lists (waiters_created p v.lists o))))
-  show_law (negsuc j) b = by_none 27 j b (pos 0) (pos 0) (omega arith) (omega arith) p.blackboardCount few_blackboards _ _ refl (rw (unknown_is (negsuc j) p.blackboardCount few_blackboards))
+  show_law (negsuc j) b = by_none 27 j b (pos 0) (pos 0) (omega arith) (omega arith) p.blackboard_count few_blackboards _ _ refl (rw (unknown_is (negsuc j) p.blackboard_count few_blackboards))
 
   -- a call that waits
   module _ (n : ℕ) (x y z e : ℤ) (lo : 1 ≤ n) (hi : n ≤ call_limit) (stray : stray_field (service_of n).fields (asked m k u h n (field x) (field y) (field z) (field e)) ≡ false) where
@@ -422,14 +422,14 @@ module _ (m : Module) (k : ℕ) (u : SoundModule m) (h : Calling m k) where
         let r = passed.1 in
         let until = until_plain a (t (not-false _ r.1.0)) in (
           λ av. f passed.0 (not-false _ r.1.0) av (rw av at g),
-          λ av. by_list n x y z e lo hi stray _ (Blocked (running p) (waiting_for w (plain_later (At m.t) (time_in a)) (process (running p) p))) _
+          λ av. by_list n x y z e lo hi stray _ (Blocked (running p) (waiting_for w (plain_later (Some m.t) (time_in a)) (process (running p) p))) _
               (is ∙ passed_is (before ++ ((not (eqb p.mode 3), 5) ∷ (not ok, 3) ∷ [])) (cond available success (D.queued (context_of m k) (field a) w p)) q ∙ rw (av, until, (lossless a).is_number 0 (omega arith)))
               (λ _ g. puts_stored _ 7 (running p) _ (caller (eqb-true _ 3 (not-false _ r.0))).0 g),
         ))
 
-  buffer_at : (j : ℕ) → (r : Between 1 p.bufferCount j) → (a : Transfer) → SoundMove (buffer j p).limit (buffer j p).queue a → stored_buffer j (moved_in a (buffer j p)) p ≡ with_buffer_at j (plain_moved a (held (buffer j p).queue)) p
+  buffer_at : (j : ℕ) → (r : Between 1 p.buffer_count j) → (a : Transfer) → SoundMove (buffer j p).limit (buffer j p).queue a → stored_buffer j (moved_in a (buffer j p)) p ≡ with_buffer_at j (plain_moved a (held (buffer j p).queue)) p
   buffer_at j r a s =
-      let count : max p.bufferCount j ≡ p.bufferCount = omega (arith, r.1) in
+      let count : max p.buffer_count j ≡ p.buffer_count = omega (arith, r.1) in
       buffer_in j _ p (within_in buffer_limit j r.0 (omega (arith, r.1, v.objects.buffers.numbered.few))) ∙ rw (count, moved_in_plain (buffer j p) (v.objects.buffers.each j r) a s)
 
   -- another form of the record
@@ -437,31 +437,31 @@ module _ (m : Module) (k : ℕ) (u : SoundModule m) (h : Calling m k) where
   gives_is g is = record { code_is = g.code_is; value_is = g.value_is; extra_is = g.extra_is; state = g.state ∙ is }
 
   -- another value
-  gives_value : {e : EventT} {x y : ℕ} {q : Module} → x ≡ y → Gives m e 0 x (At 0) q → Gives m e 0 y (At 0) q
+  gives_value : {e : EventT} {x y : ℕ} {q : Module} → x ≡ y → Gives m e 0 x (Some 0) q → Gives m e 0 y (Some 0) q
   gives_value is g = record { code_is = g.code_is; value_is = g.value_is ∙ is; extra_is = g.extra_is; state = g.state }
 
-  few_buffers : p.bufferCount ≤ greatest_time
+  few_buffers : p.buffer_count ≤ greatest_time
   few_buffers = omega (arith, v.objects.buffers.numbered.few)
 
   wait_semaphore_law : WaitSemaphore m k
   unfolding call_decision services stray_field D.checked D.awaiting Ob.wait_semaphore
-  wait_semaphore_law (pos j) a = by_then 15 j a (pos 0) (pos 0) (omega arith) (omega arith) p.semaphoreCount few_semaphores _ _ refl (λ t. rw (unknown_is (pos j) p.semaphoreCount few_semaphores, t)) (λ f r.
+  wait_semaphore_law (pos j) a = by_then 15 j a (pos 0) (pos 0) (omega arith) (omega arith) p.semaphore_count few_semaphores _ _ refl (λ t. rw (unknown_is (pos j) p.semaphore_count few_semaphores, t)) (λ f r.
       waiting 15 (pos j) a (pos 0) (pos 0) (omega arith) (omega arith) refl a [] (in_t a) (ltb 0 (semaphore j p).value) (D.changed (Ob.with_value j ((semaphore j p).value - 1) p)) (Semaphore j) _
-      (rw (f, known m k u h j p.semaphoreCount r, timeout_is a)) (λ o. o) (λ _ _ _ g. puts_is m k _ _ g (semaphore_at j r ((semaphore j p).value - 1))))
-  wait_semaphore_law (negsuc j) a = by_none 15 j a (pos 0) (pos 0) (omega arith) (omega arith) p.semaphoreCount few_semaphores _ _ refl (rw (unknown_is (negsuc j) p.semaphoreCount few_semaphores))
+      (rw (f, known m k u h j p.semaphore_count r, timeout_is a)) (λ o. o) (λ _ _ _ g. puts_is m k _ _ g (semaphore_at j r ((semaphore j p).value - 1))))
+  wait_semaphore_law (negsuc j) a = by_none 15 j a (pos 0) (pos 0) (omega arith) (omega arith) p.semaphore_count few_semaphores _ _ refl (rw (unknown_is (negsuc j) p.semaphore_count few_semaphores))
 
   wait_event_law : WaitEvent m k
   unfolding call_decision services stray_field D.checked D.awaiting Ob.wait_event
-  wait_event_law (pos j) a = by_then 20 j a (pos 0) (pos 0) (omega arith) (omega arith) p.eventCount few_events _ _ refl (λ t. rw (unknown_is (pos j) p.eventCount few_events, t)) (λ f r.
+  wait_event_law (pos j) a = by_then 20 j a (pos 0) (pos 0) (omega arith) (omega arith) p.event_count few_events _ _ refl (λ t. rw (unknown_is (pos j) p.event_count few_events, t)) (λ f r.
       waiting 20 (pos j) a (pos 0) (pos 0) (omega arith) (omega arith) refl a [] (in_t a) (event j p).up D.unchanged (Event j) _
-      (rw (f, known m k u h j p.eventCount r, timeout_is a)) (λ o. o) (λ _ _ _ g. g))
-  wait_event_law (negsuc j) a = by_none 20 j a (pos 0) (pos 0) (omega arith) (omega arith) p.eventCount few_events _ _ refl (rw (unknown_is (negsuc j) p.eventCount few_events))
+      (rw (f, known m k u h j p.event_count r, timeout_is a)) (λ o. o) (λ _ _ _ g. g))
+  wait_event_law (negsuc j) a = by_none 20 j a (pos 0) (pos 0) (omega arith) (omega arith) p.event_count few_events _ _ refl (rw (unknown_is (negsuc j) p.event_count few_events))
 
   receive_buffer_law : ReceiveBuffer m k
   unfolding call_decision services stray_field D.checked D.awaiting Bu.receive_buffer received
-  receive_buffer_law (pos j) a = by_then 25 j a (pos 0) (pos 0) (omega arith) (omega arith) p.bufferCount few_buffers _ _ refl (λ t. rw (unknown_is (pos j) p.bufferCount few_buffers, t)) (λ f r.
+  receive_buffer_law (pos j) a = by_then 25 j a (pos 0) (pos 0) (omega arith) (omega arith) p.buffer_count few_buffers _ _ refl (λ t. rw (unknown_is (pos j) p.buffer_count few_buffers, t)) (λ f r.
       waiting 25 (pos j) a (pos 0) (pos 0) (omega arith) (omega arith) refl a [] (in_t a) (ltb 0 (buffer j p).queue.len) (Bu.receives (first_waiter (object (Sending j 0)) p) j p) (Receiving j) _
-      (rw (f, known m k u h j p.bufferCount r, timeout_is a)) (λ o. o) (λ _ _ av g b l is.
+      (rw (f, known m k u h j p.buffer_count r, timeout_is a)) (λ o. o) (λ _ _ av g b l is.
       let s = v.objects.buffers.each j r in
       let some : 1 ≤ (buffer j p).queue.len = ltb-true 0 (buffer j p).queue.len av in
       let value = queue_first (buffer j p).limit (buffer j p).queue s.queue ∙ ap (λ (t : List ℕ). get_or t 0 0) is in (
@@ -476,33 +476,33 @@ module _ (m : Module) (k : ℕ) (u : SoundModule m) (h : Calling m k) where
             let x = let_go (process id p) in
             gives_value value (puts_is m k (stored id x full) (plain_stored id x full) (rw (w, ne_eqb id 0 (λ z. omega (arith, c.0)), at) at g) (stored_plain full v.lists id c x)),
       )))
-  receive_buffer_law (negsuc j) a = by_none 25 j a (pos 0) (pos 0) (omega arith) (omega arith) p.bufferCount few_buffers _ _ refl (rw (unknown_is (negsuc j) p.bufferCount few_buffers))
+  receive_buffer_law (negsuc j) a = by_none 25 j a (pos 0) (pos 0) (omega arith) (omega arith) p.buffer_count few_buffers _ _ refl (rw (unknown_is (negsuc j) p.buffer_count few_buffers))
 
   read_blackboard_law : ReadBlackboard m k
   unfolding call_decision services stray_field D.checked D.awaiting Bb.read_blackboard
-  read_blackboard_law (pos j) a = by_then 28 j a (pos 0) (pos 0) (omega arith) (omega arith) p.blackboardCount few_blackboards _ _ refl (λ t. rw (unknown_is (pos j) p.blackboardCount few_blackboards, t)) (λ f r.
-      waiting 28 (pos j) a (pos 0) (pos 0) (omega arith) (omega arith) refl a [] (in_t a) (blackboard j p).shown (Unchanged (blackboard j p).message (At 0)) (Blackboard j) _
-      (rw (f, known m k u h j p.blackboardCount r, timeout_is a)) (λ o. o) (λ _ _ _ g. g))
-  read_blackboard_law (negsuc j) a = by_none 28 j a (pos 0) (pos 0) (omega arith) (omega arith) p.blackboardCount few_blackboards _ _ refl (rw (unknown_is (negsuc j) p.blackboardCount few_blackboards))
+  read_blackboard_law (pos j) a = by_then 28 j a (pos 0) (pos 0) (omega arith) (omega arith) p.blackboard_count few_blackboards _ _ refl (λ t. rw (unknown_is (pos j) p.blackboard_count few_blackboards, t)) (λ f r.
+      waiting 28 (pos j) a (pos 0) (pos 0) (omega arith) (omega arith) refl a [] (in_t a) (blackboard j p).shown (Unchanged (blackboard j p).message (Some 0)) (Blackboard j) _
+      (rw (f, known m k u h j p.blackboard_count r, timeout_is a)) (λ o. o) (λ _ _ _ g. g))
+  read_blackboard_law (negsuc j) a = by_none 28 j a (pos 0) (pos 0) (omega arith) (omega arith) p.blackboard_count few_blackboards _ _ refl (rw (unknown_is (negsuc j) p.blackboard_count few_blackboards))
 
   send_buffer_law : SendBuffer m k
   unfolding call_decision services stray_field D.checked D.awaiting Bu.send_buffer sent
-  send_buffer_law (pos j) b a = by_then 24 j b a (pos 0) (omega arith) (omega arith) p.bufferCount few_buffers _ _ refl (λ t. rw (unknown_is (pos j) p.bufferCount few_buffers, t)) (λ f r.
+  send_buffer_law (pos j) b a = by_then 24 j b a (pos 0) (omega arith) (omega arith) p.buffer_count few_buffers _ _ refl (λ t. rw (unknown_is (pos j) p.buffer_count few_buffers, t)) (λ f r.
       waiting 24 (pos j) b a (pos 0) (omega arith) (omega arith) refl a [] (in_d b && in_t a) (ltb (buffer j p).queue.len (buffer j p).limit) (D.changed (Moved j (sent (first_waiter (object (Receiving j)) p) (id_of b)))) (Sending j (id_of b)) _
-      (either (in_d b) (λ o. rw (f, known m k u h j p.bufferCount r, number_in 0 duration_limit b (omega arith) o, (lossless b).between 0 duration_limit (omega arith), o, timeout_is a)) (λ o. rw (f, known m k u h j p.bufferCount r, (lossless b).between 0 duration_limit (omega arith), o))) (λ o. and_right (in_d b) _ o) (λ _ o av g. (
+      (either (in_d b) (λ o. rw (f, known m k u h j p.buffer_count r, number_in 0 duration_limit b (omega arith) o, (lossless b).between 0 duration_limit (omega arith), o, timeout_is a)) (λ o. rw (f, known m k u h j p.buffer_count r, (lossless b).between 0 duration_limit (omega arith), o))) (λ o. and_right (in_d b) _ o) (λ _ o av g. (
         λ w. puts_is m k _ _ (rw w at g) (buffer_at j r (Put (id_of b)) (ltb-true _ _ av, in_d_holds b (and_left (in_d b) _ o))),
         λ id rest w.
             let c = first_created (object (Receiving j)) (λ z. omega arith) p v.lists id rest w in
             puts_stored _ 0 id _ c (rw (w, ne_eqb id 0 (λ z. omega (arith, c.0)), Mo.handed_same m.table.frame m.t p v j r id (id_of b)) at g),
       )))
-  send_buffer_law (negsuc j) b a = by_none 24 j b a (pos 0) (omega arith) (omega arith) p.bufferCount few_buffers _ _ refl (rw (unknown_is (negsuc j) p.bufferCount few_buffers))
+  send_buffer_law (negsuc j) b a = by_none 24 j b a (pos 0) (omega arith) (omega arith) p.buffer_count few_buffers _ _ refl (rw (unknown_is (negsuc j) p.buffer_count few_buffers))
 
   -- ---------------------------------------------------------------- channels
   abbrev count : ℕ
-  count = m.table.channelCount
+  count = m.table.channel_count
 
   few_channels : count ≤ greatest_time
-  few_channels = omega (arith, u.table.channelCount)
+  few_channels = omega (arith, u.table.channel_count)
 
   -- a channel by its number
   module _ (j : ℕ) (r : Between 1 count j) where
@@ -516,7 +516,7 @@ module _ (m : Module) (k : ℕ) (u : SoundModule m) (h : Calling m k) where
     exists = rw (le-leb 1 j r.0, le-leb j count r.1)
 
     low : ltb (j - 1) channel_limit ≡ true
-    low = lt-ltb (j - 1) channel_limit (omega (arith, there_is, u.table.channelCount))
+    low = lt-ltb (j - 1) channel_limit (omega (arith, there_is, u.table.channel_count))
 
     place : j - 1 + 1 ≡ j
     place = omega (arith, r.0)
@@ -545,7 +545,7 @@ module _ (m : Module) (k : ℕ) (u : SoundModule m) (h : Calling m k) where
   read_law (pos j) = by_then 22 j (pos 0) (pos 0) (pos 0) (omega arith) (omega arith) count few_channels _ _ refl (λ t. rw ((lossless (pos j)).between 1 count few_channels, t)) (λ f r.
       let c = channel m.table (j - 1) in
       let x = message m (j - 1) in
-      by_list 22 (pos j) (pos 0) (pos 0) (pos 0) (omega arith) (omega arith) refl _ (Unchanged x.value (At (cond (leb (m.t - x.written) c.refresh) 1 0))) _
+      by_list 22 (pos j) (pos 0) (pos 0) (pos 0) (omega arith) (omega arith) refl _ (Unchanged x.value (Some (cond (leb (m.t - x.written) c.refresh) 1 0))) _
       (either (eqb c.destination k) (λ d. rw (f, exists j r, kind j r, d)) (λ d. rw (f, exists j r, kind j r, d))) (λ _ g. g))
   read_law (negsuc j) = by_none 22 j (pos 0) (pos 0) (pos 0) (omega arith) (omega arith) count few_channels _ _ refl (rw ((lossless (negsuc j)).between 1 count few_channels))
 
@@ -618,24 +618,24 @@ module _ (m : Module) (k : ℕ) (u : SoundModule m) (h : Calling m k) where
   long_is delay period = either (in_d delay) (λ o. rw (o, number_in 0 duration_limit delay (omega arith) o) (same period)) (λ o. rw o)
     where
       same : (period : Time) → C.reaches period (id_of delay) ≡ too_long (id_of delay) period
-      same Never = refl
-      same (At n) = refl
+      same None = refl
+      same (Some n) = refl
 
   -- the start rule of an aperiodic process
-  aperiodic_is : (j n : ℕ) → Between 1 p.processCount j → n ≤ duration_limit → (process j p).given.period ≡ Never → start_rule (context_of m k) n (process j p) ≡ started_at m.t n (process j p).given.base false (process j p)
+  aperiodic_is : (j n : ℕ) → Between 1 p.process_count j → n ≤ duration_limit → (process j p).given.period ≡ None → start_rule (context_of m k) n (process j p) ≡ started_at m.t n (process j p).given.base false (process j p)
   unfolding start_rule
   aperiodic_is j n b low never =
       let x = process j p in
       let c = x.given.capacity in
-      let at = later_uncapped time_limit duration_limit (At m.t) (At n) u.time low (omega arith) in
-      let d = later_uncapped (time_limit + duration_limit) duration_limit (At (m.t + n)) c (omega (arith, u.time)) (capacity_bound x.given.period c (v.each_process j b).lasting.given.capacity) (omega arith) in
+      let at = later_uncapped time_limit duration_limit (Some m.t) (Some n) u.time low (omega arith) in
+      let d = later_uncapped (time_limit + duration_limit) duration_limit (Some (m.t + n)) c (omega (arith, u.time)) (capacity_bound x.given.period c (v.each_process j b).lasting.given.capacity) (omega arith) in
       rw (never, at, d) (either (eqb n 0) (λ e. rw e) (λ e. rw e))
 
-  period_low : (id n : ℕ) → Between 1 p.processCount id → (process id p).given.period ≡ At n → Between 1 duration_limit n
+  period_low : (id n : ℕ) → Between 1 p.process_count id → (process id p).given.period ≡ Some n → Between 1 duration_limit n
   period_low id n b e = (rw e at (v.each_process id b).lasting.given.period).0
 
   -- the start rule of a periodic process, where r is the next release point
-  released_is : (r : ℕ) → Release m.table k m.t r → (id delay n : ℕ) → Between 1 p.processCount id → (process id p).given.period ≡ At n → delay ≤ duration_limit
+  released_is : (r : ℕ) → Release m.table k m.t r → (id delay n : ℕ) → Between 1 p.process_count id → (process id p).given.period ≡ Some n → delay ≤ duration_limit
       → start_rule (context_of m k) delay (process id p) ≡ awaits_release (r + delay) (process id p).times.delay (process id p).given.base false false (process id p)
   unfolding start_rule
   released_is r f id delay n b e short =
@@ -645,17 +645,17 @@ module _ (m : Module) (k : ℕ) (u : SoundModule m) (h : Calling m k) where
       rw (e, release_deadline_plain c p (calling_context m k u h) (process id p) l delay short, release_point_plain c p (calling_context m k u h) (process id p) l delay short, is)
 
   -- a DORMANT process is stored: it is not READY and waits on no object, before and after
-  dormant_stored : (id : ℕ) → Between 1 p.processCount id → (process id p).started ≡ false → (x : Process) → ready x ≡ false → on_object x ≡ false → stored id x p ≡ with_process id x p.arrival p
+  dormant_stored : (id : ℕ) → Between 1 p.process_count id → (process id p).started ≡ false → (x : Process) → ready x ≡ false → on_object x ≡ false → stored id x p ≡ with_process id x p.arrival p
   dormant_stored id b off x unready free = stored_steady p v.lists id b x (rw off (sym unready)) (rw ((v.each_process id b).dormant off).wait (sym free))
 
   module _ (n j : ℕ) (delay : ℤ) (lo : 1 ≤ n) (hi : n ≤ call_limit) (e : ℤ) (stray : stray_field (service_of n).fields (asked m k u h n (field (pos j)) (field e) (Number 0) (Number 0)) ≡ false) where
-    starts_by : (not (plain_between 1 p.processCount (pos j)) ≡ true → decides m k u h n (pos j) e (pos 0) (pos 0) lo hi ≡ Refused 3)
+    starts_by : (not (plain_between 1 p.process_count (pos j)) ≡ true → decides m k u h n (pos j) e (pos 0) (pos 0) lo hi ≡ Refused 3)
         → (field (pos j) ≡ Number j → decides m k u h n (pos j) e (pos 0) (pos 0) lo hi ≡ C.start (context_of m k) j (field delay) p)
         → Starts m k (call_by k n (pos j) e (pos 0) (pos 0)) (pos j) delay
     unfolding Passed D.checked C.start
-    starts_by none is = by_id_holds n j e (pos 0) (pos 0) lo hi p.processCount few _ _ stray
+    starts_by none is = by_id_holds n j e (pos 0) (pos 0) lo hi p.process_count few _ _ stray
         (D.changed (Stored j (cond (normal_mode p) (start_rule (context_of m k) (number_of (field delay)) (process j p)) (started_early (number_of (field delay)) (process j p))))) none
-        (λ f b. is f ∙ rw (known m k u h j p.processCount b, (lossless delay).between 0 duration_limit (omega arith), long_is delay (process j p).given.period, twice (process j p).started)) (λ b q g.
+        (λ f b. is f ∙ rw (known m k u h j p.process_count b, (lossless delay).between 0 duration_limit (omega arith), long_is delay (process j p).given.period, twice (process j p).started)) (λ b q g.
         let d = not-false _ (or_left _ _ q.0) in
         let g = rw (number_in 0 duration_limit delay (omega arith) d) at g in (
           λ early. puts_is m k _ _ (rw (normal_not m k u h early) at g) (dormant_stored j b q.1.0 _ refl refl),
@@ -665,17 +665,17 @@ module _ (m : Module) (k : ℕ) (u : SoundModule m) (h : Calling m k) where
 
   start_law : Start m k
   unfolding call_decision services stray_field D.checked C.start
-  start_law (pos j) = starts_by 3 j (pos 0) (omega arith) (omega arith) (pos 0) refl (λ t. rw (unknown_is (pos j) p.processCount few, t)) (λ f. rw f)
-  start_law (negsuc j) = by_none 3 j (pos 0) (pos 0) (pos 0) (omega arith) (omega arith) p.processCount few _ _ refl (rw (unknown_is (negsuc j) p.processCount few))
+  start_law (pos j) = starts_by 3 j (pos 0) (omega arith) (omega arith) (pos 0) refl (λ t. rw (unknown_is (pos j) p.process_count few, t)) (λ f. rw f)
+  start_law (negsuc j) = by_none 3 j (pos 0) (pos 0) (pos 0) (omega arith) (omega arith) p.process_count few _ _ refl (rw (unknown_is (negsuc j) p.process_count few))
 
   delayed_law : DelayedStart m k
   unfolding call_decision services stray_field D.checked C.start
-  delayed_law (pos j) delay = starts_by 4 j delay (omega arith) (omega arith) delay refl (λ t. rw (unknown_is (pos j) p.processCount few, t)) (λ f. rw f)
-  delayed_law (negsuc j) delay = by_none 4 j delay (pos 0) (pos 0) (omega arith) (omega arith) p.processCount few _ _ refl (rw (unknown_is (negsuc j) p.processCount few))
+  delayed_law (pos j) delay = starts_by 4 j delay (omega arith) (omega arith) delay refl (λ t. rw (unknown_is (pos j) p.process_count few, t)) (λ f. rw f)
+  delayed_law (negsuc j) delay = by_none 4 j delay (pos 0) (pos 0) (omega arith) (omega arith) p.process_count few _ _ refl (rw (unknown_is (negsuc j) p.process_count few))
 
   -- ---------------------------------------------------------------- priorities, PERIODIC_WAIT
   -- a READY one goes to the end
-  last : (id : ℕ) → Between 1 p.processCount id → (n : ℕ) → let y = with_priority n (process id p) in
+  last : (id : ℕ) → Between 1 p.process_count id → (n : ℕ) → let y = with_priority n (process id p) in
       applied (cond (ready (process id p)) (Last id) Nothing) (stored id y p) ≡ with_process id y (cond (ready (process id p)) (at_end id p.arrival) p.arrival) p
   last id b n =
       let y = with_priority n (process id p) in
@@ -686,10 +686,10 @@ module _ (m : Module) (k : ℕ) (u : SoundModule m) (h : Calling m k) where
 
   set_priority_law : SetPriority m k
   unfolding call_decision services stray_field D.checked Passed C.set_priority
-  set_priority_law (pos j) a = by_id_holds 12 j a (pos 0) (pos 0) (omega arith) (omega arith) p.processCount few _ _ refl (Changed (Stored j (with_priority (number_of (field a)) (process j p))) (cond (ready (process j p)) (Last j) Nothing) 0)
-      (λ t. rw (unknown_is (pos j) p.processCount few, t)) (λ f b. rw (f, known m k u h j p.processCount b, (lossless a).between 1 239 (omega arith)))
+  set_priority_law (pos j) a = by_id_holds 12 j a (pos 0) (pos 0) (omega arith) (omega arith) p.process_count few _ _ refl (Changed (Stored j (with_priority (number_of (field a)) (process j p))) (cond (ready (process j p)) (Last j) Nothing) 0)
+      (λ t. rw (unknown_is (pos j) p.process_count few, t)) (λ f b. rw (f, known m k u h j p.process_count b, (lossless a).between 1 239 (omega arith)))
       (λ b q g. puts_is m k _ _ (rw (number_in 1 239 a (omega arith) (not-false _ q.0)) at g) (last j b (id_of a)))
-  set_priority_law (negsuc j) a = by_none 12 j a (pos 0) (pos 0) (omega arith) (omega arith) p.processCount few _ _ refl (rw (unknown_is (negsuc j) p.processCount few))
+  set_priority_law (negsuc j) a = by_none 12 j a (pos 0) (pos 0) (omega arith) (omega arith) p.process_count few _ _ refl (rw (unknown_is (negsuc j) p.process_count few))
 
   periodic_wait_law : PeriodicWait m k
   unfolding call_decision services stray_field D.checked Passed D.blocked C.periodic_wait
@@ -736,7 +736,7 @@ module _ (m : Module) (k : ℕ) (u : SoundModule m) (h : Calling m k) where
   ticks_left_law =
       let x = m.t % m.table.frame in
       let l = window_left_holds m.table u.table m.t in (
-        gives m k u h 34 (pos 0) (pos 0) (pos 0) (pos 0) (omega arith) (omega arith) refl (Unchanged (ticks_left m) (At 0)) refl,
+        gives m k u h 34 (pos 0) (pos 0) (pos 0) (pos 0) (omega arith) (omega arith) refl (Unchanged (ticks_left m) (Some 0)) refl,
         ⊎_elim
             (λ (c : Covered (windows m.table) x).
             let e = l.window c.at c.inside c.covered in
@@ -767,42 +767,42 @@ module _ (m : Module) (k : ℕ) (u : SoundModule m) (h : Calling m k) where
   create_event_law : CreateEvent m k
   unfolding call_decision services stray_field D.checked Passed Ob.create_event
   create_event_law name =
-      let e = next_stored p.eventCount in
-      by_list 17 name (pos 0) (pos 0) (pos 0) (omega arith) (omega arith) refl _ (Changed (StoredEvent (p.eventCount + 1) (record { name = number_of (field name); up = false })) Nothing (p.eventCount + 1)) _
-      (rw (names_are (λ (x : EventState). x.name) name no_event event_limit p.eventCount p.events v.objects.events.numbered (λ j b. (v.objects.events.each j b).name.1), (lossless name).between 1 name_limit (omega arith))) (λ q g.
+      let e = next_stored p.event_count in
+      by_list 17 name (pos 0) (pos 0) (pos 0) (omega arith) (omega arith) refl _ (Changed (StoredEvent (p.event_count + 1) (record { name = number_of (field name); up = false })) Nothing (p.event_count + 1)) _
+      (rw (names_are (λ (x : EventState). x.name) name no_event event_limit p.event_count p.events v.objects.events.numbered (λ j b. (v.objects.events.each j b).name.1), (lossless name).between 1 name_limit (omega arith))) (λ q g.
       let ok = not-false _ q.1.1.0 in
-      let room : p.eventCount < event_limit = leb-false event_limit p.eventCount q.0 in
-      puts_is m k _ _ (rw (number_in 1 255 name (omega arith) ok) at g) (event_in (p.eventCount + 1) _ p (within_in event_limit (p.eventCount + 1) (omega arith) (omega (arith, room))) ∙ rw (e.0, e.1)))
+      let room : p.event_count < event_limit = leb-false event_limit p.event_count q.0 in
+      puts_is m k _ _ (rw (number_in 1 255 name (omega arith) ok) at g) (event_in (p.event_count + 1) _ p (within_in event_limit (p.event_count + 1) (omega arith) (omega (arith, room))) ∙ rw (e.0, e.1)))
 
   create_blackboard_law : CreateBlackboard m k
   unfolding call_decision services stray_field D.checked Passed Bb.create_blackboard
   create_blackboard_law name =
-      let e = next_stored p.blackboardCount in
-      by_list 26 name (pos 0) (pos 0) (pos 0) (omega arith) (omega arith) refl _ (Changed (StoredBlackboard (p.blackboardCount + 1) (record { name = number_of (field name); shown = false; message = 0 })) Nothing (p.blackboardCount + 1)) _
-      (rw (names_are (λ (x : BlackboardT). x.name) name no_blackboard blackboard_limit p.blackboardCount p.blackboards v.objects.blackboards.numbered (λ j b. (v.objects.blackboards.each j b).name.1), (lossless name).between 1 name_limit (omega arith))) (λ q g.
+      let e = next_stored p.blackboard_count in
+      by_list 26 name (pos 0) (pos 0) (pos 0) (omega arith) (omega arith) refl _ (Changed (StoredBlackboard (p.blackboard_count + 1) (record { name = number_of (field name); shown = false; message = 0 })) Nothing (p.blackboard_count + 1)) _
+      (rw (names_are (λ (x : BlackboardT). x.name) name no_blackboard blackboard_limit p.blackboard_count p.blackboards v.objects.blackboards.numbered (λ j b. (v.objects.blackboards.each j b).name.1), (lossless name).between 1 name_limit (omega arith))) (λ q g.
       let ok = not-false _ q.1.1.0 in
-      let room : p.blackboardCount < blackboard_limit = leb-false blackboard_limit p.blackboardCount q.0 in
-      puts_is m k _ _ (rw (number_in 1 255 name (omega arith) ok) at g) (blackboard_in (p.blackboardCount + 1) _ p (within_in blackboard_limit (p.blackboardCount + 1) (omega arith) (omega (arith, room))) ∙ rw (e.0, e.1)))
+      let room : p.blackboard_count < blackboard_limit = leb-false blackboard_limit p.blackboard_count q.0 in
+      puts_is m k _ _ (rw (number_in 1 255 name (omega arith) ok) at g) (blackboard_in (p.blackboard_count + 1) _ p (within_in blackboard_limit (p.blackboard_count + 1) (omega arith) (omega (arith, room))) ∙ rw (e.0, e.1)))
 
   create_buffer_law : CreateBuffer m k
   unfolding call_decision services stray_field D.checked Passed Bu.create_buffer
   create_buffer_law name limit =
-      let e = next_stored p.bufferCount in
-      by_list 23 name limit (pos 0) (pos 0) (omega arith) (omega arith) refl _ (Changed (CreatedBuffer (p.bufferCount + 1) (number_of (field name)) (number_of (field limit))) Nothing (p.bufferCount + 1)) _
-      (rw (names_are (λ (x : Buffer). x.name) name no_buffer buffer_limit p.bufferCount p.buffers v.objects.buffers.numbered (λ j b. (v.objects.buffers.each j b).name.1), (lossless name).between 1 name_limit (omega arith), (lossless limit).between 1 message_limit (omega arith))) (λ q g.
+      let e = next_stored p.buffer_count in
+      by_list 23 name limit (pos 0) (pos 0) (omega arith) (omega arith) refl _ (Changed (CreatedBuffer (p.buffer_count + 1) (number_of (field name)) (number_of (field limit))) Nothing (p.buffer_count + 1)) _
+      (rw (names_are (λ (x : Buffer). x.name) name no_buffer buffer_limit p.buffer_count p.buffers v.objects.buffers.numbered (λ j b. (v.objects.buffers.each j b).name.1), (lossless name).between 1 name_limit (omega arith), (lossless limit).between 1 message_limit (omega arith))) (λ q g.
       let ok = not-false _ q.1.1.0 in
-      let room : p.bufferCount < buffer_limit = leb-false buffer_limit p.bufferCount q.0 in
-      puts_is m k _ _ (rw (number_in 1 255 name (omega arith) (and_left (plain_between 1 255 name) _ ok), number_in 1 16 limit (omega arith) (and_right (plain_between 1 255 name) _ ok)) at g) (buffer_in (p.bufferCount + 1) _ p (within_in buffer_limit (p.bufferCount + 1) (omega arith) (omega (arith, room))) ∙ rw (e.0, e.1)))
+      let room : p.buffer_count < buffer_limit = leb-false buffer_limit p.buffer_count q.0 in
+      puts_is m k _ _ (rw (number_in 1 255 name (omega arith) (and_left (plain_between 1 255 name) _ ok), number_in 1 16 limit (omega arith) (and_right (plain_between 1 255 name) _ ok)) at g) (buffer_in (p.buffer_count + 1) _ p (within_in buffer_limit (p.buffer_count + 1) (omega arith) (omega (arith, room))) ∙ rw (e.0, e.1)))
 
   create_semaphore_law : CreateSemaphore m k
   unfolding call_decision services stray_field D.checked Passed Ob.create_semaphore
   create_semaphore_law name start max =
-      let e = next_stored p.semaphoreCount in
-      by_list 14 name start max (pos 0) (omega arith) (omega arith) refl _ (Changed (StoredSemaphore (p.semaphoreCount + 1) (record { name = number_of (field name); value = number_of (field start); max = number_of (field max) })) Nothing (p.semaphoreCount + 1)) _
-      (either (plain_between 1 32767 max) (λ o. rw (names_are (λ (x : SemaphoreT). x.name) name no_semaphore semaphore_limit p.semaphoreCount p.semaphores v.objects.semaphores.numbered (λ j b. (v.objects.semaphores.each j b).name.1), (lossless name).between 1 name_limit (omega arith), (lossless max).between 1 value_limit (omega arith), o, number_in 1 32767 max (omega arith) o, (lossless start).between 0 (id_of max) (low_max max o))) (λ o. rw (names_are (λ (x : SemaphoreT). x.name) name no_semaphore semaphore_limit p.semaphoreCount p.semaphores v.objects.semaphores.numbered (λ j b. (v.objects.semaphores.each j b).name.1), (lossless name).between 1 name_limit (omega arith), (lossless max).between 1 value_limit (omega arith), o))) (λ q g.
+      let e = next_stored p.semaphore_count in
+      by_list 14 name start max (pos 0) (omega arith) (omega arith) refl _ (Changed (StoredSemaphore (p.semaphore_count + 1) (record { name = number_of (field name); value = number_of (field start); max = number_of (field max) })) Nothing (p.semaphore_count + 1)) _
+      (either (plain_between 1 32767 max) (λ o. rw (names_are (λ (x : SemaphoreT). x.name) name no_semaphore semaphore_limit p.semaphore_count p.semaphores v.objects.semaphores.numbered (λ j b. (v.objects.semaphores.each j b).name.1), (lossless name).between 1 name_limit (omega arith), (lossless max).between 1 value_limit (omega arith), o, number_in 1 32767 max (omega arith) o, (lossless start).between 0 (id_of max) (low_max max o))) (λ o. rw (names_are (λ (x : SemaphoreT). x.name) name no_semaphore semaphore_limit p.semaphore_count p.semaphores v.objects.semaphores.numbered (λ j b. (v.objects.semaphores.each j b).name.1), (lossless name).between 1 name_limit (omega arith), (lossless max).between 1 value_limit (omega arith), o))) (λ q g.
       let ok = not-false _ q.1.1.0 in
-      let room : p.semaphoreCount < semaphore_limit = leb-false semaphore_limit p.semaphoreCount q.0 in
-      let o = and_right (plain_between 1 255 name) _ ok in let top = and_left (plain_between 1 32767 max) _ o in puts_is m k _ _ (rw (number_in 1 255 name (omega arith) (and_left (plain_between 1 255 name) _ ok), number_in 1 32767 max (omega arith) top, number_in 0 (id_of max) start (low_max max top) (and_right (plain_between 1 32767 max) _ o)) at g) (semaphore_in (p.semaphoreCount + 1) _ p (within_in semaphore_limit (p.semaphoreCount + 1) (omega arith) (omega (arith, room))) ∙ rw (e.0, e.1)))
+      let room : p.semaphore_count < semaphore_limit = leb-false semaphore_limit p.semaphore_count q.0 in
+      let o = and_right (plain_between 1 255 name) _ ok in let top = and_left (plain_between 1 32767 max) _ o in puts_is m k _ _ (rw (number_in 1 255 name (omega arith) (and_left (plain_between 1 255 name) _ ok), number_in 1 32767 max (omega arith) top, number_in 0 (id_of max) start (low_max max top) (and_right (plain_between 1 32767 max) _ o)) at g) (semaphore_in (p.semaphore_count + 1) _ p (within_in semaphore_limit (p.semaphore_count + 1) (omega arith) (omega (arith, room))) ∙ rw (e.0, e.1)))
 
   multiple_is : (z : ℤ) → (plain_minus_one z || C.is_multiple m.table.frame (field z)) ≡ (plain_minus_one z || (plain_between 1 9999999 z && eqb (id_of z % m.table.frame) 0))
   multiple_is z =
@@ -822,22 +822,22 @@ module _ (m : Module) (k : ℕ) (u : SoundModule m) (h : Calling m k) where
   create_process_law : CreateProcess m k
   unfolding call_decision services stray_field D.checked Passed C.create_process
   create_process_law name priority period capacity =
-      let e = next_stored p.processCount in
+      let e = next_stored p.process_count in
       by_list 2 name priority period capacity (omega arith) (omega arith) refl _
-      (Changed (Created (p.processCount + 1) (created_process (given (number_of (field name)) (number_of (field priority)) (time_of (field period)) (time_of (field capacity))))) Nothing (p.processCount + 1)) _
-      (rw (admitted_is name priority period capacity, names_are (λ (x : Process). x.given.name) name blank_process process_limit p.processCount p.processes v.lists.numbered (λ j b. (v.each_process j b).lasting.given.name.1))) (λ q g.
+      (Changed (Created (p.process_count + 1) (created_process (given (number_of (field name)) (number_of (field priority)) (time_of (field period)) (time_of (field capacity))))) Nothing (p.process_count + 1)) _
+      (rw (admitted_is name priority period capacity, names_are (λ (x : Process). x.given.name) name blank_process process_limit p.process_count p.processes v.lists.numbered (λ j b. (v.each_process j b).lasting.given.name.1))) (λ q g.
       let ok = not-false _ q.1.1.0 in
-      let room : p.processCount < process_limit = leb-false process_limit p.processCount q.0 in
+      let room : p.process_count < process_limit = leb-false process_limit p.process_count q.0 in
       let ok1 = and_right (plain_between 1 255 name) _ ok in
       let ok2 = and_right (plain_between 1 239 priority) _ ok1 in
       let periods = and_left (plain_minus_one period || (plain_between 1 9999999 period && eqb (id_of period % m.table.frame) 0)) _ ok2 in
       let capacities = and_left (plain_minus_one capacity || plain_between 1 9999999 capacity) _ (and_right (plain_minus_one period || (plain_between 1 9999999 period && eqb (id_of period % m.table.frame) 0)) _ ok2) in
       puts_is m k _ _ (rw (number_in 1 255 name (omega arith) (and_left (plain_between 1 255 name) _ ok), number_in 1 239 priority (omega arith) (and_left (plain_between 1 239 priority) _ ok1), time_is period (weaker (plain_minus_one period) _ _ periods), time_is capacity capacities) at g)
-      (created_in (p.processCount + 1) _ p (within_in process_limit (p.processCount + 1) (omega arith) (omega (arith, room))) ∙ rw (e.0, e.1)))
+      (created_in (p.process_count + 1) _ p (within_in process_limit (p.process_count + 1) (omega arith) (omega (arith, room))) ∙ rw (e.0, e.1)))
 
   -- ---------------------------------------------------------------- modes
   -- entering NORMAL, of one process
-  entered_is : (r : ℕ) → Release m.table k m.t r → (id : ℕ) → Between 1 p.processCount id → entered (context_of m k) (process id p) ≡ entering m.t r (process id p)
+  entered_is : (r : ℕ) → Release m.table k m.t r → (id : ℕ) → Between 1 p.process_count id → entered (context_of m k) (process id p) ≡ entering m.t r (process id p)
   unfolding entered
   entered_is r f id b = either (waits_for_normal (process id p).wait) (λ w. rw w (go (process id p).given.period refl)) (λ w. rw w)
     where
@@ -847,13 +847,13 @@ module _ (m : Module) (k : ℕ) (u : SoundModule m) (h : Calling m k) where
       go : (a : Time) → (process id p).given.period ≡ a → let x = process id p in
           with_suspended x.suspended (with_current x.current (start_rule (context_of m k) x.times.delay x))
           ≡ cond (periodic_at x.given.period) (awaits_release (r + x.times.delay) x.times.delay x.current x.suspended false x) (started_at m.t x.times.delay x.current x.suspended x)
-      go Never e = rw (aperiodic_is id (process id p).times.delay b low e, e)
-      go (At n) e = rw (released_is r f id (process id p).times.delay n b e low, e)
+      go None e = rw (aperiodic_is id (process id p).times.delay b low e, e)
+      go (Some n) e = rw (released_is r f id (process id p).times.delay n b e low, e)
 
   entered_normal_holds : (r : ℕ) → Release m.table k m.t r → entered_normal (context_of m k) p ≡ plain_each (entering m.t r) (with_mode_and_lock 3 0 0 p)
   unfolding entered_normal
   entered_normal_holds r f =
-      each_alike (entered (context_of m k)) (entering m.t r) p.processCount 1 (with_mode 3 p) (λ y lo hi. entered_is r f y (lo, omega arith))
+      each_alike (entered (context_of m k)) (entering m.t r) p.process_count 1 (with_mode 3 p) (λ y lo hi. entered_is r f y (lo, omega arith))
       ∙ each_plain (entering m.t r) (with_mode 3 p) v.lists
 
   -- modes 0, 1, 2
@@ -861,7 +861,7 @@ module _ (m : Module) (k : ℕ) (u : SoundModule m) (h : Calling m k) where
   restarted_is mode low =
       let erased = Ch.erased_to k channel_limit m in
       refilled_all k _ (part_sound erased (erased_sound k channel_limit m (omega arith) u) (k - 1) (calling_place m k u h) (nothing_created mode) (nothing_valid m.table.frame m.t mode low))
-      ∙ ap (λ (l : List Message). plain_refilled_to k m.table.channelCount (with_part (k - 1) (nothing_created mode) (with_messages l m))) (erased_is m.table k m.messages u.messages_size)
+      ∙ ap (λ (l : List Message). plain_refilled_to k m.table.channel_count (with_part (k - 1) (nothing_created mode) (with_messages l m))) (erased_is m.table k m.messages u.messages_size)
 
   set_mode_law : SetMode m k
   unfolding call_decision services stray_field D.checked Passed C.set_mode
@@ -902,7 +902,7 @@ module _ (m : Module) (e : EventT) (few : m.table.size ≤ 8) where
       rw ((lossless e.partition).between 0 P (omega arith), (lossless e.call).between 0 call_limit (omega arith), (lossless e.partition).is_number 0 (omega arith), (lossless e.call).is_number 0 (omega arith), (lossless e.a).is_number 0 (omega arith), (lossless e.b).is_number 0 (omega arith), (lossless e.c).is_number 0 (omega arith), (lossless e.e).is_number 0 (omega arith))
       (either (plain_between 0 call_limit e.call) (λ o. rw (o, number_in 0 call_limit e.call (omega arith) o, fields_are (id_of e.call))) (λ o. rw o))
 
-  ticked_is : ValidModule m → malformed_at P e ≡ false → plain_number 0 e.partition ≡ true → m.t < 99999999 → Gives m e 0 0 (At 0) (plain_ticked m)
+  ticked_is : ValidModule m → malformed_at P e ≡ false → plain_number 0 e.partition ≡ true → m.t < 99999999 → Gives m e 0 0 (Some 0) (plain_ticked m)
   unfolding step
   ticked_is valid good none room =
       let w = place_of P 0 e.partition few (not-false _ (or_left _ _ (or_right (eqb P 0) _ good))) in

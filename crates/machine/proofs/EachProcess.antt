@@ -50,11 +50,11 @@ use Rattle.machine.proofs.AtPartition.{ticked_part, Kinds, at_partition}
 ticked_process : (t frame now : ℕ) (p : Partition) → Valid frame now p → (id : ℕ) → process id (tick_partition t p) ≡ cond (normal_mode p) (at_tick t (process id p)) (process id p)
 unfolding tick_partition
 ticked_process t frame now p v id =
-    let l = ids_from p.processCount 1 in
+    let l = ids_from p.process_count 1 in
     let f = ticked t in
-    let all : AllCreated l p.processCount = λ y c. let w = from_range p.processCount 1 y c in (w.0, omega arith) in
+    let all : AllCreated l p.process_count = λ y c. let w = from_range p.process_count 1 y c in (w.0, omega arith) in
     either (normal_mode p)
-    (λ n. rw n (ap (process id) (each_changed f p.processCount 1 p) ∙ changed_process f l p v.lists all (distinct_from p.processCount 1) id ∙ either (contains id l)
+    (λ n. rw n (ap (process id) (each_changed f p.process_count 1 p) ∙ changed_process f l p v.lists all (distinct_from p.process_count 1) id ∙ either (contains id l)
     (λ c. rw c (tick_one t (process id p)))
     (λ c. rw c (let z = not_created p v.lists id c in z ∙ ap (at_tick t) (sym z)))))
     (λ n. rw n)
@@ -92,8 +92,8 @@ module _ (m : Module) (s : SoundModule m) (e : EventT) (k : ℕ) (b : Between 1 
   here = valid m s k b
 
   -- its wait on a channel's end, by the number of the object
-  waits_at : (kind i : ℕ) → 1 ≤ kind → i < m.table.channelCount → object x.wait ≡ 256 * kind + (i + 1) → x.wait ≡ wait_at kind (i + 1) (carried x)
-  waits_at kind i some l = wait_is m.table.frame m.t p here id kind (i + 1) some (omega (arith, s.table.channelCount))
+  waits_at : (kind i : ℕ) → 1 ≤ kind → i < m.table.channel_count → object x.wait ≡ 256 * kind + (i + 1) → x.wait ≡ wait_at kind (i + 1) (carried x)
+  waits_at kind i some l = wait_is m.table.frame m.t p here id kind (i + 1) some (omega (arith, s.table.channel_count))
 
   tick_is : e.partition ≡ pos 0 → Is 0 (tick_partition (m.t + 1) p)
   tick_is by =
@@ -126,7 +126,7 @@ module _ (m : Module) (s : SoundModule m) (e : EventT) (k : ℕ) (b : Between 1 
   abbrev Left : Partition → Type 0
   Left o = (process id o ≡ x) ⊎ (Service m e 0 k id × (process id o ≡ served x))
 
-  let_in_holds : e.call ≡ pos 1 → (mode : ℕ) → mode ≤ 2 → e.a ≡ pos mode → (i : ℕ) → i < m.table.channelCount → e.partition ≡ pos (channel m.table i).destination → k ≡ (channel m.table i).source
+  let_in_holds : e.call ≡ pos 1 → (mode : ℕ) → mode ≤ 2 → e.a ≡ pos mode → (i : ℕ) → i < m.table.channel_count → e.partition ≡ pos (channel m.table i).destination → k ≡ (channel m.table i).source
       → (size frame t : ℕ) (o : Partition) → Valid frame t o → Left o → Left (changed_all served (take size (waiters (object (Source (i + 1) 0)) o)) o)
   let_in_holds call mode low a i l by source size frame t o v h =
       let w = object (Source (i + 1) 0) in

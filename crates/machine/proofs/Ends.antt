@@ -68,7 +68,7 @@ record Open (T : Table) (m : Module) (i : ℕ) : Type 0 where
 record Holds (T : Table) (m : Module) : Type 0 where
   sources : Only 6 (λ c. c.source) T m
   destinations : Only 7 (λ c. c.destination) T m
-  opens : (i : ℕ) → i < T.channelCount → Open T m i
+  opens : (i : ℕ) → i < T.channel_count → Open T m i
 
 -- ---------------------------------------------------------------- one event
 -- a channel's end at which a caller begins to wait
@@ -82,10 +82,10 @@ module _ (m : Module) (s : SoundModule m) (h : Holds m.table m) where
   abbrev T : Table
   T = m.table
 
-  source_inside : (i : ℕ) → i < T.channelCount → (channel T i).source - 1 < T.size
+  source_inside : (i : ℕ) → i < T.channel_count → (channel T i).source - 1 < T.size
   source_inside i l = let b = (s.table.each_channel i l).source in omega (arith, b.0, b.1)
 
-  destination_inside : (i : ℕ) → i < T.channelCount → (channel T i).destination - 1 < T.size
+  destination_inside : (i : ℕ) → i < T.channel_count → (channel T i).destination - 1 < T.size
   destination_inside i l = let b = (s.table.each_channel i l).destination in omega (arith, b.0, b.1)
 
   -- each queue is a part of what it was
@@ -93,13 +93,13 @@ module _ (m : Module) (s : SoundModule m) (h : Holds m.table m) where
   only_parts kind end some only q parts i j l few = ⊎_elim (λ e. inl (part_none _ _ e (parts (queue_number kind j) (λ z. omega arith) i l).1)) inr (only i j l few)
 
   -- and so is what a channel holds
-  open_parts : (q : Module) → ((o : ℕ) (some : o ≡ 0 → ⊥) → Parts m s o some q) → (i : ℕ) → i < T.channelCount → queue q i ≡ queue m i → Open T q i
+  open_parts : (q : Module) → ((o : ℕ) (some : o ≡ 0 → ⊥) → Parts m s o some q) → (i : ℕ) → i < T.channel_count → queue q i ≡ queue m i → Open T q i
   open_parts q parts i l same = record {
     room = λ b. part_none _ _ ((h.opens i l).room (rw same at b)) (parts (queue_number 6 (i + 1)) (λ z. omega arith) ((channel T i).source - 1) (source_inside i l)).1;
     message = λ b. part_none _ _ ((h.opens i l).message (rw same at b)) (parts (queue_number 7 (i + 1)) (λ z. omega arith) ((channel T i).destination - 1) (destination_inside i l)).1;
   }
 
-  holds_parts : (q : Module) → ((o : ℕ) (some : o ≡ 0 → ⊥) → Parts m s o some q) → ((i : ℕ) → i < T.channelCount → Open T q i) → Holds T q
+  holds_parts : (q : Module) → ((o : ℕ) (some : o ≡ 0 → ⊥) → Parts m s o some q) → ((i : ℕ) → i < T.channel_count → Open T q i) → Holds T q
   holds_parts q parts opened = record { sources = only_parts 6 (λ c. c.source) (omega arith) h.sources q parts; destinations = only_parts 7 (λ c. c.destination) (omega arith) h.destinations q parts; opens = opened }
 
   module _ (r : Request) (c : Calls m r) where
@@ -119,16 +119,16 @@ module _ (m : Module) (s : SoundModule m) (h : Holds m.table m) where
     here = place m s r c
 
     -- ------------------------------------------------------------ the caller begins to wait
-    module _ (id : ℕ) (y : Process) (b : Between 1 now.processCount id) (q : Caller id now) (end : AtEnd x n (object y.wait)) where
+    module _ (id : ℕ) (y : Process) (b : Between 1 now.process_count id) (q : Caller id now) (end : AtEnd x n (object y.wait)) where
       abbrev blocked : Module
       blocked = with_part (k - 1) (stored id y now) m
 
       -- the end of the channel at which it waits
       end_is : (e : Channel → ℕ) (j : ℕ) → BeginsAt x e j → EndOf T e j (k - 1)
       end_is e j w =
-          let l = in_limits 1 T.channelCount r.a w.there in
+          let l = in_limits 1 T.channel_count r.a w.there in
           let i = number_of r.a - 1 in
-          let inside : i < T.channelCount = omega (arith, l.0, l.1) in
+          let inside : i < T.channel_count = omega (arith, l.0, l.1) in
           let is : j - 1 ≡ i = omega (arith, w.place) in
           let kind : ltb 0 (channel T i).size ≡ true = sym (queuing_plain T s.table i inside) ∙ w.kind in
           record {
@@ -150,17 +150,17 @@ module _ (m : Module) (s : SoundModule m) (h : Holds m.table m) where
           (λ _. only i j l few)
 
       -- where it waits with a message there is no room, and where it waits for one there is none
-      open_blocked : (i : ℕ) → i < T.channelCount → Open T blocked i
+      open_blocked : (i : ℕ) → i < T.channel_count → Open T blocked i
       open_blocked i l = record {
         room = λ g. stays (queue_number 6 (i + 1)) ((channel T i).source - 1) (λ z. omega arith) ((h.opens i l).room g) (λ z.
-            let w = end.0 (i + 1) (omega (arith, l, s.table.channelCount)) z in
+            let w = end.0 (i + 1) (omega (arith, l, s.table.channel_count)) z in
             let is : i ≡ x.place = omega (arith, w.place) in
             let t = traffic_is i is w.kind w.there (inl w.source) in
             let f = w.full in
             let size = ap (λ (d : ℕ). (channel T d).size) is in
             omega arith);
         message = λ g. stays (queue_number 7 (i + 1)) ((channel T i).destination - 1) (λ z. omega arith) ((h.opens i l).message g) (λ z.
-            let w = end.1 (i + 1) (omega (arith, l, s.table.channelCount)) z in
+            let w = end.1 (i + 1) (omega (arith, l, s.table.channel_count)) z in
             let is : i ≡ x.place = omega (arith, w.place) in
             let t = traffic_is i is w.kind w.there (inr w.destination) in
             let f = w.empty in
@@ -174,14 +174,14 @@ module _ (m : Module) (s : SoundModule m) (h : Holds m.table m) where
 
           traffic_is : (i : ℕ) → i ≡ x.place → queuing x.channel ≡ true → x.exists ≡ true → (x.channel.source ≡ x.own) ⊎ (x.channel.destination ≡ x.own) → x.traffic.len ≡ (queue m i).len
           traffic_is i is kind there at =
-              let l = in_limits 1 T.channelCount r.a there in
+              let l = in_limits 1 T.channel_count r.a there in
               let c = channel T x.place in
               let near : apart k c ≡ false = ⊎_elim (λ (e : c.source ≡ k). rw (eq-eqb c.source k e)) (λ (e : c.destination ≡ k). rw (eq-eqb c.destination k e, and-false (not (eqb c.source k)))) at in
-              rw is (rw (lt-ltb x.place T.channelCount (omega (arith, l.0, l.1)), kind, near))
+              rw is (rw (lt-ltb x.place T.channel_count (omega (arith, l.0, l.1)), kind, near))
 
     -- ------------------------------------------------------------ a transfer
     module _ (i : ℕ) (a : Transfer) (v : ℕ) (b : OnQueue x n i a v) (parts : (o : ℕ) (some : o ≡ 0 → ⊥) → Parts m s o some (passed k i a m)) where
-      t : (i < T.channelCount) × SoundMove (channel T i).size (queue m i) a × SoundEnd (part m (other_end k (channel T i) - 1)) a
+      t : (i < T.channel_count) × SoundMove (channel T i).size (queue m i) a × SoundEnd (part m (other_end k (channel T i) - 1)) a
       t = transfer_sound m s r c i a v b
 
       w : Channelled m k i x
@@ -194,7 +194,7 @@ module _ (m : Module) (s : SoundModule m) (h : Holds m.table m) where
       queue_passed j = by_test (λ (y : Module). queue y j ≡ get_or (set m.queues i (moved a (queue m i))) j no_queue) (ends_wait a) (λ _. refl) (λ _. refl)
 
       here_queue : queue after i ≡ moved a (queue m i)
-      here_queue = queue_passed i ∙ get_or-set_same m.queues i (moved a (queue m i)) no_queue (omega (arith, t.0, s.table.channelCount, s.queues_size))
+      here_queue = queue_passed i ∙ get_or-set_same m.queues i (moved a (queue m i)) no_queue (omega (arith, t.0, s.table.channel_count, s.queues_size))
 
       -- where nobody waits, nobody does then
       gone : (o j : ℕ) → (o ≡ 0 → ⊥) → j < T.size → waiters o (part m j) ≡ [] → waiters o (part after j) ≡ []
@@ -271,7 +271,7 @@ module _ (m : Module) (s : SoundModule m) (h : Holds m.table m) where
             message = λ _. gone receivers destination (λ z. omega arith) (destination_inside i t.0) (before.message some);
           }
 
-      open_passed : (j : ℕ) → j < T.channelCount → Open T after j
+      open_passed : (j : ℕ) → j < T.channel_count → Open T after j
       open_passed j l = ⊎_elim
           (λ (is : j ≡ i). rw is (⊎_elim open_sent open_received b.end))
           (λ (ne : j ≡ i → ⊥). open_parts after parts j l (queue_passed j ∙ get_or-set_other m.queues i j (moved a (queue m i)) no_queue ne))
@@ -316,7 +316,7 @@ module _ (m : Module) (s : SoundModule m) (h : Holds m.table m) where
           drop_none (suc d) [] h = refl
           drop_none (suc d) (y ∷ l) h = drop_none d l (omega arith)
 
-      open_restarted : (i : ℕ) → i < T.channelCount → Open T (restarted k (nothing_created mode) m) i
+      open_restarted : (i : ℕ) → i < T.channel_count → Open T (restarted k (nothing_created mode) m) i
       open_restarted i l = either (queuing_at T i && leads_into k (channel T i))
           (λ t. open_filled i (fills m s k i T refl t))
           (λ t. open_parts (restarted k (nothing_created mode) m) parts i l (refilled_queue_other k channel_limit erased i t))
@@ -361,7 +361,7 @@ module _ (m : Module) (s : SoundModule m) (h : Holds m.table m) where
       (call_fair (context_of m k) (part m (k - 1)) (s.each_partition (k - 1) (place m s r c)) (context_sound m s r c) (port_of m k r) (number_of r.call) r).is)
 
 -- ---------------------------------------------------------------- every reached record
-fresh_holds : (T : Table) → T.size ≤ partition_limit → ((i : ℕ) → i < T.channelCount → ((channel T i).source - 1 < T.size) × ((channel T i).destination - 1 < T.size)) → Holds T (fresh_module T)
+fresh_holds : (T : Table) → T.size ≤ partition_limit → ((i : ℕ) → i < T.channel_count → ((channel T i).source - 1 < T.size) × ((channel T i).destination - 1 < T.size)) → Holds T (fresh_module T)
 unfolding fresh_module fresh_partition waiters kept
 fresh_holds T few inside = record {
   sources = λ i j l _. inl (none i (queue_number 6 j) (omega arith));

@@ -11,7 +11,7 @@ use Rattle.machine.specs.Theorems.Events.{Calling, Puts, own}
 use Rattle.machine.specs.Theorems.EachCall.{Checks, entering}
 use Rattle.machine.specs.Theorems.Entering.{Enters, enter}
 use Rattle.machine.specs.declared.Module.{Module}
-use Rattle.machine.specs.declared.Time.TheVariants.{Never}
+use Rattle.std.specs.Prelude.{None}
 use Rattle.machine.specs.declared.Wait.TheVariants.{Normal}
 use Rattle.machine.specs.declared.Partition.{Partition}
 use Rattle.machine.specs.declared.Process.{Process}
@@ -36,7 +36,7 @@ use Rattle.machine.proofs.Reasons.{not_normal}
 use Rattle.machine.proofs.Terms.{terms}
 use Rattle.machine.proofs.Fairness.{none_in}
 
-module _ (m : Module) (k : ℕ) (u : SoundModule m) (h : Calling m k) (early : (own m k).mode ≡ 3 → ⊥) (some : (own m k).processCount ≡ 0 → ⊥) where
+module _ (m : Module) (k : ℕ) (u : SoundModule m) (h : Calling m k) (early : (own m k).mode ≡ 3 → ⊥) (some : (own m k).process_count ≡ 0 → ⊥) where
   abbrev p : Partition
   p = own m k
 
@@ -55,13 +55,13 @@ module _ (m : Module) (k : ℕ) (u : SoundModule m) (h : Calling m k) (early : (
 
   gives_all : Puts m (enter k) 0 0 k (plain_each f q)
   unfolding Checks
-  gives_all = ((((((each_call m k h).set_mode (pos 3)).1 refl).1 (rw (ne_eqb p.mode 3 early))).1 refl).1 (rw (ne_eqb p.processCount 0 some))).0 refl r
+  gives_all = ((((((each_call m k h).set_mode (pos 3)).1 refl).1 (rw (ne_eqb p.mode 3 early))).1 refl).1 (rw (ne_eqb p.process_count 0 some))).0 refl r
       (release_earliest m.table u.table m.t k (h.some, calling_low m k u h) u.time)
 
   after_is : own (step m (enter k)).state k ≡ each f q
   after_is = own_after m k u h _ gives_all ∙ sym (each_plain f q v.lists)
 
-  process_is : (id : ℕ) → Between 1 p.processCount id → process id (own (step m (enter k)).state k) ≡ f (process id p)
+  process_is : (id : ℕ) → Between 1 p.process_count id → process id (own (step m (enter k)).state k) ≡ f (process id p)
   process_is id b = ap (process id) after_is ∙ each_process_holds f q v.lists id b
 
   -- nobody is READY in a start mode
@@ -74,13 +74,13 @@ module _ (m : Module) (k : ℕ) (u : SoundModule m) (h : Calling m k) (early : (
   none_arrived : members p.arrival ≡ []
   none_arrived = none_in (members p.arrival) (λ id c. not_both _ (sym (v.lists.arrivals.exact id) ∙ c) (none_ready id))
 
-  arrived : members (each f q).arrival ≡ kept (λ id. ready (f (process id p))) (ids_from p.processCount 1)
+  arrived : members (each f q).arrival ≡ kept (λ id. ready (f (process id p))) (ids_from p.process_count 1)
   arrived =
-      ap (λ (x : Partition). members x.arrival) (each_changed f p.processCount 1 q)
-      ∙ all_arrive f (ids_from p.processCount 1) q v.lists (λ y c. let b = from_range p.processCount 1 y c in (b.0, omega arith)) (distinct_from p.processCount 1) (λ y _. none_ready y)
-      ∙ ap (λ (l : List ℕ). l ++ kept (λ id. ready (f (process id p))) (ids_from p.processCount 1)) none_arrived
+      ap (λ (x : Partition). members x.arrival) (each_changed f p.process_count 1 q)
+      ∙ all_arrive f (ids_from p.process_count 1) q v.lists (λ y c. let b = from_range p.process_count 1 y c in (b.0, omega arith)) (distinct_from p.process_count 1) (λ y _. none_ready y)
+      ∙ ap (λ (l : List ℕ). l ++ kept (λ id. ready (f (process id p))) (ids_from p.process_count 1)) none_arrived
 
-  started_ready : (x : Process) → x.wait ≡ Normal → x.given.period ≡ Never → ready (f x) ≡ (not x.suspended && eqb x.times.delay 0)
+  started_ready : (x : Process) → x.wait ≡ Normal → x.given.period ≡ None → ready (f x) ≡ (not x.suspended && eqb x.times.delay 0)
   started_ready x w never = rw (w, never) (either (eqb x.times.delay 0) (λ e. rw e) (λ e. rw e))
 
   enters_is : Enters m k
@@ -90,9 +90,9 @@ module _ (m : Module) (k : ℕ) (u : SoundModule m) (h : Calling m k) (early : (
     aperiodic = λ id b w never. process_is id b ∙ rw (w, never);
     ready_at = λ id b w never. ap ready (process_is id b) ∙ started_ready (process id p) w never;
     others = λ id b w. process_is id b ∙ rw (not_normal (process id p).wait w);
-    arrival = ap (λ (x : Partition). members x.arrival) after_is ∙ arrived ∙ kept_same _ _ (ids_from p.processCount 1) (λ y c. let b = from_range p.processCount 1 y c in sym (ap ready (process_is y (b.0, omega arith))));
+    arrival = ap (λ (x : Partition). members x.arrival) after_is ∙ arrived ∙ kept_same _ _ (ids_from p.process_count 1) (λ y c. let b = from_range p.process_count 1 y c in sym (ap ready (process_is y (b.0, omega arith))));
   }
 
 -- Law. Entering NORMAL.
-pub enters : (m : Module) (k : ℕ) → Calling m k → ((own m k).mode ≡ 3 → ⊥) → ((own m k).processCount ≡ 0 → ⊥) → Enters m k
+pub enters : (m : Module) (k : ℕ) → Calling m k → ((own m k).mode ≡ 3 → ⊥) → ((own m k).process_count ≡ 0 → ⊥) → Enters m k
 enters m k h = enters_is m k (calling_sound m k h) h

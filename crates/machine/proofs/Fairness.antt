@@ -201,7 +201,7 @@ wait_known frame t p x h some = either x.started
     (λ s. absurd (some (ap object (h.dormant s).wait)))
 
 -- and its object has been created
-pub waits_known : (frame t : ℕ) (p : Partition) → Valid frame t p → (id kind k : ℕ) → Between 1 p.processCount id → 1 ≤ kind → k ≤ 255 → object (process id p).wait ≡ queue_number kind k → Between 1 ((setting_of frame t p).counts kind) k
+pub waits_known : (frame t : ℕ) (p : Partition) → Valid frame t p → (id kind k : ℕ) → Between 1 p.process_count id → 1 ≤ kind → k ≤ 255 → object (process id p).wait ≡ queue_number kind k → Between 1 ((setting_of frame t p).counts kind) k
 waits_known frame t p v id kind k b some few e =
     let x = process id p in
     class_known _ (counts_low frame t p v) (class_of x.wait) (wait_known frame t p x (v.each_process id b) (λ z. omega arith)) kind k some few e
@@ -328,7 +328,7 @@ module _ (c : Context) (p : Partition) (v : Valid c.frame c.time p) (s : SoundCo
   signalled_fair (id ∷ l) j e = one_process (Stored id (served (process id p))) tt
 
   -- a transfer of a buffer's messages after which there is room only where there was, or nobody waits to send, and a message likewise
-  pub move_fair : (j : ℕ) → Between 1 p.bufferCount j → (a : Transfer) → SoundEnd p a
+  pub move_fair : (j : ℕ) → Between 1 p.buffer_count j → (a : Transfer) → SoundEnd p a
       → (has_room (moved_in a (buffer j p)) ≡ true → (has_room (buffer j p) ≡ true) ⊎ (waiters (queue_number 3 j) p ≡ []))
       → (holds (moved_in a (buffer j p)) ≡ true → (holds (buffer j p) ≡ true) ⊎ (waiters (queue_number 4 j) p ≡ []))
       → AfterChange p (applied (Moved j a) p)
@@ -345,7 +345,7 @@ module _ (c : Context) (p : Partition) (v : Valid c.frame c.time p) (s : SoundCo
       (λ y. ⊎_elim (λ h. inl (rw (y.0, y.1) h)) (λ e. inr (rw (y.0, y.1) (stays (queue_number 4 j) (λ z. omega arith) e))) (message y.2)))
       (buffer_available c.frame c.time p v kind k j m (sym (available_same q _ (ended_objects a q) kind k) ∙ t))
 
-  module _ (j : ℕ) (b : Between 1 p.bufferCount j) where
+  module _ (j : ℕ) (b : Between 1 p.buffer_count j) where
     abbrev it : Buffer
     it = buffer j p
 

@@ -16,7 +16,7 @@ use Rattle.machine.specs.declared.Change.TheVariants.{Nothing, Moved, StoredBlac
 use Rattle.machine.specs.declared.Decision.{Decision}
 use Rattle.machine.specs.declared.Decision.TheVariants.{Changed}
 use Rattle.machine.specs.declared.Wait.TheVariants.{Sending, Receiving, Blackboard}
-use Rattle.machine.specs.declared.Time.TheVariants.{At}
+use Rattle.std.specs.Prelude.{Some}
 use Rattle.machine.specs.declared.Field.TheVariants.{Number}
 use Rattle.machine.specs.declared.Event.{Event as EventT}
 use Rattle.machine.specs.declared.Module.{Module}
@@ -58,7 +58,7 @@ module _ (m : Module) (k : ℕ) (u : SoundModule m) (h : Calling m k) where
   valid = calling_valid m k u h
 
   -- ---------------------------------------------------------------- buffers
-  module _ (j : ℕ) (normal : p.mode ≡ 3) (b : Between 1 p.bufferCount j) where
+  module _ (j : ℕ) (normal : p.mode ≡ 3) (b : Between 1 p.buffer_count j) where
     is_field : field (pos j) ≡ Number j
     is_field = field_number j (omega (arith, b.1, valid.objects.buffers.numbered.few))
 
@@ -79,11 +79,11 @@ module _ (m : Module) (k : ℕ) (u : SoundModule m) (h : Calling m k) where
       abbrev sends : EventT
       sends = call_by k 24 (pos j) (pos x) a (pos 0)
 
-      send_gives : (l : List ℕ) → waiters (object (Receiving j)) p ≡ l → has_room (buffer j p) ≡ true → Gives m sends 0 0 (At 0) (with_part (k - 1) (applied (Moved j (sent (get_or l 0 0) x)) p) m)
+      send_gives : (l : List ℕ) → waiters (object (Receiving j)) p ≡ l → has_room (buffer j p) ≡ true → Gives m sends 0 0 (Some 0) (with_part (k - 1) (applied (Moved j (sent (get_or l 0 0) x)) p) m)
       unfolding call_decision services stray_field send_buffer awaiting checked
       send_gives l e room =
           gives m k u h 24 (pos j) (pos x) a (pos 0) (omega arith) (omega arith) refl (changed (Moved j (sent (get_or l 0 0) x)))
-          (rw (is_field, field_number x (omega arith), known m k u h j p.bufferCount b, eq-eqb p.mode 3 normal, a_message x ok, time_out a t, room, e))
+          (rw (is_field, field_number x (omega arith), known m k u h j p.buffer_count b, eq-eqb p.mode 3 normal, a_message x ok, time_out a t, room, e))
 
       send_first_holds : (id : ℕ) (rest : List ℕ) → waiters (object (Receiving j)) p ≡ id ∷ rest → FirstServed m k sends (object (Receiving j)) id rest x × SameObjects p (own (step m sends).state k)
       unfolding sent
@@ -121,7 +121,7 @@ module _ (m : Module) (k : ℕ) (u : SoundModule m) (h : Calling m k) where
       takes_as : (w : List ℕ) (d : Decision) → waiters (object (Sending j 0)) p ≡ w → receives (get_or w 0 0) j p ≡ d → decides m k u h 25 (pos j) a (pos 0) (pos 0) (omega arith) (omega arith) ≡ d
       unfolding call_decision services receive_buffer awaiting checked
       takes_as w d e is =
-          rw (is_field, known m k u h j p.bufferCount b, eq-eqb p.mode 3 normal, time_out a t, lt-ltb 0 (buffer j p).queue.len some, e) is
+          rw (is_field, known m k u h j p.buffer_count b, eq-eqb p.mode 3 normal, time_out a t, lt-ltb 0 (buffer j p).queue.len some, e) is
 
       receive_first_holds : (id : ℕ) (rest : List ℕ) → waiters (object (Sending j 0)) p ≡ id ∷ rest
           → FirstServed m k takes (object (Sending j 0)) id rest (has m k id) × ((step m takes).answer.value ≡ x) × (held (buffer j (own (step m takes).state k)).queue ≡ l ++ (carried (process id p) ∷ []))
@@ -155,7 +155,7 @@ module _ (m : Module) (k : ℕ) (u : SoundModule m) (h : Calling m k) where
           )
 
   -- ---------------------------------------------------------------- blackboards
-  module _ (j : ℕ) (b : Between 1 p.blackboardCount j) where
+  module _ (j : ℕ) (b : Between 1 p.blackboard_count j) where
     low : j ≤ blackboard_limit
     low = omega (arith, b.1, valid.objects.blackboards.numbered.few)
 
@@ -166,7 +166,7 @@ module _ (m : Module) (k : ℕ) (u : SoundModule m) (h : Calling m k) where
     abbrev board : Bool → ℕ → BlackboardT
     board shown x = record { name = (blackboard j p).name; shown = shown; message = x }
 
-    stored_is : (s : BlackboardT) → stored_blackboard j s p ≡ with_blackboards (set p.blackboards (j - 1) s) (max p.blackboardCount j) p
+    stored_is : (s : BlackboardT) → stored_blackboard j s p ≡ with_blackboards (set p.blackboards (j - 1) s) (max p.blackboard_count j) p
     stored_is s = blackboard_in j s p (within_in blackboard_limit j b.0 low)
 
     stored_has : (s : BlackboardT) → blackboard j (stored_blackboard j s p) ≡ s
@@ -181,7 +181,7 @@ module _ (m : Module) (k : ℕ) (u : SoundModule m) (h : Calling m k) where
         let s = board true x in
         let r = stored_blackboard j s p in
         let q = changed_all (handed x) (waiters o r) r in
-        let g = gives m k u h 27 (pos j) (pos x) (pos 0) (pos 0) (omega arith) (omega arith) refl (Changed (StoredBlackboard j s) (Handed o x) 0) (rw (the_field, field_number x (omega arith), known m k u h j p.blackboardCount b, a_message x ok)) in (
+        let g = gives m k u h 27 (pos j) (pos x) (pos 0) (pos 0) (omega arith) (omega arith) refl (Changed (StoredBlackboard j s) (Handed o x) 0) (rw (the_field, field_number x (omega arith), known m k u h j p.blackboard_count b, a_message x ok)) in (
           all_served_by m k u h o (λ z. omega arith) r (rw (stored_is s) valid.lists) (blackboard_queue p valid.lists o (λ z. omega arith) j s) (λ y. rw (stored_is s)) (rw (stored_is s)) (handed x) (ends_handed x) e g,
           rw (own_after m k u h q g) (ap (λ (z : Partition). blackboard j z) (changed_rest (handed x) (waiters o r) r) ∙ stored_has s),
         )

@@ -105,8 +105,8 @@ module _ (T : Table) (S : ℕ → Bool) (closed : Closed T S) where
   end_in k i t s =
       let c = M.channel T i in
       let g = and_left (Ch.queuing_at T i) _ t in
-      let l = ltb-true i T.channelCount (and_left (ltb i T.channelCount) _ g) in
-      let q = and_right (ltb i T.channelCount) _ g in
+      let l = ltb-true i T.channel_count (and_left (ltb i T.channel_count) _ g) in
+      let q = and_right (ltb i T.channel_count) _ g in
       let two = ends T S closed i l q in
       either (eqb c.source k)
       (λ e.
@@ -130,7 +130,7 @@ module _ (T : Table) (S : ℕ → Bool) (closed : Closed T S) where
 
   -- a partition in S sees the same of a channel: of a message only what lies on a channel into S, of traffic only that between partitions of S
   port_both : (m n : Module) (k : ℕ) (r : Request) → Agree T S m n → S k ≡ true → Ch.port_of m k r ≡ Ch.port_of n k r
-  port_both m n k r a s = λ t. record { own = k; place = i; exists = between 1 (tables m n a t).channelCount r.a; channel = M.channel (tables m n a t) i; message = same t; traffic = traffic_both m n k i a s t }
+  port_both m n k r a s = λ t. record { own = k; place = i; exists = between 1 (tables m n a t).channel_count r.a; channel = M.channel (tables m n a t) i; message = same t; traffic = traffic_both m n k i a s t }
     where
       i : ℕ
       i = number_of r.a - 1
@@ -174,13 +174,13 @@ module _ (T : Table) (S : ℕ → Bool) (closed : Closed T S) where
   unseen : (m : Module) (k : ℕ) (r : Request) (i : ℕ) → m.table ≡ T → S k ≡ false → FromSource (Ch.port_of m k r) (number_of r.call) i → S (M.channel T i).destination ≡ false
   unseen m k r i e f w = go (S (M.channel T i).destination) refl
     where
-      b : (1 ≤ number_of r.a) × (number_of r.a ≤ m.table.channelCount)
-      b = in_limits 1 m.table.channelCount r.a w.there
+      b : (1 ≤ number_of r.a) × (number_of r.a ≤ m.table.channel_count)
+      b = in_limits 1 m.table.channel_count r.a w.there
 
-      count : m.table.channelCount ≡ T.channelCount
-      count = ap (λ (x : Table). x.channelCount) e
+      count : m.table.channel_count ≡ T.channel_count
+      count = ap (λ (x : Table). x.channel_count) e
 
-      there : i < T.channelCount
+      there : i < T.channel_count
       there = omega (arith, w.place, b.0, b.1, count)
 
       source : (M.channel T i).source ≡ k
@@ -195,9 +195,9 @@ module _ (T : Table) (S : ℕ → Bool) (closed : Closed T S) where
       → (S (M.channel T i).destination ≡ false) × (S (suc (Ch.other_end k (M.channel m.table i) - 1)) ≡ false)
   apart_from m k r i x v e f w =
       let c = M.channel T i in
-      let b = in_limits 1 m.table.channelCount r.a w.there in
-      let count : m.table.channelCount ≡ T.channelCount = ap (λ (x : Table). x.channelCount) e in
-      let there : i < T.channelCount = omega (arith, w.place, b.0, b.1, count) in
+      let b = in_limits 1 m.table.channel_count r.a w.there in
+      let count : m.table.channel_count ≡ T.channel_count = ap (λ (x : Table). x.channel_count) e in
+      let there : i < T.channel_count = omega (arith, w.place, b.0, b.1, count) in
       let is : M.channel m.table (number_of r.a - 1) ≡ c = ap₂ (λ (x : Table) (j : ℕ). M.channel x j) e (sym w.place) in
       let q : Ch.queuing c ≡ true = ap Ch.queuing (sym is) ∙ w.kind in
       let two = ends T S closed i there q in

@@ -60,30 +60,30 @@ module _ (f : Process → Bool) (blank : f blank_process ≡ false) where
       go true e k = within_out process_limit x e
       go false e k = not_both _ k blank
 
-  pub process_created : (p : Partition) → ListedIn p → (id : ℕ) → f (process id p) ≡ true → Between 1 p.processCount id
+  pub process_created : (p : Partition) → ListedIn p → (id : ℕ) → f (process id p) ≡ true → Between 1 p.process_count id
   process_created p v id h = (
     (process_ranged p.processes id h).0,
-    either (ltb p.processCount id)
-        (λ e. let k : f blank_process ≡ true = rw (v.numbered.past id (ltb-true p.processCount id e)) at h in not_both _ k blank)
-        (λ e. ltb-false p.processCount id e),
+    either (ltb p.process_count id)
+        (λ e. let k : f blank_process ≡ true = rw (v.numbered.past id (ltb-true p.process_count id e)) at h in not_both _ k blank)
+        (λ e. ltb-false p.process_count id e),
   )
 
 -- ---------------------------------------------------------------- a process stored
 -- all but the processes and the two lists of q is as in p
 abbrev pub Rest : Partition → Partition → Type 0
-Rest p q = q ≡ with_processes q.processes p.processCount q.arrival q.waiting p
+Rest p q = q ≡ with_processes q.processes p.process_count q.arrival q.waiting p
 
 module _ (p : Partition) (id : ℕ) (x : Process) where
   pub stored_rest : Rest p (stored id x p)
   unfolding stored
-  stored_rest = by_test (λ (q : Partition). q ≡ with_processes q.processes p.processCount q.arrival q.waiting p) (within process_limit id) (λ _. refl) (λ _. refl)
+  stored_rest = by_test (λ (q : Partition). q ≡ with_processes q.processes p.process_count q.arrival q.waiting p) (within process_limit id) (λ _. refl) (λ _. refl)
 
   pub process_other : (y : ℕ) → (y ≡ id → ⊥) → process y (stored id x p) ≡ process y p
   process_other y ne = either (within process_limit id)
       (λ e. rw (stored_in id x p e) (named_other process_limit blank_process id x p.processes (within_out process_limit id e).0 y ne))
       (λ e. rw (stored_out id x p e))
 
-  module _ (v : ListedIn p) (b : Between 1 p.processCount id) where
+  module _ (v : ListedIn p) (b : Between 1 p.process_count id) where
     high : id ≤ process_limit
     high = omega (arith, b.1, v.numbered.few)
 
@@ -103,7 +103,7 @@ module _ (p : Partition) (id : ℕ) (x : Process) where
     pub stored_listed : ListedIn (stored id x p)
     stored_listed =
         rw (stored_in id x p inside_limit, ← named_in process_limit id blank_process p.processes inside_limit) (record {
-          numbered = numbered_set v.numbered id x p.processCount (omega arith) b v.numbered.few;
+          numbered = numbered_set v.numbered id x p.process_count (omega arith) b v.numbered.few;
           arrivals = tracked ready refl p.arrival v.arrivals;
           waitings = tracked on_object refl p.waiting v.waitings;
         })
@@ -138,10 +138,10 @@ abbrev pub AllCreated : List ℕ → ℕ → Type 0
 AllCreated l n = (x : ℕ) → contains x l ≡ true → Between 1 n x
 
 rest_trans : (p q r : Partition) → Rest p q → Rest q r → Rest p r
-rest_trans p q r e f = f ∙ ap (with_processes r.processes q.processCount r.arrival r.waiting) e ∙ ap (λ n. with_processes r.processes n r.arrival r.waiting p) (ap (λ (q : Partition). q.processCount) e)
+rest_trans p q r e f = f ∙ ap (with_processes r.processes q.process_count r.arrival r.waiting) e ∙ ap (λ n. with_processes r.processes n r.arrival r.waiting p) (ap (λ (q : Partition). q.process_count) e)
 
-pub rest_count : (p q : Partition) → Rest p q → q.processCount ≡ p.processCount
-rest_count p q e = ap (λ (q : Partition). q.processCount) e
+pub rest_count : (p q : Partition) → Rest p q → q.process_count ≡ p.process_count
+rest_count p q e = ap (λ (q : Partition). q.process_count) e
 
 module _ (f : Process → Process) where
   pub changed_rest : (l : List ℕ) (p : Partition) → Rest p (changed_all f l p)
@@ -149,7 +149,7 @@ module _ (f : Process → Process) where
   changed_rest [] p = refl
   changed_rest (id ∷ l) p = rest_trans p _ _ (stored_rest p id (f (process id p))) (changed_rest l (stored id (f (process id p)) p))
 
-  pub changed_listed : (l : List ℕ) (p : Partition) → ListedIn p → AllCreated l p.processCount → ListedIn (changed_all f l p)
+  pub changed_listed : (l : List ℕ) (p : Partition) → ListedIn p → AllCreated l p.process_count → ListedIn (changed_all f l p)
   unfolding changed_all contains
   changed_listed [] p v all = v
   changed_listed (id ∷ l) p v all =
@@ -159,7 +159,7 @@ module _ (f : Process → Process) where
       (λ y c. rw (rest_count p _ (stored_rest p id x)) (all y (rw c (or-true (eqb id y)))))
 
   -- each of them has been changed, and no other
-  pub changed_process : (l : List ℕ) (p : Partition) → ListedIn p → AllCreated l p.processCount → Distinct l → (y : ℕ) → process y (changed_all f l p) ≡ cond (contains y l) (f (process y p)) (process y p)
+  pub changed_process : (l : List ℕ) (p : Partition) → ListedIn p → AllCreated l p.process_count → Distinct l → (y : ℕ) → process y (changed_all f l p) ≡ cond (contains y l) (f (process y p)) (process y p)
   unfolding changed_all contains Distinct
   changed_process [] p v all dis y = refl
   changed_process (id ∷ l) p v all dis y =
@@ -173,20 +173,20 @@ module _ (f : Process → Process) where
 
 -- every created process is changed
 module _ (f : Process → Process) (p : Partition) (v : ListedIn p) where
-  all_ids : AllCreated (ids_from p.processCount 1) p.processCount
-  all_ids y h = let r = from_range p.processCount 1 y h in (r.0, omega arith)
+  all_ids : AllCreated (ids_from p.process_count 1) p.process_count
+  all_ids y h = let r = from_range p.process_count 1 y h in (r.0, omega arith)
 
   pub each_rest : Rest p (each f p)
-  each_rest = rw (each_changed f p.processCount 1 p) (changed_rest f (ids_from p.processCount 1) p)
+  each_rest = rw (each_changed f p.process_count 1 p) (changed_rest f (ids_from p.process_count 1) p)
 
   pub each_listed : ListedIn (each f p)
-  each_listed = rw (each_changed f p.processCount 1 p) (changed_listed f (ids_from p.processCount 1) p v all_ids)
+  each_listed = rw (each_changed f p.process_count 1 p) (changed_listed f (ids_from p.process_count 1) p v all_ids)
 
-  pub each_process_holds : (y : ℕ) → Between 1 p.processCount y → process y (each f p) ≡ f (process y p)
+  pub each_process_holds : (y : ℕ) → Between 1 p.process_count y → process y (each f p) ≡ f (process y p)
   each_process_holds y b =
-      rw (each_changed f p.processCount 1 p)
-      (changed_process f (ids_from p.processCount 1) p v all_ids (distinct_from p.processCount 1) y
-      ∙ rw (from_has p.processCount 1 y b.0 (omega (arith, b.1))))
+      rw (each_changed f p.process_count 1 p)
+      (changed_process f (ids_from p.process_count 1) p v all_ids (distinct_from p.process_count 1) y
+      ∙ rw (from_has p.process_count 1 y b.0 (omega (arith, b.1))))
 
 -- ---------------------------------------------------------------- the end of the arrival list
 -- a READY process that goes there
@@ -219,11 +219,11 @@ module _ (p : Partition) (v : ListedIn p) (id : ℕ) (h : ready (process id p) �
   }
 
 -- ---------------------------------------------------------------- a valid partition, from its parts
-pub valid_of : (frame t : ℕ) (p q : Partition) → Rest p q → p.mode ≤ 3 → LockIn p → (0 < p.level → ready (process p.holder q) ≡ true) → ObjectsIn p → ListedIn q → ((id : ℕ) → Between 1 p.processCount id → SoundProcess (setting_of frame t p) (process id q)) → Valid frame t q
+pub valid_of : (frame t : ℕ) (p q : Partition) → Rest p q → p.mode ≤ 3 → LockIn p → (0 < p.level → ready (process p.holder q) ≡ true) → ObjectsIn p → ListedIn q → ((id : ℕ) → Between 1 p.process_count id → SoundProcess (setting_of frame t p) (process id q)) → Valid frame t q
 valid_of frame t p q e mode lock held objects lists sound = rw e (record { mode = mode; lock = record { few = lock.few; free = lock.free; normal = lock.normal; held = held }; lists = rw (rest_count p q e) at lists; objects = objects; each_process = sound })
 
 -- one process stored
-pub stored_valid : (frame t : ℕ) (p : Partition) → Valid frame t p → (id : ℕ) → Between 1 p.processCount id → (x : Process) → SoundProcess (setting_of frame t p) x → HolderReady p id x → Valid frame t (stored id x p)
+pub stored_valid : (frame t : ℕ) (p : Partition) → Valid frame t p → (id : ℕ) → Between 1 p.process_count id → (x : Process) → SoundProcess (setting_of frame t p) x → HolderReady p id x → Valid frame t (stored id x p)
 stored_valid frame t p v id b x s keeps =
     valid_of frame t p (stored id x p) (stored_rest p id x) v.mode v.lock
     (λ some. ⊎_elim

@@ -27,8 +27,8 @@ use Rattle.machine.specs.declared.Blackboard.{Blackboard as BlackboardT}
 use Rattle.machine.specs.declared.Request.{Request}
 use Rattle.machine.specs.declared.Field.{Field}
 use Rattle.machine.specs.declared.Field.TheVariants.{Number, MinusOne, Other}
-use Rattle.machine.specs.declared.Time.{Time}
-use Rattle.machine.specs.declared.Time.TheVariants.{Never, At}
+use Rattle.machine.specs.Time.{Time}
+use Rattle.std.specs.Prelude.{None, Some}
 use Rattle.machine.specs.Limits.{process_limit, semaphore_limit, event_limit, buffer_limit, blackboard_limit, name_limit, priority_limit, mode_limit, duration_limit, time_limit, frame_limit, greatest_value}
 use Rattle.machine.specs.Messages.{queue_of, sent, received}
 use Rattle.machine.specs.Ids.{members}
@@ -54,7 +54,7 @@ use Rattle.machine.specs.Decisions.{start_mode, dormant}
 pub no_lock : (normal is_ready : Bool) → SoundLock 0 0 normal is_ready
 no_lock normal is_ready = record { few = omega arith; free = λ _. refl; normal = λ some. absurd (omega arith); held = λ some. absurd (omega arith) }
 
-holder_created : (p : Partition) → ListedIn p → LockIn p → 0 < p.level → Between 1 p.processCount p.holder
+holder_created : (p : Partition) → ListedIn p → LockIn p → 0 < p.level → Between 1 p.process_count p.holder
 holder_created p v lock some = process_created ready refl p v p.holder (lock.held some)
 
 -- a process that is not READY does not hold it
@@ -113,12 +113,12 @@ none_ready frame t p v n id = not_so (ready (process id p)) (λ k. not_both _ k 
 not_zero : (n : ℕ) → is_number 0 (Number n) ≡ false → n ≡ 0 → ⊥
 not_zero n h e = eqb-false n 0 h e
 
-pub duration_ahead : (t : ℕ) (a : Field) → t ≤ time_limit → is_duration a ≡ true → is_number 0 a ≡ false → Ahead t (later (At t) (time_of a))
+pub duration_ahead : (t : ℕ) (a : Field) → t ≤ time_limit → is_duration a ≡ true → is_number 0 a ≡ false → Ahead t (later (Some t) (time_of a))
 duration_ahead t (Number n) ends h z = ahead_later t n ends (not_zero n z) (in_limits 0 duration_limit (Number n) h).1
 duration_ahead t MinusOne ends h z = not_both _ h refl
 duration_ahead t Other ends h z = not_both _ h refl
 
-pub timeout_ahead : (t : ℕ) (a : Field) → t ≤ time_limit → is_timeout a ≡ true → is_number 0 a ≡ false → Timeout t (later (At t) (time_of a))
+pub timeout_ahead : (t : ℕ) (a : Field) → t ≤ time_limit → is_timeout a ≡ true → is_number 0 a ≡ false → Timeout t (later (Some t) (time_of a))
 timeout_ahead t (Number n) ends h z = ahead_later t n ends (not_zero n z) (in_limits 0 duration_limit (Number n) h).1
 timeout_ahead t MinusOne ends h z = tt
 timeout_ahead t Other ends h z = not_both _ h refl
@@ -135,8 +135,8 @@ counted_more a b c d a' b' c' d' f g h k kind =
 
 -- the objects of q are sound and as many at least, and all else is as in p
 objects_valid : (frame t : ℕ) (p q : Partition) → Valid frame t p
-    → q.mode ≡ p.mode → q.level ≡ p.level → q.holder ≡ p.holder → ListedIn q → q.processes ≡ p.processes → q.processCount ≡ p.processCount → ObjectsIn q
-    → p.semaphoreCount ≤ q.semaphoreCount → p.eventCount ≤ q.eventCount → p.bufferCount ≤ q.bufferCount → p.blackboardCount ≤ q.blackboardCount
+    → q.mode ≡ p.mode → q.level ≡ p.level → q.holder ≡ p.holder → ListedIn q → q.processes ≡ p.processes → q.process_count ≡ p.process_count → ObjectsIn q
+    → p.semaphore_count ≤ q.semaphore_count → p.event_count ≤ q.event_count → p.buffer_count ≤ q.buffer_count → p.blackboard_count ≤ q.blackboard_count
     → Valid frame t q
 objects_valid frame t p q v mode level holder lists processes count objects a b c d = record {
   mode = rw mode v.mode;
@@ -153,28 +153,28 @@ module _ (frame t : ℕ) (p : Partition) (v : Valid frame t p) (k : ℕ) where
   abbrev o : ObjectsIn p
   o = v.objects
 
-  pub semaphore_valid : KnownOrNext semaphore_limit p.semaphoreCount k → (s : SemaphoreT) → SoundSemaphore s → Valid frame t (stored_semaphore k s p)
+  pub semaphore_valid : KnownOrNext semaphore_limit p.semaphore_count k → (s : SemaphoreT) → SoundSemaphore s → Valid frame t (stored_semaphore k s p)
   semaphore_valid b s sound =
       rw (semaphore_in k s p (within_in semaphore_limit k b.0.0 b.1))
       (objects_valid frame t p _ v refl refl refl v.lists refl refl
       (record { semaphores = family_set o.semaphores k b s sound; events = o.events; buffers = o.buffers; blackboards = o.blackboards })
       (omega arith) (omega arith) (omega arith) (omega arith))
 
-  pub event_valid : KnownOrNext event_limit p.eventCount k → (s : EventState) → SoundEvent s → Valid frame t (stored_event k s p)
+  pub event_valid : KnownOrNext event_limit p.event_count k → (s : EventState) → SoundEvent s → Valid frame t (stored_event k s p)
   event_valid b s sound =
       rw (event_in k s p (within_in event_limit k b.0.0 b.1))
       (objects_valid frame t p _ v refl refl refl v.lists refl refl
       (record { semaphores = o.semaphores; events = family_set o.events k b s sound; buffers = o.buffers; blackboards = o.blackboards })
       (omega arith) (omega arith) (omega arith) (omega arith))
 
-  pub buffer_valid : KnownOrNext buffer_limit p.bufferCount k → (s : Buffer) → SoundBuffer s → Valid frame t (stored_buffer k s p)
+  pub buffer_valid : KnownOrNext buffer_limit p.buffer_count k → (s : Buffer) → SoundBuffer s → Valid frame t (stored_buffer k s p)
   buffer_valid b s sound =
       rw (buffer_in k s p (within_in buffer_limit k b.0.0 b.1))
       (objects_valid frame t p _ v refl refl refl v.lists refl refl
       (record { semaphores = o.semaphores; events = o.events; buffers = family_set o.buffers k b s sound; blackboards = o.blackboards })
       (omega arith) (omega arith) (omega arith) (omega arith))
 
-  pub blackboard_valid : KnownOrNext blackboard_limit p.blackboardCount k → (s : BlackboardT) → SoundBlackboard s → Valid frame t (stored_blackboard k s p)
+  pub blackboard_valid : KnownOrNext blackboard_limit p.blackboard_count k → (s : BlackboardT) → SoundBlackboard s → Valid frame t (stored_blackboard k s p)
   blackboard_valid b s sound =
       rw (blackboard_in k s p (within_in blackboard_limit k b.0.0 b.1))
       (objects_valid frame t p _ v refl refl refl v.lists refl refl
@@ -202,7 +202,7 @@ module _ (p : Partition) (v : ListedIn p) (o : ℕ) where
   unfolding waiters
   waiters_on id h = sym (v.waitings.exact id) ∙ (and_true_parts (waits_on o p id) _ (sym (contains_kept (waits_on o p) id (members p.waiting)) ∙ h)).1
 
-  pub waiters_created : AllCreated (waiters o p) p.processCount
+  pub waiters_created : AllCreated (waiters o p) p.process_count
   waiters_created id h = process_created on_object refl p v id (waiters_on id h)
 
 -- the first of a list is in it
@@ -212,7 +212,7 @@ first_in [] some = absurd (some refl)
 first_in (x ∷ l) some = rw (eq-eqb x x refl)
 
 -- the first of a queue has been created, and waits on the object
-pub first_waits : (p : Partition) → ListedIn p → (o : ℕ) → (first_waiter o p ≡ 0 → ⊥) → Between 1 p.processCount (first_waiter o p) × (on_object (process (first_waiter o p) p) ≡ true)
+pub first_waits : (p : Partition) → ListedIn p → (o : ℕ) → (first_waiter o p ≡ 0 → ⊥) → Between 1 p.process_count (first_waiter o p) × (on_object (process (first_waiter o p) p) ≡ true)
 first_waits p v o some =
     let i = first_in (waiters o p) some in
     (waiters_created p v o (first_waiter o p) i, waiters_on p v o (first_waiter o p) i)
@@ -233,7 +233,7 @@ received_sound frame t p v o limit q some = by_test (λ (a : Transfer). SoundMov
 -- waits on objects end, each of these processes changed by f
 module _ (frame t : ℕ) (p : Partition) (v : Valid frame t p) (f : Process → Process)
     (sound : (x : Process) → SoundProcess (setting_of frame t p) x → on_object x ≡ true → SoundProcess (setting_of frame t p) (f x)) where
-  pub changed_valid : (l : List ℕ) → AllCreated l p.processCount → Distinct l → ((id : ℕ) → contains id l ≡ true → on_object (process id p) ≡ true) → Valid frame t (changed_all f l p)
+  pub changed_valid : (l : List ℕ) → AllCreated l p.process_count → Distinct l → ((id : ℕ) → contains id l ≡ true → on_object (process id p) ≡ true) → Valid frame t (changed_all f l p)
   changed_valid l all once on =
       valid_of frame t p (changed_all f l p) (changed_rest f l p) v.mode v.lock
       (λ some. rw (changed_process f l p v.lists all once p.holder, not_so (contains p.holder l) (λ e. not_both _ (on p.holder e) (ready_no_object (process p.holder p) (v.lock.held some)))) (v.lock.held some))
@@ -263,7 +263,7 @@ module _ (frame t : ℕ) (p : Partition) (v : Valid frame t p) (o n : ℕ) where
   abbrev firsts : List ℕ
   firsts = take n (waiters o p)
 
-  pub firsts_created : AllCreated firsts p.processCount
+  pub firsts_created : AllCreated firsts p.process_count
   firsts_created id h = waiters_created p v.lists o id (take_in n (waiters o p) id h)
 
   pub firsts_distinct : Distinct firsts
@@ -276,7 +276,7 @@ module _ (frame t : ℕ) (p : Partition) (v : Valid frame t p) (o n : ℕ) where
   let_in_valid = changed_valid frame t p v served (λ x g on. ended_sound _ x g on) firsts firsts_created firsts_distinct firsts_on
 
   -- their messages
-  carried_all : (l : List ℕ) → AllCreated l p.processCount → AllMessages (map (λ id. carried (process id p)) l)
+  carried_all : (l : List ℕ) → AllCreated l p.process_count → AllMessages (map (λ id. carried (process id p)) l)
   unfolding AllMessages contains
   carried_all [] all = tt
   carried_all (id ∷ l) all = (carried_sound _ (process id p) (v.each_process id (all id (rw (eq-eqb id id refl)))), carried_all l (λ y c. all y (rw c (or-true (eqb id y)))))
@@ -291,20 +291,20 @@ module _ (frame t : ℕ) (p : Partition) (v : Valid frame t p) (o n : ℕ) where
 
 -- ---------------------------------------------------------------- the changes
 module _ (c : Context) (p : Partition) (v : Valid c.frame c.time p) where
-  puts : (id : ℕ) → Between 1 p.processCount id → (x : Process) → SoundProcess (setting_of c.frame c.time p) x → HolderReady p id x → Valid c.frame c.time (stored id x p)
+  puts : (id : ℕ) → Between 1 p.process_count id → (x : Process) → SoundProcess (setting_of c.frame c.time p) x → HolderReady p id x → Valid c.frame c.time (stored id x p)
   puts id b x s keeps = stored_valid c.frame c.time p v id b x s keeps
 
   -- the next process, DORMANT
-  new_process_valid : p.processCount < process_limit → (g : Given) → SoundGiven c.frame g → Valid c.frame c.time (created (p.processCount + 1) (created_process g) p)
+  new_process_valid : p.process_count < process_limit → (g : Given) → SoundGiven c.frame g → Valid c.frame c.time (created (p.process_count + 1) (created_process g) p)
   new_process_valid room g h =
-      let n = p.processCount + 1 in
+      let n = p.process_count + 1 in
       let x = created_process g in
       let o = v.lists in
       let tracked : (f : Process → Bool) → f blank_process ≡ f x → (q : Ids) → Tracks (λ y. f (process y p)) q → Tracks (λ y. f (by_id process_limit blank_process y (set p.processes (n - 1) x))) q = λ f e q tr.
       tracks_same (λ y. f (process y p)) q tr (λ y. f (by_id process_limit blank_process y (set p.processes (n - 1) x))) n
       (λ y ne. ap f (named_other process_limit blank_process n x p.processes (omega arith) y ne))
       (ap f (named_same process_limit blank_process n x p.processes (omega arith) (omega arith) (omega (arith, o.numbered.size))) ∙ sym e ∙ ap f (sym (o.numbered.past n (omega arith)))) in
-      let e : max p.processCount n ≡ n = omega arith in
+      let e : max p.process_count n ≡ n = omega arith in
       rw (created_in n x p (within_in process_limit n (omega arith) (omega arith)), e) (record {
         mode = v.mode;
         lock = record {
@@ -339,15 +339,15 @@ ended_valid frame t p v limit q Taken h e = v
 ended_valid frame t p v limit q (LetIn id m) h e = stored_valid frame t p v id e.0 _ (ended_sound _ (process id p) (v.each_process id e.0) e.1) (not_holder p v.lock id _ (object_not_ready (process id p) e.1))
 
 -- a partition with the same processes
-pub end_same : (p q : Partition) (a : Transfer) → q.processes ≡ p.processes → q.processCount ≡ p.processCount → SoundEnd p a → SoundEnd q a
+pub end_same : (p q : Partition) (a : Transfer) → q.processes ≡ p.processes → q.process_count ≡ p.process_count → SoundEnd p a → SoundEnd q a
 end_same p q (Put m) e f h = tt
 end_same p q (HandedTo id m) e f h = rw (e, f) h
 end_same p q Taken e f h = tt
 end_same p q (LetIn id m) e f h = rw (e, f) h
 
 -- or with a buffer stored
-pub end_stored : (j : ℕ) (q : Buffer) (p : Partition) (a : Transfer) → stored_buffer j q p ≡ with_buffers (set p.buffers (j - 1) q) (max p.bufferCount j) p → SoundEnd p a → SoundEnd (stored_buffer j q p) a
-end_stored j q p a is h = rw is (end_same p (with_buffers (set p.buffers (j - 1) q) (max p.bufferCount j) p) a refl refl h)
+pub end_stored : (j : ℕ) (q : Buffer) (p : Partition) (a : Transfer) → stored_buffer j q p ≡ with_buffers (set p.buffers (j - 1) q) (max p.buffer_count j) p → SoundEnd p a → SoundEnd (stored_buffer j q p) a
+end_stored j q p a is h = rw is (end_same p (with_buffers (set p.buffers (j - 1) q) (max p.buffer_count j) p) a refl refl h)
 
 -- each change keeps a partition valid; k says that the call was made at a sound time
 pub change_valid : (c : Context) {o : Partition} → SoundContext c o → (p : Partition) → Valid c.frame c.time p → (a : Change) → SoundChange c p a → Valid c.frame c.time (applied a p)
@@ -361,7 +361,7 @@ change_valid c k p v (CreatedBuffer j name limit) h = buffer_valid c.frame c.tim
 change_valid c k p v (Moved j a) h =
     let q = moved_in a (buffer j p) in
     let few = v.objects.buffers.numbered.few in
-    let w = buffer_valid c.frame c.time p v j (known_next buffer_limit p.bufferCount j h.0 few) q (moved_in_sound (buffer j p) (v.objects.buffers.each j h.0) a h.1) in
+    let w = buffer_valid c.frame c.time p v j (known_next buffer_limit p.buffer_count j h.0 few) q (moved_in_sound (buffer j p) (v.objects.buffers.each j h.0) a h.1) in
     let is = buffer_in j q p (within_in buffer_limit j h.0.0 (omega (arith, h.0.1, few))) in
     ended_valid c.frame c.time _ w (buffer j p).limit (buffer j p).queue a h.1 (end_stored j q p a is h.2)
 change_valid c k p v (StoredBlackboard j s) h = blackboard_valid c.frame c.time p v j h.0 s h.1
@@ -387,7 +387,7 @@ pub record Sound (c : Context) (p : Partition) (d : Decision) : Type 0 where
 
 -- what the caller of a call is in NORMAL
 pub record Caller (id : ℕ) (p : Partition) : Type 0 where
-  pub created : Between 1 p.processCount id
+  pub created : Between 1 p.process_count id
   pub is_ready : ready (process id p) ≡ true
 
 pub running_caller : (p : Partition) → ListedIn p → LockIn p → (running p ≡ 0 → ⊥) → Caller (running p) p
@@ -395,12 +395,12 @@ running_caller p v lock some = let k = running_ready p v lock some in record { c
 
 -- periodic and delay ≥ period is refused
 pub reaches_below : (period : Time) (delay : ℕ) → reaches period delay ≡ false → Below period delay
-reaches_below Never delay h = tt
-reaches_below (At n) delay h = leb-false n delay h
+reaches_below None delay h = tt
+reaches_below (Some n) delay h = leb-false n delay h
 
 pub more_room : (m n : ℕ) (t : Time) → m ≤ n → NotAfter m t → NotAfter n t
-more_room m n Never h k = tt
-more_room m n (At a) h k = omega arith
+more_room m n None h k = tt
+more_room m n (Some a) h k = omega arith
 
 pub status_small : (c : Context) (id : ℕ) (x : Process) → status c id x ≤ 3
 status_small c id x = by_test (λ (n : ℕ). n ≤ 3) (dormant x) (λ _. omega arith) (λ _. by_test (λ (n : ℕ). n ≤ 3) (eqb id c.caller) (λ _. omega arith) (λ _. by_test (λ (n : ℕ). n ≤ 3) (ready x) (λ _. omega arith) (λ _. omega arith)))
@@ -464,21 +464,21 @@ module _ (c : Context) (p : Partition) (v : Valid c.frame c.time p) (k : SoundCo
   fit id h = let r = or_false_parts _ (periodic (process id p)) h in (not-false (process id p).started r.0, r.1)
 
   -- one that is known
-  pub value_sound : (j : ℕ) → Between 1 p.semaphoreCount j → (n : ℕ) → n ≤ (semaphore j p).max → SoundChange c p (with_value j n p)
-  value_sound j b n h = let s = v.objects.semaphores.each j b in (known_next semaphore_limit p.semaphoreCount j b v.objects.semaphores.numbered.few, record { name = s.name; value = h; max = s.max })
+  pub value_sound : (j : ℕ) → Between 1 p.semaphore_count j → (n : ℕ) → n ≤ (semaphore j p).max → SoundChange c p (with_value j n p)
+  value_sound j b n h = let s = v.objects.semaphores.each j b in (known_next semaphore_limit p.semaphore_count j b v.objects.semaphores.numbered.few, record { name = s.name; value = h; max = s.max })
 
-  pub up_sound : (j : ℕ) → Between 1 p.eventCount j → (up : Bool) → SoundChange c p (with_up j up p)
-  up_sound j b up = (known_next event_limit p.eventCount j b v.objects.events.numbered.few, record { name = (v.objects.events.each j b).name })
+  pub up_sound : (j : ℕ) → Between 1 p.event_count j → (up : Bool) → SoundChange c p (with_up j up p)
+  up_sound j b up = (known_next event_limit p.event_count j b v.objects.events.numbered.few, record { name = (v.objects.events.each j b).name })
 
-  pub signalled_sound : (l : List ℕ) (j : ℕ) → Between 1 p.semaphoreCount j → ((semaphore j p).value ≡ (semaphore j p).max → ⊥) → ((id : ℕ) → contains id l ≡ true → on_object (process id p) ≡ true) → AllCreated l p.processCount → SoundChange c p (signalled l j p)
+  pub signalled_sound : (l : List ℕ) (j : ℕ) → Between 1 p.semaphore_count j → ((semaphore j p).value ≡ (semaphore j p).max → ⊥) → ((id : ℕ) → contains id l ≡ true → on_object (process id p) ≡ true) → AllCreated l p.process_count → SoundChange c p (signalled l j p)
   unfolding signalled contains
   signalled_sound [] j b below on all =
       let s = v.objects.semaphores.each j b in
       value_sound j b (one_more (semaphore j p).value) (by_test (λ (n : ℕ). n ≤ (semaphore j p).max) (ltb (semaphore j p).value greatest_value) (λ _. omega (arith, s.value)) (λ _. s.value))
   signalled_sound (id ∷ l) j b below on all = let i : (eqb id id || contains id l) ≡ true = rw (eq-eqb id id refl) in (all id i, ended_sound _ (process id p) (v.each_process id (all id i)) (on id i), not_holder p v.lock id _ (object_not_ready (process id p) (on id i)))
 
-  pub blackboard_known : (j : ℕ) → Between 1 p.blackboardCount j → (shown : Bool) (m : ℕ) → m ≤ duration_limit → (shown ≡ false → m ≡ 0) → SoundChange c p (StoredBlackboard j (record { name = (blackboard j p).name; shown = shown; message = m }))
-  blackboard_known j b shown m few blank = (known_next blackboard_limit p.blackboardCount j b v.objects.blackboards.numbered.few, record { name = (v.objects.blackboards.each j b).name; message = few; blank = blank })
+  pub blackboard_known : (j : ℕ) → Between 1 p.blackboard_count j → (shown : Bool) (m : ℕ) → m ≤ duration_limit → (shown ≡ false → m ≡ 0) → SoundChange c p (StoredBlackboard j (record { name = (blackboard j p).name; shown = shown; message = m }))
+  blackboard_known j b shown m few blank = (known_next blackboard_limit p.blackboard_count j b v.objects.blackboards.numbered.few, record { name = (v.objects.blackboards.each j b).name; message = few; blank = blank })
 
 -- what a call sees of a channel is sound: the message of a sampling one, the first of a queuing one
 pub record SoundPort (t : ℕ) (x : Port) : Type 0 where

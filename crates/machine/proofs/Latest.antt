@@ -38,7 +38,7 @@ use Rattle.machine.proofs.Sampling.{along_list, done_by, done_at, done_zero, sam
 -- ---------------------------------------------------------------- an accepted call
 module _ (m : Module) (h : Reached m) (e : EventT) (k j : ℕ) (some : 1 ≤ k) where
   -- SHOW, CLEAR
-  shown : Between 1 (own m k).blackboardCount j → done k 27 j (answered_event m e) ≡ true → let b = blackboard j (own (step m e).state k) in (b.shown ≡ true) × (b.message ≡ message_in e.b)
+  shown : Between 1 (own m k).blackboard_count j → done k 27 j (answered_event m e) ≡ true → let b = blackboard j (own (step m e).state k) in (b.shown ≡ true) × (b.message ≡ message_in e.b)
   unfolding Passed
   shown b t =
       let z = done_zero m e k 27 j t in
@@ -49,7 +49,7 @@ module _ (m : Module) (h : Reached m) (e : EventT) (k j : ℕ) (some : 1 ≤ k) 
       let g = rw (← is) at ((queues.messages m k u.calling j).show (id_of e.b) b d.1.1).1 in
       (ap (λ (x : BlackboardT). x.shown) g, ap (λ (x : BlackboardT). x.message) g)
 
-  cleared : Between 1 (own m k).blackboardCount j → done k 29 j (answered_event m e) ≡ true → let b = blackboard j (own (step m e).state k) in (b.shown ≡ false) × (b.message ≡ 0)
+  cleared : Between 1 (own m k).blackboard_count j → done k 29 j (answered_event m e) ≡ true → let b = blackboard j (own (step m e).state k) in (b.shown ≡ false) × (b.message ≡ 0)
   cleared b t =
       let z = done_zero m e k 29 j t in
       let u = accepted m h e k 29 some (done_by m e k 29 j t) z in
@@ -62,13 +62,13 @@ module _ (m : Module) (h : Reached m) (e : EventT) (k j : ℕ) (some : 1 ≤ k) 
       (ap (λ (x : BlackboardT). x.shown) is, ap (λ (x : BlackboardT). x.message) is)
 
   -- SET_EVENT, RESET_EVENT
-  up : Between 1 (own m k).eventCount j → done k 18 j (answered_event m e) ≡ true → (event j (own (step m e).state k)).up ≡ true
+  up : Between 1 (own m k).event_count j → done k 18 j (answered_event m e) ≡ true → (event j (own (step m e).state k)).up ≡ true
   up b t =
       let u = accepted m h e k 18 some (done_by m e k 18 j t) (done_zero m e k 18 j t) in
       let is : e ≡ call_by k 18 (pos j) (pos 0) (pos 0) (pos 0) = u.is ∙ ap (λ (a : ℤ). call_by k 18 a (pos 0) (pos 0) (pos 0)) (done_at m e k 18 j t) in
       rw (← is) at ((queues.calls m k u.calling j).set_event b).1
 
-  down : Between 1 (own m k).eventCount j → done k 19 j (answered_event m e) ≡ true → (event j (own (step m e).state k)).up ≡ false
+  down : Between 1 (own m k).event_count j → done k 19 j (answered_event m e) ≡ true → (event j (own (step m e).state k)).up ≡ false
   down b t =
       let z = done_zero m e k 19 j t in
       let u = accepted m h e k 19 some (done_by m e k 19 j t) z in
@@ -92,14 +92,14 @@ module _ (m : Module) (h : Reached m) (e : EventT) (k j : ℕ) (b : Between 1 m.
       let s = valid_sound m (reached_valid m h) (k - 1) (omega (arith, b.0, b.1)) in
       rw same at (event_left m e s (k - 1) (omega (arith, b.0, b.1)) (rw same lasts))
 
-  board_step : Between 1 (own m k).blackboardCount j → board_at k j (next m e) ≡ shows k j (answered_event m e) (board_at k j m)
+  board_step : Between 1 (own m k).blackboard_count j → board_at k j (next m e) ≡ shows k j (answered_event m e) (board_at k j m)
   board_step known = either (done k 27 j (answered_event m e))
       (λ t. let g = shown m h e k j b.0 known t in rw t (λ i. (g.0 i, g.1 i)))
       (λ t. either (done k 29 j (answered_event m e))
       (λ u. let g = cleared m h e k j b.0 known u in rw (t, u) (λ i. (g.0 i, g.1 i)))
       (λ u. rw (t, u) (ap (λ (x : BlackboardT). (x.shown, x.message)) (left.boards j known t u))))
 
-  event_step : Between 1 (own m k).eventCount j → (event j (own (next m e) k)).up ≡ sets k j (answered_event m e) (event j (own m k)).up
+  event_step : Between 1 (own m k).event_count j → (event j (own (next m e) k)).up ≡ sets k j (answered_event m e) (event j (own m k)).up
   event_step known = either (done k 18 j (answered_event m e))
       (λ t. rw t (up m h e k j b.0 known t))
       (λ t. either (done k 19 j (answered_event m e))
@@ -129,31 +129,31 @@ module _ (m : Module) (h : Reached m) (k j : ℕ) (name : ℤ) where
 
   board_created : let e = call_by k 26 name (pos 0) (pos 0) (pos 0) in
       (step m e).answer.code ≡ 0 → (step m e).answer.value ≡ j
-      → Between 1 (own (next m e) k).blackboardCount j × ((blackboard j (own (next m e) k)).shown ≡ false) × ((blackboard j (own (next m e) k)).message ≡ 0)
+      → Between 1 (own (next m e) k).blackboard_count j × ((blackboard j (own (next m e) k)).shown ≡ false) × ((blackboard j (own (next m e) k)).message ≡ 0)
   unfolding Passed
   board_created code value =
       let e = call_by k 26 name (pos 0) (pos 0) (pos 0) in
       let c = comes 26 (omega arith) code in
       let s = calling_sound m k c in
       let f = checks_passed m e _ refl ((each_call m k c).create_blackboard name) code in
-      let is : p.blackboardCount + 1 ≡ j = sym f.1.value_is ∙ value in
+      let is : p.blackboard_count + 1 ≡ j = sym f.1.value_is ∙ value in
       let q = own_after m k s c _ f.1 in
-      let room = leb-false 8 p.blackboardCount f.0.0 in
-      let at = next_named blackboard_limit no_blackboard (record { name = id_of name; shown = false; message = 0 }) p.blackboards p.blackboardCount j (calling_valid m k s c).objects.blackboards.numbered.size room is in
+      let room = leb-false 8 p.blackboard_count f.0.0 in
+      let at = next_named blackboard_limit no_blackboard (record { name = id_of name; shown = false; message = 0 }) p.blackboards p.blackboard_count j (calling_valid m k s c).objects.blackboards.numbered.size room is in
       (rw q (omega arith, omega arith), ap (λ (x : Partition). (blackboard j x).shown) q ∙ ap (λ (x : BlackboardT). x.shown) at, ap (λ (x : Partition). (blackboard j x).message) q ∙ ap (λ (x : BlackboardT). x.message) at)
 
   event_created : let e = call_by k 17 name (pos 0) (pos 0) (pos 0) in
-      (step m e).answer.code ≡ 0 → (step m e).answer.value ≡ j → Between 1 (own (next m e) k).eventCount j × ((event j (own (next m e) k)).up ≡ false)
+      (step m e).answer.code ≡ 0 → (step m e).answer.value ≡ j → Between 1 (own (next m e) k).event_count j × ((event j (own (next m e) k)).up ≡ false)
   unfolding Passed
   event_created code value =
       let e = call_by k 17 name (pos 0) (pos 0) (pos 0) in
       let c = comes 17 (omega arith) code in
       let s = calling_sound m k c in
       let f = checks_passed m e _ refl ((each_call m k c).create_event name) code in
-      let is : p.eventCount + 1 ≡ j = sym f.1.value_is ∙ value in
+      let is : p.event_count + 1 ≡ j = sym f.1.value_is ∙ value in
       let q = own_after m k s c _ f.1 in
-      let room = leb-false 8 p.eventCount f.0.0 in
-      let at = next_named event_limit no_event (record { name = id_of name; up = false }) p.events p.eventCount j (calling_valid m k s c).objects.events.numbered.size room is in
+      let room = leb-false 8 p.event_count f.0.0 in
+      let at = next_named event_limit no_event (record { name = id_of name; up = false }) p.events p.event_count j (calling_valid m k s c).objects.events.numbered.size room is in
       (rw q (omega arith, omega arith), ap (λ (x : Partition). (event j x).up) q ∙ ap (λ (x : EventState). x.up) at)
 
 -- ---------------------------------------------------------------- a list of events
@@ -191,23 +191,23 @@ module _ (input : List ℕ) (before : List EventT) (k j : ℕ) (name : ℤ) (es 
   begins : (n : ℕ) → 1 ≤ n → (count : Partition → ℕ) → Since m k n j name es → Between 1 (count (own (made n) k)) j → Lasts count k j es (made n)
   begins n some count since known = record { reached = Reached.stepped m _ h; inside = rw (step_size m (call_by k n name (pos 0) (pos 0) (pos 0))) (partition_in m h k j name n some since.code); known = known; lasts = since.lasts }
 
-  board_run : Since m k 26 j name es → (board_at k j (after (made 26) es) ≡ last_shown (made 26) k j es) × Lasts (λ (p : Partition). p.blackboardCount) k j [] (after (made 26) es)
+  board_run : Since m k 26 j name es → (board_at k j (after (made 26) es) ≡ last_shown (made 26) k j es) × Lasts (λ (p : Partition). p.blackboard_count) k j [] (after (made 26) es)
   board_run since =
       let c = board_created m h k j name since.code since.value in
-      let g = along_list (shows k j) (board_at k j) (Lasts (λ (p : Partition). p.blackboardCount) k j)
+      let g = along_list (shows k j) (board_at k j) (Lasts (λ (p : Partition). p.blackboard_count) k j)
       (λ e es q h.
       let on = first_lasts _ k j e es q h in
       (board_step q h.reached e k j h.inside on h.known, lasts_on _ k j e es q h (λ l. (left q h.reached e k j h.inside l).board_count)))
       es (made 26) (begins 26 (omega arith) _ since c.0) in
       (g.0 ∙ ap (λ x. along (shows k j) x (answers (made 26) es)) (λ i. (c.1 i, c.2 i)), g.1)
 
-  event_run : Since m k 17 j name es → ((event j (own (after (made 17) es) k)).up ≡ last_set (made 17) k j es) × Lasts (λ (p : Partition). p.eventCount) k j [] (after (made 17) es)
+  event_run : Since m k 17 j name es → ((event j (own (after (made 17) es) k)).up ≡ last_set (made 17) k j es) × Lasts (λ (p : Partition). p.event_count) k j [] (after (made 17) es)
   event_run since =
       let c = event_created m h k j name since.code since.value in
-      let g = along_list (sets k j) (λ q. (event j (own q k)).up) (Lasts (λ (p : Partition). p.eventCount) k j)
+      let g = along_list (sets k j) (λ q. (event j (own q k)).up) (Lasts (λ (p : Partition). p.event_count) k j)
       (λ e es q h.
       let on = first_lasts _ k j e es q h in
-      (event_step q h.reached e k j h.inside on h.known, lasts_on _ k j e es q h (λ l. (left q h.reached e k j h.inside l).eventCount)))
+      (event_step q h.reached e k j h.inside on h.known, lasts_on _ k j e es q h (λ l. (left q h.reached e k j h.inside l).event_count)))
       es (made 17) (begins 17 (omega arith) _ since c.0) in
       (g.0 ∙ ap (λ x. along (sets k j) x (answers (made 17) es)) c.1, g.1)
 

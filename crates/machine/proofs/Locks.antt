@@ -68,7 +68,7 @@ ended_lock Taken p = same_lock p
 ended_lock (LetIn id m) p = rest_lock p _ (stored_rest p id _)
 
 each_lock : (f : Process → Process) (p : Partition) → SameLock p (each f p)
-each_lock f p = rw (each_changed f p.processCount 1 p) (rest_lock p _ (changed_rest f (ids_from p.processCount 1) p))
+each_lock f p = rw (each_changed f p.process_count 1 p) (rest_lock p _ (changed_rest f (ids_from p.process_count 1) p))
 
 tick_lock : (t : ℕ) (p : Partition) → SameLock p (tick_partition t p)
 unfolding tick_partition

@@ -42,7 +42,7 @@ rest_mode : (p q : Partition) → Rest p q → SameMode p q
 rest_mode p q e = ap (λ (x : Partition). x.mode) e
 
 pub each_mode : (f : Process → Process) (p : Partition) → SameMode p (each f p)
-each_mode f p = rw (each_changed f p.processCount 1 p) (rest_mode p _ (changed_rest f _ p))
+each_mode f p = rw (each_changed f p.process_count 1 p) (rest_mode p _ (changed_rest f _ p))
 
 tick_mode : (t : ℕ) (p : Partition) → SameMode p (tick_partition t p)
 unfolding tick_partition

@@ -102,7 +102,7 @@ module _ (m : Module) (k : ℕ) (u : SoundModule m) (h : Calling m k) (a : ℤ) 
   later = own (step m asks).state k
 
   abbrev Set : Type 0
-  Set = (a ≡ pos later.mode) × (contains later.mode (leads_to p.mode) ≡ true) × (later.mode ≡ 3 → 1 ≤ p.processCount)
+  Set = (a ≡ pos later.mode) × (contains later.mode (leads_to p.mode) ≡ true) × (later.mode ≡ 3 → 1 ≤ p.process_count)
 
   record ModeSet (d : Decision) : Type 0 where
     is : Gives m asks (reply_of d).code (reply_of d).value (reply_of d).extra (module_after m k d) → (reply_of d).code ≡ 0 → Set
@@ -110,8 +110,8 @@ module _ (m : Module) (k : ℕ) (u : SoundModule m) (h : Calling m k) (a : ℤ) 
   mode_in : Between 1 3 p.mode
   mode_in = let some = h.active in (omega arith, (calling_valid m k u h).mode)
 
-  entered_set : later.mode ≡ 3 → is_number 3 (field a) ≡ true → normal_mode p ≡ false → eqb p.processCount 0 ≡ false → Set
-  entered_set e three off some = rw e (number_is a 3 three, leads_to_holds p.mode 3 mode_in (omega arith) (λ _. eqb-false _ 3 off) (λ z. absurd (omega arith)), λ _. let ne = eqb-false p.processCount 0 some in omega arith)
+  entered_set : later.mode ≡ 3 → is_number 3 (field a) ≡ true → normal_mode p ≡ false → eqb p.process_count 0 ≡ false → Set
+  entered_set e three off some = rw e (number_is a 3 three, leads_to_holds p.mode 3 mode_in (omega arith) (λ _. eqb-false _ 3 off) (λ z. absurd (omega arith)), λ _. let ne = eqb-false p.process_count 0 some in omega arith)
 
   restarted_set : later.mode ≡ number_of (field a) → between 0 mode_limit (field a) ≡ true → is_number 3 (field a) ≡ false → (is_number 2 (field a) && eqb p.mode 1) ≡ false → Set
   restarted_set e some other cold =
@@ -159,7 +159,7 @@ mode_after m h e k b =
 not_and : (a b : Bool) → (a ≡ true → b ≡ true → ⊥) → (a && b) ≡ false
 not_and a b h = not_so (a && b) (λ t. h (and_left a b t) (and_right a b t))
 
-mode_accepted : (m : Module) (k : ℕ) → Calling m k → (mode : ℕ) → contains mode (leads_to (own m k).mode) ≡ true → (mode ≡ 3 → 1 ≤ (own m k).processCount)
+mode_accepted : (m : Module) (k : ℕ) → Calling m k → (mode : ℕ) → contains mode (leads_to (own m k).mode) ≡ true → (mode ≡ 3 → 1 ≤ (own m k).process_count)
     → (step m (call_by k 1 (pos mode) (pos 0) (pos 0) (pos 0))).answer.code ≡ 0
 unfolding Checks
 mode_accepted m k h mode c some =
@@ -169,7 +169,7 @@ mode_accepted m k h mode c some =
     ).1 (rw (from_zero mode, le-leb mode 3 o.0))
     ).1 (not_and (eqb mode 3) (eqb p.mode 3) (λ x y. o.1 (eqb-true mode 3 x) (eqb-true _ 3 y)))
     ).1 (not_and (eqb mode 2) (eqb p.mode 1) (λ x y. o.2 (eqb-true mode 2 x) (eqb-true _ 1 y)))
-    ).1 (not_and (eqb mode 3) (eqb p.processCount 0) (λ x y. let z = eqb-true p.processCount 0 y in let l = some (eqb-true mode 3 x) in omega arith)) in
+    ).1 (not_and (eqb mode 3) (eqb p.process_count 0) (λ x y. let z = eqb-true p.process_count 0 y in let l = some (eqb-true mode 3 x) in omega arith)) in
     either (eqb mode 3) (λ t. (g.0 t _ (releases m k h).some).code_is) (λ t. (g.1 t).code_is)
 
 -- ---------------------------------------------------------------- IDLE

@@ -21,7 +21,7 @@ use Rattle.machine.proofs.Messages.{queue_length, moved_held}
 use Rattle.machine.proofs.Keeping.{stored_rest}
 use Rattle.machine.proofs.Orders.{buffer_queue}
 
-module _ (frame t : ℕ) (p : Partition) (v : Valid frame t p) (j : ℕ) (b : Between 1 p.bufferCount j) where
+module _ (frame t : ℕ) (p : Partition) (v : Valid frame t p) (j : ℕ) (b : Between 1 p.buffer_count j) where
   abbrev pub messages : List ℕ
   messages = held (buffer j p).queue
 
@@ -42,7 +42,7 @@ module _ (frame t : ℕ) (p : Partition) (v : Valid frame t p) (j : ℕ) (b : Be
     abbrev pub transferred : Partition
     transferred = applied (Moved j a) p
 
-    moving_is : moving ≡ with_buffers (set p.buffers (j - 1) (moved_in a (buffer j p))) (max p.bufferCount j) p
+    moving_is : moving ≡ with_buffers (set p.buffers (j - 1) (moved_in a (buffer j p))) (max p.buffer_count j) p
     moving_is = buffer_in j (moved_in a (buffer j p)) p (within_in buffer_limit j b.0 few)
 
     pub moving_held : SoundMove (buffer j p).limit (buffer j p).queue a → held (buffer j moving).queue ≡ plain_moved a messages
@@ -63,10 +63,10 @@ module _ (frame t : ℕ) (p : Partition) (v : Valid frame t p) (j : ℕ) (b : Be
     pub moving_listed : ListedIn moving
     moving_listed = rw moving_is v.lists
 
-    pub moving_count : p.bufferCount ≤ moving.bufferCount
+    pub moving_count : p.buffer_count ≤ moving.buffer_count
     moving_count = rw moving_is (omega arith)
 
-    pub moving_created : (id : ℕ) → Between 1 p.processCount id → Between 1 moving.processCount id
+    pub moving_created : (id : ℕ) → Between 1 p.process_count id → Between 1 moving.process_count id
     moving_created id c = rw moving_is c
 
     -- and then one process stored
@@ -76,6 +76,6 @@ module _ (frame t : ℕ) (p : Partition) (v : Valid frame t p) (j : ℕ) (b : Be
   -- a message handed over leaves the buffer as it is
   pub handed_same : (id m : ℕ) → moving (HandedTo id m) ≡ p
   handed_same id m =
-      let count : max p.bufferCount j ≡ p.bufferCount = omega (arith, b.1) in
+      let count : max p.buffer_count j ≡ p.buffer_count = omega (arith, b.1) in
       let same : set p.buffers (j - 1) (buffer j p) ≡ p.buffers = ap (set p.buffers (j - 1)) (named_in buffer_limit j no_buffer p.buffers (within_in buffer_limit j b.0 few)) ∙ set-get_or p.buffers (j - 1) no_buffer in
       moving_is (HandedTo id m) ∙ ap₂ (λ (l : List Buffer) (n : ℕ). with_buffers l n p) same count

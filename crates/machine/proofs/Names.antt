@@ -92,9 +92,9 @@ module _ {A : Type 0} (name_of : A → ℕ) (limit : ℕ) (d : A) (l : List A) (
       rw m (differ_next (called l) (called (set l (k - 1) a)) n (name_of a) (λ y b. called_other y (λ e. omega (arith, b.1, h.0))) (ap (called (set l (k - 1) a)) (sym h.0) ∙ called_same) h.1 f)
 
 -- ---------------------------------------------------------------- changes of processes
-rest_names : (p q : Partition) → Rest p q → ((y : ℕ) → Between 1 p.processCount y → (process y q).given ≡ (process y p).given) → NamesDiffer p → NamesDiffer q
+rest_names : (p q : Partition) → Rest p q → ((y : ℕ) → Between 1 p.process_count y → (process y q).given ≡ (process y p).given) → NamesDiffer p → NamesDiffer q
 rest_names p q e g h = rw e (record {
-  processes = differ_same (λ y. (process y p).given.name) (λ y. (process y q).given.name) p.processCount (λ y b. ap (λ (x : Given). x.name) (g y b)) h.processes;
+  processes = differ_same (λ y. (process y p).given.name) (λ y. (process y q).given.name) p.process_count (λ y b. ap (λ (x : Given). x.name) (g y b)) h.processes;
   semaphores = h.semaphores;
   events = h.events;
   buffers = h.buffers;
@@ -107,7 +107,7 @@ stored_names p v id x g = rest_names p _ (stored_rest p id x) (λ y b. ⊎_elim
     (λ (ne : y ≡ id → ⊥). ap (λ (z : Process). z.given) (process_other p id x y ne))
     (same_or_not y id))
 
-all_names : (f : Process → Process) → ((x : Process) → (f x).given ≡ x.given) → (l : List ℕ) (p : Partition) → ListedIn p → AllCreated l p.processCount → Distinct l → NamesDiffer p → NamesDiffer (changed_all f l p)
+all_names : (f : Process → Process) → ((x : Process) → (f x).given ≡ x.given) → (l : List ℕ) (p : Partition) → ListedIn p → AllCreated l p.process_count → Distinct l → NamesDiffer p → NamesDiffer (changed_all f l p)
 all_names f g l p v all once = rest_names p _ (changed_rest f l p) (λ y b. ap (λ (z : Process). z.given) (changed_process f l p v all once y) ∙ by_test (λ (z : Process). z.given ≡ (process y p).given) (contains y l) (λ _. g (process y p)) (λ _. refl))
 
 each_names : (f : Process → Process) → ((x : Process) → (f x).given ≡ x.given) → (p : Partition) → ListedIn p → NamesDiffer p → NamesDiffer (each f p)
@@ -123,13 +123,13 @@ tick_names : (t : ℕ) (p : Partition) → ListedIn p → NamesDiffer p → Name
 unfolding tick_partition
 tick_names t p v h = by_test NamesDiffer (normal_mode p) (λ _. each_names (ticked t) (ticked_given t) p v h) (λ _. h)
 
-buffer_names : (frame t : ℕ) (p : Partition) → Valid frame t p → (k : ℕ) (b : Buffer) → TakesName (λ y. (buffer y p).name) p.bufferCount k b.name → NamesDiffer p → NamesDiffer (stored_buffer k b p)
+buffer_names : (frame t : ℕ) (p : Partition) → Valid frame t p → (k : ℕ) (b : Buffer) → TakesName (λ y. (buffer y p).name) p.buffer_count k b.name → NamesDiffer p → NamesDiffer (stored_buffer k b p)
 buffer_names frame t p v k b g h = either (within buffer_limit k)
     (λ e. rw (buffer_in k b p e) (record {
       processes = h.processes;
       semaphores = h.semaphores;
       events = h.events;
-      buffers = differ_set (λ (x : Buffer). x.name) buffer_limit no_buffer p.buffers p.bufferCount v.objects.buffers.numbered k e b g h.buffers;
+      buffers = differ_set (λ (x : Buffer). x.name) buffer_limit no_buffer p.buffers p.buffer_count v.objects.buffers.numbered k e b g h.buffers;
       blackboards = h.blackboards;
     }))
     (λ e. rw (buffer_out k b p e) h)
@@ -141,7 +141,7 @@ change_names n r frame t p v Nothing g h = h
 change_names n r frame t p v (Stored id x) g h = stored_names p v.lists id x g h
 change_names n r frame t p v (Created id x) g h = either (within process_limit id)
     (λ e. rw (created_in id x p e) (record {
-      processes = differ_set (λ (y : Process). y.given.name) process_limit blank_process p.processes p.processCount v.lists.numbered id e x (inr g) h.processes;
+      processes = differ_set (λ (y : Process). y.given.name) process_limit blank_process p.processes p.process_count v.lists.numbered id e x (inr g) h.processes;
       semaphores = h.semaphores;
       events = h.events;
       buffers = h.buffers;
@@ -152,7 +152,7 @@ change_names n r frame t p v (Last id) g h = record { processes = h.processes; s
 change_names n r frame t p v (StoredSemaphore k s) g h = either (within semaphore_limit k)
     (λ e. rw (semaphore_in k s p e) (record {
       processes = h.processes;
-      semaphores = differ_set (λ (x : SemaphoreT). x.name) semaphore_limit no_semaphore p.semaphores p.semaphoreCount v.objects.semaphores.numbered k e s g h.semaphores;
+      semaphores = differ_set (λ (x : SemaphoreT). x.name) semaphore_limit no_semaphore p.semaphores p.semaphore_count v.objects.semaphores.numbered k e s g h.semaphores;
       events = h.events;
       buffers = h.buffers;
       blackboards = h.blackboards;
@@ -162,7 +162,7 @@ change_names n r frame t p v (StoredEvent k s) g h = either (within event_limit 
     (λ e. rw (event_in k s p e) (record {
       processes = h.processes;
       semaphores = h.semaphores;
-      events = differ_set (λ (x : EventState). x.name) event_limit no_event p.events p.eventCount v.objects.events.numbered k e s g.0 h.events;
+      events = differ_set (λ (x : EventState). x.name) event_limit no_event p.events p.event_count v.objects.events.numbered k e s g.0 h.events;
       buffers = h.buffers;
       blackboards = h.blackboards;
     }))
@@ -179,7 +179,7 @@ change_names n r frame t p v (StoredBlackboard k s) g h = either (within blackbo
       semaphores = h.semaphores;
       events = h.events;
       buffers = h.buffers;
-      blackboards = differ_set (λ (x : BlackboardT). x.name) blackboard_limit no_blackboard p.blackboards p.blackboardCount v.objects.blackboards.numbered k e s g.0 h.blackboards;
+      blackboards = differ_set (λ (x : BlackboardT). x.name) blackboard_limit no_blackboard p.blackboards p.blackboard_count v.objects.blackboards.numbered k e s g.0 h.blackboards;
     }))
     (λ e. rw (blackboard_out k s p e) h)
 change_names n r frame t p v (Ended o) g h = all_names served (λ _. refl) (waiters o p) p v.lists (waiters_created p v.lists o) (waiters_distinct p v.lists o) h

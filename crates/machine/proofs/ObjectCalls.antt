@@ -31,7 +31,7 @@ use Rattle.machine.proofs.Acts.{signals}
 pub create_semaphore_holds : Laws 14
 unfolding services create_semaphore Passed
 create_semaphore_holds = laws (λ _ _ _ _ _ _. refl) λ c x r p. checks _ _ refl (λ h.
-    let room = leb-false semaphore_limit p.semaphoreCount h.0 in
+    let room = leb-false semaphore_limit p.semaphore_count h.0 in
     record {
       codes = (refl, refl);
       sound = λ _ _ _.
@@ -43,10 +43,10 @@ create_semaphore_holds = laws (λ _ _ _ _ _ _. refl) λ c x r p. checks _ _ refl
           );
       order = (tt, tt);
       fair = λ v k kind i t. ⊎_elim inl
-          (λ y. inr (rw (y.0, y.1) (semaphore_queue p v.lists (queue_number 1 (p.semaphoreCount + 1)) (λ z. omega arith) (p.semaphoreCount + 1) _ ∙ created_free c p v k x 14 1 p.semaphoreCount _ (omega arith) (omega arith) refl refl)))
+          (λ y. inr (rw (y.0, y.1) (semaphore_queue p v.lists (queue_number 1 (p.semaphore_count + 1)) (λ z. omega arith) (p.semaphore_count + 1) _ ∙ created_free c p v k x 14 1 p.semaphore_count _ (omega arith) (omega arith) refl refl)))
           (semaphore_available c.frame c.time p v kind i _ _ t);
       calm = λ _ _ _ _ _. (tt, tt);
-      stores = λ v. (inr (refl, free_name (λ (x : SemaphoreT). x.name) no_semaphore semaphore_limit p.semaphoreCount p.semaphores v.objects.semaphores.numbered r.a h.1.0 (and_left (is_name r.a) _ (not-false _ h.1.1.0))), tt);
+      stores = λ v. (inr (refl, free_name (λ (x : SemaphoreT). x.name) no_semaphore semaphore_limit p.semaphore_count p.semaphores v.objects.semaphores.numbered r.a h.1.0 (and_left (is_name r.a) _ (not-false _ h.1.1.0))), tt);
       acts = λ _. (tt, tt, refl, refl, (refl, refl));
     })
 
@@ -56,7 +56,7 @@ wait_semaphore_holds = laws (λ _ c u x r p. waits_unseen c u _ _ _ _ _ _ _ p) �
     let i = number_of r.a in
     waits _ _ _ _ _ _ (Semaphore i) 1 i 0 refl
     (λ h _ e.
-    let b = known_id i p.semaphoreCount h.0 in
+    let b = known_id i p.semaphore_count h.0 in
     record {
       codes = (refl, refl);
       sound = λ v k _. (value_sound c p v k i b ((semaphore i p).value - 1) (omega (arith, (v.objects.semaphores.each i b).value)), tt, omega arith);
@@ -67,7 +67,7 @@ wait_semaphore_holds = laws (λ _ c u x r p. waits_unseen c u _ _ _ _ _ _ _ p) �
       acts = λ _. (tt, tt, refl, refl, (refl, refl));
     })
     (λ h _ e.
-    let b = known_id i p.semaphoreCount h.0 in
+    let b = known_id i p.semaphore_count h.0 in
     record {
       class = refl;
       known = (b, omega arith);
@@ -82,7 +82,7 @@ unfolding services signal Passed
 signal_call = laws (λ _ _ _ _ _ _. refl) λ c x r p. checks _ _ refl (λ h.
     let i = number_of r.a in
     let o = object (Semaphore i) in
-    let b = known_id i p.semaphoreCount h.0 in
+    let b = known_id i p.semaphore_count h.0 in
     record {
       codes = (rw (signalled_by (waiters o p) i p), refl);
       sound = λ v k _. (signalled_sound c p v k (waiters o p) i b (eqb-false _ _ h.1.0) (waiters_on p v.lists o) (waiters_created p v.lists o), tt, omega arith);
@@ -98,12 +98,12 @@ unfolding services create_event Passed
 create_event_holds = laws (λ _ _ _ _ _ _. refl) λ c x r p. checks _ _ refl (λ h. record {
   codes = (refl, refl);
   sound = λ _ _ _.
-      let room = leb-false event_limit p.eventCount h.0 in
+      let room = leb-false event_limit p.event_count h.0 in
       ((((omega arith, omega arith), omega arith), record { name = in_limits 1 name_limit r.a (not-false _ h.1.1.0) }), tt, omega arith);
   order = (tt, tt);
   fair = λ v k kind i t. ⊎_elim inl (λ y. not_both _ y.2 refl) (event_available c.frame c.time p v kind i _ _ t);
   calm = λ _ _ _ _ _. (tt, tt);
-  stores = λ v. ((inr (refl, free_name (λ (x : EventState). x.name) no_event event_limit p.eventCount p.events v.objects.events.numbered r.a h.1.0 (not-false _ h.1.1.0)), λ low. absurd (omega arith)), tt);
+  stores = λ v. ((inr (refl, free_name (λ (x : EventState). x.name) no_event event_limit p.event_count p.events v.objects.events.numbered r.a h.1.0 (not-false _ h.1.1.0)), λ low. absurd (omega arith)), tt);
   acts = λ _. (tt, tt, refl, refl, (refl, refl));
 })
 
@@ -111,7 +111,7 @@ pub set_event_call : Laws 18
 unfolding services set_event Passed
 set_event_call = laws (λ _ _ _ _ _ _. refl) λ c x r p. checks _ _ refl (λ h.
     let i = number_of r.a in
-    let b = known_id i p.eventCount h.0 in
+    let b = known_id i p.event_count h.0 in
     record {
       codes = (refl, refl);
       sound = λ v k _. (up_sound c p v k i b true, tt, omega arith);
@@ -129,11 +129,11 @@ pub reset_event_call : Laws 19
 unfolding services reset_event Passed
 reset_event_call = laws (λ _ _ _ _ _ _. refl) λ c x r p. checks _ _ refl (λ h. let i = number_of r.a in record {
   codes = (refl, refl);
-  sound = λ v k _. (up_sound c p v k i (known_id i p.eventCount h.0) false, tt, omega arith);
+  sound = λ v k _. (up_sound c p v k i (known_id i p.event_count h.0) false, tt, omega arith);
   order = (tt, tt);
   fair = λ v k kind j t. ⊎_elim inl (λ y. not_both _ y.2 refl) (event_available c.frame c.time p v kind j i _ t);
   calm = λ _ _ _ _ _. (tt, tt);
-  stores = λ _. ((inl (known_id i p.eventCount h.0, refl), λ _. (inr refl, refl)), tt);
+  stores = λ _. ((inl (known_id i p.event_count h.0, refl), λ _. (inr refl, refl)), tt);
   acts = λ _. (tt, tt, refl, refl, (refl, refl));
 })
 
@@ -144,7 +144,7 @@ wait_event_holds = laws (λ _ c u x r p. waits_unseen c u _ _ _ _ _ _ _ p) λ c 
     waits _ _ _ _ _ _ (Event i) 2 i 0 refl
     (λ _ _ _. answers refl (λ _ _ _. (omega arith, omega arith)))
     (λ h _ e.
-    let b = known_id i p.eventCount h.0 in
+    let b = known_id i p.event_count h.0 in
     record {
       class = refl;
       known = (b, omega arith);

@@ -64,7 +64,7 @@ off_object o some x h = ne_eqb (object x.wait) o (λ e. some (sym e ∙ eqb-true
 pub on_some : (x : Process) → on_object x ≡ true → object x.wait ≡ 0 → ⊥
 on_some x h e = not_both _ h (rw e)
 
-module _ (p : Partition) (v : ListedIn p) (id : ℕ) (b : Between 1 p.processCount id) (x : Process) where
+module _ (p : Partition) (v : ListedIn p) (id : ℕ) (b : Between 1 p.process_count id) (x : Process) where
   -- the two lists follow
   old_is : plain_by_id blank_process id p.processes ≡ process id p
   old_is = sym (by_id_plain process_limit blank_process p.processes v.numbered.size id)
@@ -160,14 +160,14 @@ module _ (o : ℕ) (some : o ≡ 0 → ⊥) where
   followed_part false true h id l = not_both _ (h refl) refl
   followed_part false false h id l = part_whole l
 
-  pub stored_part : (p : Partition) → ListedIn p → (id : ℕ) → Between 1 p.processCount id → (x : Process) → KeepsOrEnds (process id p) x → Part (waiters o p) (waiters o (stored id x p))
+  pub stored_part : (p : Partition) → ListedIn p → (id : ℕ) → Between 1 p.process_count id → (x : Process) → KeepsOrEnds (process id p) x → Part (waiters o p) (waiters o (stored id x p))
   stored_part p v id b x k =
       let a = followed_part (waits_on o p id) (eqb (object x.wait) o) (λ e. ⊎_elim
       (λ (z : object x.wait ≡ 0). absurd (some (sym (eqb-true _ o e) ∙ z)))
       (λ (s : object x.wait ≡ object (process id p).wait). rw (← s) e) k) id (waiters o p) in
       record { by = a.by; is = stored_queue p v id b x o some (inr k) ∙ a.is }
 
-  pub all_part : (f : Process → Process) → ((x : Process) → KeepsOrEnds x (f x)) → (l : List ℕ) (p : Partition) → ListedIn p → AllCreated l p.processCount → Part (waiters o p) (waiters o (changed_all f l p))
+  pub all_part : (f : Process → Process) → ((x : Process) → KeepsOrEnds x (f x)) → (l : List ℕ) (p : Partition) → ListedIn p → AllCreated l p.process_count → Part (waiters o p) (waiters o (changed_all f l p))
   unfolding changed_all contains
   all_part f k [] p v all = part_whole (waiters o p)
   all_part f k (id ∷ l) p v all =
@@ -218,9 +218,9 @@ unfolding waiters
 same_queue o p q e f = ap (λ (a : Ids). kept (waits_on o q) (members a)) e ∙ kept_same (waits_on o q) (waits_on o p) (members p.waiting) (λ y _. ap (λ n. eqb n o) (f y))
 
 module _ (p : Partition) (v : ListedIn p) (o : ℕ) (some : o ≡ 0 → ⊥) where
-  created_queue : (x : Process) → object x.wait ≡ 0 → waiters o (created (p.processCount + 1) x p) ≡ waiters o p
+  created_queue : (x : Process) → object x.wait ≡ 0 → waiters o (created (p.process_count + 1) x p) ≡ waiters o p
   created_queue x off =
-      let n = p.processCount + 1 in
+      let n = p.process_count + 1 in
       either (within process_limit n)
       (λ e.
       let hi = (within_out process_limit n e).1 in
@@ -254,7 +254,7 @@ module _ (p : Partition) (v : ListedIn p) (o : ℕ) (some : o ≡ 0 → ⊥) whe
   pub each_queue_holds : (f : Process → Process) → ((x : Process) → KeepsOrEnds x (f x)) → waiters o (each f p) ≡ kept (λ y. eqb (object (f (process y p)).wait) o) (waiters o p)
   each_queue_holds f k =
       let q = each f p in
-      part_waits o q (queue_of_holds q (each_listed f p v) o some) (waiters o p) (rw (each_changed f p.processCount 1 p) (all_part o some f k _ p v (λ y h. let r = from_range p.processCount 1 y h in (r.0, omega arith))))
+      part_waits o q (queue_of_holds q (each_listed f p v) o some) (waiters o p) (rw (each_changed f p.process_count 1 p) (all_part o some f k _ p v (λ y h. let r = from_range p.process_count 1 y h in (r.0, omega arith))))
       ∙ kept_same (waits_on o q) (λ y. eqb (object (f (process y p)).wait) o) (waiters o p) (λ y c. ap (λ (z : Process). eqb (object z.wait) o) (each_process_holds f p v y (waiters_created p v o y c)))
 
   -- one of the queue waits on the object
@@ -399,7 +399,7 @@ module _ (o : ℕ) (some : o ≡ 0 → ⊥) where
   change_part c p v (Entered d) h k = part_of _ _ (entered_queue p v.lists o some d)
 
 -- a READY process that begins to wait: it joins last, where it waits on the object
-module _ (o : ℕ) (some : o ≡ 0 → ⊥) (p : Partition) (v : ListedIn p) (id : ℕ) (b : Between 1 p.processCount id) (x : Process) (h : ready (process id p) ≡ true) where
+module _ (o : ℕ) (some : o ≡ 0 → ⊥) (p : Partition) (v : ListedIn p) (id : ℕ) (b : Between 1 p.process_count id) (x : Process) (h : ready (process id p) ≡ true) where
   pub joins_last : waiters o (stored id x p) ≡ waiters o p ++ cond (eqb (object x.wait) o) (id ∷ []) []
   joins_last = stored_queue p v id b x o some (inl (ready_off (process id p) h)) ∙ rw (off) (go (eqb (object x.wait) o))
     where

@@ -13,8 +13,8 @@ use Rattle.machine.specs.declared.Partition.{Partition}
 use Rattle.machine.specs.declared.Event.{Event as EventT}
 use Rattle.machine.specs.declared.Module.{Module}
 use Rattle.machine.specs.declared.Wait.TheVariants.{Normal}
-use Rattle.machine.specs.declared.Time.{Time}
-use Rattle.machine.specs.declared.Time.TheVariants.{Never, At}
+use Rattle.machine.specs.Time.{Time}
+use Rattle.std.specs.Prelude.{None, Some}
 use Rattle.machine.specs.Process.{Class, class_of, is_never}
 use Rattle.machine.specs.Partition.{normal_mode, process}
 use Rattle.machine.specs.Step.{step}
@@ -91,11 +91,11 @@ module _ (m : Module) (e : EventT) (k id : ℕ) (normal : (own m k).mode ≡ 3) 
     lasts_by y (Becomes.erased c is) = absurd (erase c)
 
 -- ---------------------------------------------------------------- a partition
-at_most_some : (n : ℕ) (r : Time) → AtMost n r → r ≡ Never → ⊥
-at_most_some n Never h z = h
-at_most_some n (At i) h z = not_both _ (ap is_never z) refl
+at_most_some : (n : ℕ) (r : Time) → AtMost n r → r ≡ None → ⊥
+at_most_some n None h z = h
+at_most_some n (Some i) h z = not_both _ (ap is_never z) refl
 
-release_some : (t n : ℕ) (v : Class) (r : Time) → SoundRelease t (At n) v r → r ≡ Never → ⊥
+release_some : (t n : ℕ) (v : Class) (r : Time) → SoundRelease t (Some n) v r → r ≡ None → ⊥
 release_some t n Class.nothing r h z = at_most_some t r h z
 release_some t n Class.normal r h z = h
 release_some t n Class.timer r h z = at_most_some t r h z
@@ -110,11 +110,11 @@ module _ (frame t : ℕ) (p : Partition) (v : Valid frame t p) (id : ℕ) (on : 
   not_early : normal_mode p ≡ true → (process id p).wait ≡ Normal → ⊥
   not_early n z = rw z at (sound.going on n).wait
 
-  has_release : (n : ℕ) → normal_mode p ≡ true → (process id p).given.period ≡ At n → (process id p).times.release ≡ Never → ⊥
+  has_release : (n : ℕ) → normal_mode p ≡ true → (process id p).given.period ≡ Some n → (process id p).times.release ≡ None → ⊥
   has_release n normal per = release_some t n (class_of (process id p).wait) _ (rw per at (sound.going on normal).release)
 
   -- where it has one, the mode is NORMAL
-  in_normal : (r : ℕ) → (process id p).times.release ≡ At r → p.mode ≡ 3
+  in_normal : (r : ℕ) → (process id p).times.release ≡ Some r → p.mode ≡ 3
   in_normal r is = either (normal_mode p) (λ t. eqb-true _ 3 t) (λ f. not_both _ (ap is_never (sym is ∙ (sound.early on f).times.release)) refl)
 
 -- ---------------------------------------------------------------- every list
@@ -129,21 +129,21 @@ module _ (m : Module) (h : Reached m) (k id : ℕ) (b : Between 1 m.table.size k
 times : (n c : ℕ) → n * (1 + c) ≡ n + n * c
 times n c = mul-add n 1 c ∙ ap (λ j. j + n * c) (mul-one n)
 
-list_strict : (k id n : ℕ) (es : List EventT) (m : Module) → Reached m → Between 1 m.table.size k → (r : ℕ) → (own m k).mode ≡ 3 → (process id (own m k)).started ≡ true → (process id (own m k)).given.period ≡ At n
-    → (process id (own m k)).times.release ≡ At r → NeverStopped k id m es → (process id (own (after m es) k)).times.release ≡ At (r + n * period_waits k id m es)
+list_strict : (k id n : ℕ) (es : List EventT) (m : Module) → Reached m → Between 1 m.table.size k → (r : ℕ) → (own m k).mode ≡ 3 → (process id (own m k)).started ≡ true → (process id (own m k)).given.period ≡ Some n
+    → (process id (own m k)).times.release ≡ Some r → NeverStopped k id m es → (process id (own (after m es) k)).times.release ≡ Some (r + n * period_waits k id m es)
 unfolding NeverStopped period_waits
-list_strict k id n [] m h b r normal on per is never = is ∙ ap At (omega (arith, mul-zero n))
+list_strict k id n [] m h b r normal on per is never = is ∙ ap Some (omega (arith, mul-zero n))
 list_strict k id n (e ∷ es) m h b r normal on per is never =
     let q = (step m e).state in
     let l = lasts m h k id b e on never.0 never.1 normal in
     let u = Reached.stepped m e h in
     let w = between_after m h k id b e in
     let c = period_waits k id q es in
-    let go : (r' : ℕ) → (process id (own q k)).times.release ≡ At r' → (process id (own (after q es) k)).times.release ≡ At (r' + n * c) = λ r' z.
+    let go : (r' : ℕ) → (process id (own q k)).times.release ≡ Some r' → (process id (own (after q es) k)).times.release ≡ Some (r' + n * c) = λ r' z.
     list_strict k id n es q u w r' (in_normal q.table.frame q.t (own q k) (valid q u k id w) id l.started r' z) l.started (ap (λ (g : Given). g.period) l.given ∙ per) z never.2 in
     either (waits_period m e k id)
-    (λ t. go (r + n) (l.release ∙ rw (t, is, per)) ∙ rw t (ap At (omega (arith, times n c))))
-    (λ t. go r (l.release ∙ rw (t, is)) ∙ rw t (ap (λ j. At (r + n * j)) (omega arith)))
+    (λ t. go (r + n) (l.release ∙ rw (t, is, per)) ∙ rw t (ap Some (omega (arith, times n c))))
+    (λ t. go r (l.release ∙ rw (t, is)) ∙ rw t (ap (λ j. Some (r + n * j)) (omega arith)))
 
 -- Law. Strict periods.
 pub periods : Periods

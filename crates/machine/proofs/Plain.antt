@@ -26,8 +26,8 @@ use Rattle.machine.specs.declared.Module.{Module}
 use Rattle.machine.specs.declared.Table.{Table}
 use Rattle.machine.specs.declared.Stepped.{Stepped}
 use Rattle.machine.specs.declared.Field.{Field}
-use Rattle.machine.specs.declared.Time.{Time}
-use Rattle.machine.specs.declared.Time.TheVariants.{Never, At}
+use Rattle.machine.specs.Time.{Time}
+use Rattle.std.specs.Prelude.{None, Some}
 use Rattle.machine.specs.Limits.{process_limit, semaphore_limit, event_limit, buffer_limit, blackboard_limit, level_limit, duration_limit, time_limit, partition_limit, channel_limit, greatest_time, greatest_value}
 use Rattle.machine.specs.Messages.{queue_of, ends_wait}
 use Rattle.machine.specs.Fields.{field, request_of, is_number, between, is_minus_one, number_of}
@@ -71,7 +71,7 @@ reads_plain frame t p v = record {
 }
 
 -- ---------------------------------------------------------------- the other changes
-pub all_plain : (f : Process → Process) (l : List ℕ) (p : Partition) → ListedIn p → AllCreated l p.processCount → changed_all f l p ≡ plain_all f l p
+pub all_plain : (f : Process → Process) (l : List ℕ) (p : Partition) → ListedIn p → AllCreated l p.process_count → changed_all f l p ≡ plain_all f l p
 unfolding changed_all plain_all contains
 all_plain f [] p v all = refl
 all_plain f (id ∷ l) p v all =
@@ -80,10 +80,10 @@ all_plain f (id ∷ l) p v all =
     all_plain f l (stored id x p) (stored_listed p id x v b) (λ y c. rw (rest_count p _ (stored_rest p id x)) (all y (rw c (or-true (eqb id y)))))
     ∙ rw (stored_plain p v id b x, by_id_plain process_limit blank_process p.processes v.numbered.size id)
 
-pub each_plain : (f : Process → Process) (p : Partition) → ListedIn p → each f p ≡ plain_all f (ids_from p.processCount 1) p
+pub each_plain : (f : Process → Process) (p : Partition) → ListedIn p → each f p ≡ plain_all f (ids_from p.process_count 1) p
 each_plain f p v =
-    each_changed f p.processCount 1 p
-    ∙ all_plain f (ids_from p.processCount 1) p v (λ y h. let r = from_range p.processCount 1 y h in (r.0, omega arith))
+    each_changed f p.process_count 1 p
+    ∙ all_plain f (ids_from p.process_count 1) p v (λ y h. let r = from_range p.process_count 1 y h in (r.0, omega arith))
 
 -- the wait that a transfer ends
 pub ended_plain : (p : Partition) → ListedIn p → (a : Transfer) → SoundEnd p a → ended_by a p ≡ plain_ended a p
@@ -99,7 +99,7 @@ end_in_place p v Taken h = tt
 end_in_place p v (LetIn id m) h = (h.0.0, omega (arith, h.0.1, v.numbered.few, v.numbered.size))
 
 -- a READY process that goes to the end of the arrival list
-pub arrived_plain : (p : Partition) → ListedIn p → (id : ℕ) → ready (process id p) ≡ true → arrived_last id p ≡ with_processes p.processes p.processCount (ids_of (kept (other id) (members p.arrival) ++ (id ∷ []))) p.waiting p
+pub arrived_plain : (p : Partition) → ListedIn p → (id : ℕ) → ready (process id p) ≡ true → arrived_last id p ≡ with_processes p.processes p.process_count (ids_of (kept (other id) (members p.arrival) ++ (id ∷ []))) p.waiting p
 unfolding arrived_last removed
 arrived_plain p v id h =
     let l = kept (other id) (members p.arrival) in
@@ -116,19 +116,19 @@ module _ (c : Context) {o : Partition} (k : SoundContext c o) where
   change_plain p v Nothing h = refl
   change_plain p v (Stored id x) h = stored_plain p v.lists id h.0 x
   change_plain p v (Created id x) h =
-      let e : max p.processCount id ≡ p.processCount + 1 = omega (arith, h.next) in
+      let e : max p.process_count id ≡ p.process_count + 1 = omega (arith, h.next) in
       created_in id x p (within_in process_limit id (omega (arith, h.next)) (omega (arith, h.next, h.room))) ∙ rw e
   change_plain p v (Last id) h = arrived_plain p v.lists id h
-  change_plain p v (StoredSemaphore j s) h = semaphore_in j s p (within_in semaphore_limit j h.0.0.0 h.0.1) ∙ rw (count_with_holds p.semaphoreCount j h.0.0.1)
-  change_plain p v (StoredEvent j e) h = event_in j e p (within_in event_limit j h.0.0.0 h.0.1) ∙ rw (count_with_holds p.eventCount j h.0.0.1)
-  change_plain p v (CreatedBuffer j name limit) h = buffer_in j (empty_buffer name limit) p (within_in buffer_limit j h.0.0.0 h.0.1) ∙ rw (count_with_holds p.bufferCount j h.0.0.1)
+  change_plain p v (StoredSemaphore j s) h = semaphore_in j s p (within_in semaphore_limit j h.0.0.0 h.0.1) ∙ rw (count_with_holds p.semaphore_count j h.0.0.1)
+  change_plain p v (StoredEvent j e) h = event_in j e p (within_in event_limit j h.0.0.0 h.0.1) ∙ rw (count_with_holds p.event_count j h.0.0.1)
+  change_plain p v (CreatedBuffer j name limit) h = buffer_in j (empty_buffer name limit) p (within_in buffer_limit j h.0.0.0 h.0.1) ∙ rw (count_with_holds p.buffer_count j h.0.0.1)
   change_plain p v (Moved j a) h =
       let few = v.objects.buffers.numbered.few in
       let in_List = buffer_in j (moved_in a (buffer j p)) p (within_in buffer_limit j h.0.0 (omega (arith, h.0.1, few))) in
       ended_plain (stored_buffer j (moved_in a (buffer j p)) p) (rw in_List v.lists) a (end_stored j (moved_in a (buffer j p)) p a in_List h.2)
       ∙ ap (plain_ended a) (in_List
-      ∙ rw (count_with_holds p.bufferCount j (omega (arith, h.0.1)), moved_in_plain (buffer j p) (v.objects.buffers.each j h.0) a h.1, by_id_plain buffer_limit no_buffer p.buffers v.objects.buffers.numbered.size j))
-  change_plain p v (StoredBlackboard j b) h = blackboard_in j b p (within_in blackboard_limit j h.0.0.0 h.0.1) ∙ rw (count_with_holds p.blackboardCount j h.0.0.1)
+      ∙ rw (count_with_holds p.buffer_count j (omega (arith, h.0.1)), moved_in_plain (buffer j p) (v.objects.buffers.each j h.0) a h.1, by_id_plain buffer_limit no_buffer p.buffers v.objects.buffers.numbered.size j))
+  change_plain p v (StoredBlackboard j b) h = blackboard_in j b p (within_in blackboard_limit j h.0.0.0 h.0.1) ∙ rw (count_with_holds p.blackboard_count j h.0.0.1)
   change_plain p v (Ended o) h = all_plain served (waiters o p) p v.lists (waiters_created p v.lists o)
   change_plain p v (Handed o m) h = all_plain (handed m) (waiters o p) p v.lists (waiters_created p v.lists o)
   change_plain p v (LevelSet level holder) h = refl
@@ -172,8 +172,8 @@ first_at (suc n) f (a ∷ l) d (suc i) h = first_at n f l d i (omega arith) ∙ 
 
 -- one process: its wait, its mark, its deadline
 come_is : (t : ℕ) (a : Time) → come t a ≡ due t a
-come_is t Never = refl
-come_is t (At n) = refl
+come_is t None = refl
+come_is t (Some n) = refl
 
 pub tick_one : (t : ℕ) (x : Process) → ticked t x ≡ at_tick t x
 unfolding woken expired
@@ -203,7 +203,7 @@ module _ (m : Module) (s : SoundModule m) where
 
 -- ---------------------------------------------------------------- channels
 -- one queue filled anew
-module _ (i : ℕ) (m : Module) (s : SoundModule m) (l : i < m.table.channelCount) where
+module _ (i : ℕ) (m : Module) (s : SoundModule m) (l : i < m.table.channel_count) where
   refilled_at_plain : refilled_at i m ≡ plain_refilled_at i m
   refilled_at_plain =
       let c = channel m.table i in
@@ -217,37 +217,37 @@ module _ (i : ℕ) (m : Module) (s : SoundModule m) (l : i < m.table.channelCoun
       (λ t id. carried (by_id_plain process_limit blank_process p.processes v.lists.numbered.size id t))
 
 -- those of the table's channels that are queuing and lead into a partition
-pub refilled_plain : (k n : ℕ) (m : Module) → SoundModule m → n ≤ m.table.channelCount → refilled_to k n m ≡ plain_refilled_to k n m
+pub refilled_plain : (k n : ℕ) (m : Module) → SoundModule m → n ≤ m.table.channel_count → refilled_to k n m ≡ plain_refilled_to k n m
 unfolding refilled_to plain_refilled_to
 refilled_plain k zero m s h = refl
 refilled_plain k (suc n) m s h =
     let u = refilled_to k n m in
-    let e : n < u.table.channelCount = rw (refilled_table k n m) h in
+    let e : n < u.table.channel_count = rw (refilled_table k n m) h in
     let g = refilled_sound k n m s in
     let c = channel u.table n in
-    let is : (queuing_at u.table n && leads_into k c) ≡ (ltb 0 c.size && leads_into k c) = rw (lt-ltb n u.table.channelCount e, queuing_plain u.table g.table n e) in
+    let is : (queuing_at u.table n && leads_into k c) ≡ (ltb 0 c.size && leads_into k c) = rw (lt-ltb n u.table.channel_count e, queuing_plain u.table g.table n e) in
     by_tests (λ (x y : Module). x ≡ y) _ _ is (λ _. refilled_at_plain n u g e) (λ _. refl)
     ∙ ap (λ (h : Module). cond (ltb 0 (channel h.table n).size && leads_into k (channel h.table n)) (plain_refilled_at n h) h) (refilled_plain k n m s (omega arith))
 
 -- past them there is nothing to fill
-refilled_past : (k d : ℕ) (m : Module) → refilled_to k (m.table.channelCount + d) m ≡ refilled_to k m.table.channelCount m
+refilled_past : (k d : ℕ) (m : Module) → refilled_to k (m.table.channel_count + d) m ≡ refilled_to k m.table.channel_count m
 unfolding refilled_to
-refilled_past k zero m = ap (λ n. refilled_to k n m) (let e : m.table.channelCount + 0 ≡ m.table.channelCount = omega arith in e)
+refilled_past k zero m = ap (λ n. refilled_to k n m) (let e : m.table.channel_count + 0 ≡ m.table.channel_count = omega arith in e)
 refilled_past k (suc d) m =
-    let n = m.table.channelCount + d in
-    let e : m.table.channelCount + suc d ≡ suc n = omega arith in
+    let n = m.table.channel_count + d in
+    let e : m.table.channel_count + suc d ≡ suc n = omega arith in
     let u = refilled_to k n m in
-    let off : ltb n u.table.channelCount ≡ false = rw (refilled_table k n m) (le-ltb n m.table.channelCount (omega arith)) in
+    let off : ltb n u.table.channel_count ≡ false = rw (refilled_table k n m) (le-ltb n m.table.channel_count (omega arith)) in
     ap (λ i. refilled_to k i m) e
-    ∙ by_test (λ (x : Module). x ≡ refilled_to k m.table.channelCount m) (queuing_at u.table n && leads_into k (channel u.table n))
-    (λ t. not_both _ (and_left (ltb n u.table.channelCount) _ (and_left (queuing_at u.table n) _ t)) off)
+    ∙ by_test (λ (x : Module). x ≡ refilled_to k m.table.channel_count m) (queuing_at u.table n && leads_into k (channel u.table n))
+    (λ t. not_both _ (and_left (ltb n u.table.channel_count) _ (and_left (queuing_at u.table n) _ t)) off)
     (λ _. refilled_past k d m)
 
-pub refilled_all : (k : ℕ) (m : Module) → SoundModule m → refilled_to k channel_limit m ≡ plain_refilled_to k m.table.channelCount m
+pub refilled_all : (k : ℕ) (m : Module) → SoundModule m → refilled_to k channel_limit m ≡ plain_refilled_to k m.table.channel_count m
 refilled_all k m s =
-    let few = s.table.channelCount in
-    let e : m.table.channelCount + (channel_limit - m.table.channelCount) ≡ channel_limit = omega arith in
-    ap (λ n. refilled_to k n m) (sym e) ∙ refilled_past k (channel_limit - m.table.channelCount) m ∙ refilled_plain k m.table.channelCount m s (omega arith)
+    let few = s.table.channel_count in
+    let e : m.table.channel_count + (channel_limit - m.table.channel_count) ≡ channel_limit = omega arith in
+    ap (λ n. refilled_to k n m) (sym e) ∙ refilled_past k (channel_limit - m.table.channel_count) m ∙ refilled_plain k m.table.channel_count m s (omega arith)
 
 -- ---------------------------------------------------------------- decisions
 -- what a call decides of its partition is applied plainly, and what it stores has its place
@@ -295,10 +295,10 @@ module _ (m : Module) (s : SoundModule m) (r : Request) (q : Calls m r) where
     change_in_place (context_of m k) (context_sound m s r q) now valid x h.0,
     rw (one_plain x h.0) at (change_in_place (context_of m k) (context_sound m s r q) (applied x now) (after_one x h.0) y h.1),
   )
-  decided_in_place (Restarted mode) h b = λ i l. (omega (arith, l, s.table.channelCount, s.queues_size), (s.table.each_channel i l).source)
+  decided_in_place (Restarted mode) h b = λ i l. (omega (arith, l, s.table.channel_count, s.queues_size), (s.table.each_channel i l).source)
   decided_in_place (Written i x) h b =
-      let c = in_limits 1 m.table.channelCount r.a b.there in
-      (omega (arith, b.place, c.0, c.1), omega (arith, b.place, c.0, c.1, s.table.channelCount, s.messages_size))
+      let c = in_limits 1 m.table.channel_count r.a b.there in
+      (omega (arith, b.place, c.0, c.1), omega (arith, b.place, c.0, c.1, s.table.channel_count, s.messages_size))
   decided_in_place (Passed i a n) h b =
       let t = transfer_sound m s r q i a n b in
       let g = on_queue_holds m s r q i a n b in
@@ -306,7 +306,7 @@ module _ (m : Module) (s : SoundModule m) (r : Request) (q : Calls m r) where
       let e = s.table.each_channel i t.0 in
       let l = t.0 in (
         l,
-        omega (arith, s.table.channelCount, s.queues_size),
+        omega (arith, s.table.channel_count, s.queues_size),
         by_test (Between 1 m.table.size) (eqb c.source k) (λ _. e.destination) (λ _. e.source),
         end_in_place (part m (other_end k c - 1)) (s.each_partition (other_end k c - 1) g.inside).lists a t.2,
       )
@@ -315,27 +315,27 @@ module _ (m : Module) (s : SoundModule m) (r : Request) (q : Calls m r) where
 pub caps_seen : CapsSeen
 caps_seen = record { sum = sum; sums = sums; more = more }
   where
-    sum : (a b : Time) → (later a b ≡ plain_later a b) ⊎ (later a b ≡ At greatest_time)
-    sum Never b = inl refl
-    sum (At m) Never = inl refl
-    sum (At m) (At n) = by_test (λ (k : ℕ). (At k ≡ At (m + n)) ⊎ (At k ≡ At greatest_time)) (leb (m + n) greatest_time) (λ _. inl refl) (λ _. inr refl)
+    sum : (a b : Time) → (later a b ≡ plain_later a b) ⊎ (later a b ≡ Some greatest_time)
+    sum None b = inl refl
+    sum (Some m) None = inl refl
+    sum (Some m) (Some n) = by_test (λ (k : ℕ). (Some k ≡ Some (m + n)) ⊎ (Some k ≡ Some greatest_time)) (leb (m + n) greatest_time) (λ _. inl refl) (λ _. inr refl)
 
     -- the greatest time stays the greatest whatever is added
-    greatest : (n : ℕ) (c : Time) → (later (At greatest_time) c ≡ plain_later (At n) c) ⊎ (later (At greatest_time) c ≡ At greatest_time)
-    greatest n Never = inl refl
-    greatest n (At j) = inr (by_test (λ (k : ℕ). At k ≡ At greatest_time) (leb (greatest_time + j) greatest_time) (λ e. ap At (let h = leb-true (greatest_time + j) greatest_time e in omega arith)) (λ _. refl))
+    greatest : (n : ℕ) (c : Time) → (later (Some greatest_time) c ≡ plain_later (Some n) c) ⊎ (later (Some greatest_time) c ≡ Some greatest_time)
+    greatest n None = inl refl
+    greatest n (Some j) = inr (by_test (λ (k : ℕ). Some k ≡ Some greatest_time) (leb (greatest_time + j) greatest_time) (λ e. ap Some (let h = leb-true (greatest_time + j) greatest_time e in omega arith)) (λ _. refl))
 
-    sums : (a b c : Time) → (later (later a b) c ≡ plain_later (plain_later a b) c) ⊎ (later (later a b) c ≡ At greatest_time)
-    sums Never b c = inl refl
-    sums (At m) Never c = inl refl
-    sums (At m) (At n) c = by_test (λ (k : ℕ). (later (At k) c ≡ plain_later (At (m + n)) c) ⊎ (later (At k) c ≡ At greatest_time)) (leb (m + n) greatest_time) (λ _. sum (At (m + n)) c) (λ _. greatest (m + n) c)
+    sums : (a b c : Time) → (later (later a b) c ≡ plain_later (plain_later a b) c) ⊎ (later (later a b) c ≡ Some greatest_time)
+    sums None b c = inl refl
+    sums (Some m) None c = inl refl
+    sums (Some m) (Some n) c = by_test (λ (k : ℕ). (later (Some k) c ≡ plain_later (Some (m + n)) c) ⊎ (later (Some k) c ≡ Some greatest_time)) (leb (m + n) greatest_time) (λ _. sum (Some (m + n)) c) (λ _. greatest (m + n) c)
 
     more : (n : ℕ) → (one_more n ≡ n + 1) ⊎ (greatest_value ≤ one_more n)
     more n = by_test (λ (k : ℕ). (k ≡ n + 1) ⊎ (greatest_value ≤ k)) (ltb n greatest_value) (λ _. inl refl) (λ e. inr (ltb-false n greatest_value e))
 
 uncapped : (n : ℕ) (w : Time) → NotAfter n w → n < greatest_time → Uncapped w
-uncapped n Never h k = tt
-uncapped n (At a) h k = omega arith
+uncapped n None h k = tt
+uncapped n (Some a) h k = omega arith
 
 -- no number of a valid partition is one that a cap made
 pub numbers_plain : (frame t : ℕ) (p : Partition) → Valid frame t p → t ≤ time_limit → PlainNumbers p
@@ -352,20 +352,20 @@ numbers_plain frame t p v ends = record {
 
 -- the sums of a call, each said by itself
 pub later_uncapped : (m n : ℕ) (a b : Time) → NotAfter m a → NotAfter n b → m + n ≤ greatest_time → later a b ≡ plain_later a b
-later_uncapped m n Never b ha hb h = refl
-later_uncapped m n (At a) Never ha hb h = refl
-later_uncapped m n (At a) (At b) ha hb h = later_plain a b (omega arith)
+later_uncapped m n None b ha hb h = refl
+later_uncapped m n (Some a) None ha hb h = refl
+later_uncapped m n (Some a) (Some b) ha hb h = later_plain a b (omega arith)
 
 -- the sums of the start rule for a periodic process, delay n
 module _ (c : Context) (p : Partition) (k : SoundContext c p) (x : Process) (l : LastingIn c.frame x) (n : ℕ) (short : n ≤ duration_limit) where
   cap : NotAfter duration_limit x.given.capacity
   cap = capacity_bound x.given.period x.given.capacity l.given.capacity
 
-  pub release_point_plain : later (At c.release) (At n) ≡ At (c.release + n)
+  pub release_point_plain : later (Some c.release) (Some n) ≡ Some (c.release + n)
   release_point_plain = later_plain c.release n (omega (arith, k.time, k.near, k.frame.1))
 
-  pub release_deadline_plain : later (later (At c.release) (At n)) x.given.capacity ≡ plain_later (At (c.release + n)) x.given.capacity
-  release_deadline_plain = ap (λ at. later at x.given.capacity) release_point_plain ∙ later_uncapped (c.release + n) duration_limit (At (c.release + n)) x.given.capacity (omega arith) cap (omega (arith, k.time, k.near, k.frame.1))
+  pub release_deadline_plain : later (later (Some c.release) (Some n)) x.given.capacity ≡ plain_later (Some (c.release + n)) x.given.capacity
+  release_deadline_plain = ap (λ at. later at x.given.capacity) release_point_plain ∙ later_uncapped (c.release + n) duration_limit (Some (c.release + n)) x.given.capacity (omega arith) cap (omega (arith, k.time, k.near, k.frame.1))
 
 -- PERIODIC_WAIT of a READY process
 module _ (s : Setting) (x : Process) (h : SoundProcess s x) (normal : s.normal ≡ true) (k : ready x ≡ true) (ends : s.time ≤ time_limit) (p : periodic x ≡ true) where
@@ -397,7 +397,7 @@ table_plain T s t ends = record {
   starts = λ u f. rw (frame_some T s);
   count = rw (le-leb T.size partition_limit s.size.1);
   queuing = queuing_plain T s;
-  channels = s.channelCount;
+  channels = s.channel_count;
   flagged = s.flagged;
   release = release_plain T s t ends;
 }
@@ -442,7 +442,7 @@ event_partition m r = either (malformed m.table r)
     (λ e. inr (in_limits 0 m.table.size r.partition (not-false _ (or_left (not (between 0 m.table.size r.partition)) _ (or_right (eqb m.table.size 0) _ e)))).1)
 
 -- a tick of each partition finds its processes in their places
-ticks_in_place : (m : Module) → SoundModule m → (i : ℕ) → i < m.table.size → (part m i).processCount ≤ length (part m i).processes
+ticks_in_place : (m : Module) → SoundModule m → (i : ℕ) → i < m.table.size → (part m i).process_count ≤ length (part m i).processes
 ticks_in_place m s i h = let n = (s.each_partition i h).lists.numbered in omega (arith, n.few, n.size)
 
 module _ (m : Module) (s : SoundModule m) (e : EventT) where
@@ -476,9 +476,9 @@ module _ (m : Module) (s : SoundModule m) (e : EventT) where
     uncapped = λ i h. numbers_plain after.table.frame after.t (part after i) (after_sound.each_partition i (rw (decided_table m (number_of r.partition) (decision m r)) h)) after_sound.time;
   }
 
-pub empty_refused : (e : EventT) → step empty_module e ≡ record { state = empty_module; answer = record { code = 13; value = 0; extra = At 0; t = 0; current = 0; running = 0 } }
+pub empty_refused : (e : EventT) → step empty_module e ≡ record { state = empty_module; answer = record { code = 13; value = 0; extra = Some 0; t = 0; current = 0; running = 0 } }
 unfolding step decision checked empty_module empty_table lookup
-empty_refused e = by_test (λ (n : ℕ). ◌≡◌ {A = Stepped} (record { state = empty_module; answer = record { code = 13; value = 0; extra = At 0; t = 0; current = 0; running = n } }) (record { state = empty_module; answer = record { code = 13; value = 0; extra = At 0; t = 0; current = 0; running = 0 } })) (sees (request_of e) 0) (λ _. refl) (λ _. refl)
+empty_refused e = by_test (λ (n : ℕ). ◌≡◌ {A = Stepped} (record { state = empty_module; answer = record { code = 13; value = 0; extra = Some 0; t = 0; current = 0; running = n } }) (record { state = empty_module; answer = record { code = 13; value = 0; extra = Some 0; t = 0; current = 0; running = 0 } })) (sees (request_of e) 0) (λ _. refl) (λ _. refl)
 
 -- Law. At every event of every reached record no bound acts; the empty record apart, which answers 13 and stays.
 pub no_bound_acts : (m : Module) → Reached m → (e : EventT) → EmptyStays m e ⊎ NoBoundActs m e

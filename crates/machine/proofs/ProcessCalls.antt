@@ -66,12 +66,12 @@ unfolding services create_process Passed
 create_process_holds = laws (λ _ _ _ _ _ _. refl) λ c x r p. checks _ _ refl (λ h. record {
   codes = (refl, refl);
   sound = λ _ _ _.
-      let room = leb-false process_limit p.processCount h.0 in
+      let room = leb-false process_limit p.process_count h.0 in
       (record { room = room; next = refl; given = admitted c r (not-false _ h.1.1.0); dormant = refl }, tt, omega arith);
   order = (tt, tt);
   fair = λ v k. one_process c p v k x 2 (Created _ _) tt;
   calm = λ _ _ _ _ _. (tt, tt);
-  stores = λ v. ((refl, free_name (λ (x : Process). x.given.name) blank_process process_limit p.processCount p.processes v.lists.numbered r.a h.1.0 (and_left (is_name r.a) _ (not-false _ h.1.1.0))), tt);
+  stores = λ v. ((refl, free_name (λ (x : Process). x.given.name) blank_process process_limit p.process_count p.processes v.lists.numbered r.a h.1.0 (and_left (is_name r.a) _ (not-false _ h.1.1.0))), tt);
   acts = λ _. (refl, tt, refl, refl, (refl, refl));
 })
 
@@ -80,7 +80,7 @@ started : (n : ℕ) → (n ≡ 3) ⊎ (n ≡ 4) → eqb n 9 ≡ false → eqb n 
 unfolding start Passed
 started n is nine twelve c x r p delay = checks _ _ refl (λ h.
     let id = number_of r.a in
-    let b = known_id id p.processCount h.0 in
+    let b = known_id id p.process_count h.0 in
     let y = process id p in
     let off : y.started ≡ false = not-true _ (not-false _ h.1.1.0) in
     record {
@@ -127,7 +127,7 @@ pub stop_call : Laws 5
 unfolding services stop Passed
 stop_call = laws (λ _ _ _ _ _ _. refl) λ c x r p. checks _ _ refl (λ h.
     let id = number_of r.a in
-    let b = known_id id p.processCount h.0 in
+    let b = known_id id p.process_count h.0 in
     record {
       codes = (refl, refl);
       sound = λ v k _. ((b, stopped_sound _ (process id p) (v.each_process id b), not_caller c p v k id _ h.1.0), tt, omega arith);
@@ -161,7 +161,7 @@ suspend_call = laws (λ _ _ _ _ _ _. refl) λ c x r p. checks _ _ refl (λ h.
     record {
       codes = (refl, refl);
       sound = λ v k _.
-          let b = known_id id p.processCount h.0 in
+          let b = known_id id p.process_count h.0 in
           let f = fit c p v k id h.1.1.0 in
           ((b, suspended_sound _ (process id p) (v.each_process id b) f.0 f.1, not_caller c p v k id _ h.1.0), tt, omega arith);
       order = (inr refl, tt);
@@ -242,7 +242,7 @@ resume_call = laws (λ _ _ _ _ _ _. refl) λ c x r p. checks _ _ refl (λ h.
     record {
       codes = (refl, refl);
       sound = λ v k _.
-          let b = known_id id p.processCount h.0 in
+          let b = known_id id p.process_count h.0 in
           ((b, resumed_sound _ y (v.each_process id b) (fit c p v k id h.1.1.0).0, not_caller c p v k id _ h.1.0), tt, omega arith);
       order = (by_test (KeepsOrEnds y) (waits_for_nothing y.wait) (λ _. inl refl) (λ _. inr refl), tt);
       fair = λ v k. one_process c p v k x 11 (Stored id _) tt;
@@ -260,7 +260,7 @@ pub set_priority_holds : Laws 12
 unfolding services set_priority Passed
 set_priority_holds = laws (λ _ _ _ _ _ _. refl) λ c x r p. checks _ _ refl (λ h.
     let id = number_of r.a in
-    let b = known_id id p.processCount h.0 in
+    let b = known_id id p.process_count h.0 in
     let y = process id p in
     let q = with_current (number_of r.b) y in
     record {
@@ -281,5 +281,5 @@ pub get_status_holds : Laws 13
 unfolding services get_status Passed
 get_status_holds = laws (λ _ _ _ _ _ _. refl) λ c x r p. checks _ _ refl (λ h. let id = number_of r.a in answers refl (λ v k _. (
   omega (arith, status_small c id (process id p)),
-  more_room latest_deadline number_limit (process id p).times.deadline (omega arith) (times_bounded _ (process id p) (v.each_process id (known_id id p.processCount h.0)) k.time).deadline,
+  more_room latest_deadline number_limit (process id p).times.deadline (omega arith) (times_bounded _ (process id p) (v.each_process id (known_id id p.process_count h.0)) k.time).deadline,
 )))

@@ -12,9 +12,9 @@ use Rattle.machine.specs.declared.Process.{Process}
 use Rattle.machine.specs.declared.Partition.{Partition}
 use Rattle.machine.specs.declared.Event.{Event as EventT}
 use Rattle.machine.specs.declared.Module.{Module}
-use Rattle.machine.specs.declared.Wait.TheVariants.{None, Delay, Period}
+use Rattle.machine.specs.declared.Wait.TheVariants.{None as NoWait, Delay, Period}
 use Rattle.machine.specs.declared.Field.TheVariants.{Number}
-use Rattle.machine.specs.declared.Time.TheVariants.{Never}
+use Rattle.std.specs.Prelude.{None}
 use Rattle.machine.specs.Process.{ready, object, waits_for_nothing}
 use Rattle.machine.specs.Partition.{normal_mode, tick_partition, process, running, waiters, waits_on, stored}
 use Rattle.machine.specs.Module.{current}
@@ -80,7 +80,7 @@ module _ (m : Module) (h : Reached m) (e : EventT) (low : (step m e).answer.code
 
 -- ---------------------------------------------------------------- SUSPEND and RESUME
 -- a call after which process id has the record x, with the wait that it had
-module _ (m : Module) (k id : ℕ) (c : Calling m k) (e : EventT) (b : Between 1 (own m k).processCount id) (x : Process) (same : x.wait ≡ (process id (own m k)).wait) (g : Puts m e 0 0 k (plain_stored id x (own m k))) where
+module _ (m : Module) (k id : ℕ) (c : Calling m k) (e : EventT) (b : Between 1 (own m k).process_count id) (x : Process) (same : x.wait ≡ (process id (own m k)).wait) (g : Puts m e 0 0 k (plain_stored id x (own m k))) where
   abbrev p : Partition
   p = own m k
 
@@ -99,7 +99,7 @@ module _ (m : Module) (k id : ℕ) (c : Calling m k) (e : EventT) (b : Between 1
       ap (waiters o) after_is ∙ stored_queue p lists id b x o some (inr (inr (ap object same)))
       ∙ ap (λ n. followed (waits_on o p id) (eqb n o) id (waiters o p)) (ap object same) ∙ followed_same (waits_on o p id) id (waiters o p)
 
-  stays : ((x.wait ≡ None → ⊥) → x.times.wake ≡ (process id p).times.wake) → x.times.release ≡ (process id p).times.release → x.times.deadline ≡ (process id p).times.deadline
+  stays : ((x.wait ≡ NoWait → ⊥) → x.times.wake ≡ (process id p).times.wake) → x.times.release ≡ (process id p).times.release → x.times.deadline ≡ (process id p).times.deadline
       → WaitStays p (own (step m e).state k) (process id p) (process id (own (step m e).state k))
   stays w r d = record {
     wait = ap (λ (y : Process). y.wait) process_is ∙ same;
@@ -121,29 +121,29 @@ module _ (m : Module) (h : Reached m) (k id : ℕ) where
         let c = comes m h e (omega arith) k 7 refl refl (λ n. omega arith) in
         let y : Process = with true x.times.wake x.code x.wait x in
         let g = passed_checks m e _ _ refl z ((each_call m k c).suspend (pos id)) in
-        let b = in_limits 1 (own m k).processCount (Number id) (not-false _ g.0.0) in
+        let b = in_limits 1 (own m k).process_count (Number id) (not-false _ g.0.0) in
         let is = process_is m k id c e b y refl g.1 in
         (stays m k id c e b y refl g.1 (λ _. refl) refl refl, ap (λ (y : Process). y.suspended) is, ap ready is ∙ and-false x.started);
     resume = λ z.
         let e = call_by k 11 (pos id) (pos 0) (pos 0) (pos 0) in
         let c = comes m h e (omega arith) k 11 refl refl (λ n. omega arith) in
         let g = passed_checks m e _ _ refl z ((each_call m k c).resume (pos id)) in
-        let b = in_limits 1 (own m k).processCount (Number id) (not-false _ g.0.0) in
+        let b = in_limits 1 (own m k).process_count (Number id) (not-false _ g.0.0) in
         either (waits_for_nothing x.wait)
         (λ t.
         let none = for_none x.wait t in
-        let y : Process = with false Never 0 None x in
+        let y : Process = with false None 0 NoWait x in
         let is = process_is m k id c e b y (sym none) (g.1.0 none) in
         (stays m k id c e b y (sym none) (g.1.0 none) (λ some. absurd (some refl)) refl refl, ap (λ (y : Process). y.suspended) is, λ _. (ap ready is ∙ rw (not-false x.started (or_left (not x.started) _ g.0.1.1.0)), ap (λ (y : Process). y.times.wake) is), λ some. absurd (some none)))
         (λ t.
-        let some : x.wait ≡ None → ⊥ = λ z. not_both _ (rw z) t in
+        let some : x.wait ≡ NoWait → ⊥ = λ z. not_both _ (rw z) t in
         let y : Process = with false x.times.wake x.code x.wait x in
         let is = process_is m k id c e b y refl (g.1.1 some) in
         (stays m k id c e b y refl (g.1.1 some) (λ _. refl) refl refl, ap (λ (y : Process). y.suspended) is, λ z. absurd (some z), λ _. ap ready is ∙ rw (t, and-false x.started)));
   }
 
 -- ---------------------------------------------------------------- which changes there are
-module _ (m : Module) (e : EventT) (code k id : ℕ) (asleep : (process id (own m k)).started ≡ false → ((process id (own m k)).wait ≡ None) × ((process id (own m k)).suspended ≡ false)) where
+module _ (m : Module) (e : EventT) (code k id : ℕ) (asleep : (process id (own m k)).started ≡ false → ((process id (own m k)).wait ≡ NoWait) × ((process id (own m k)).suspended ≡ false)) where
   abbrev before : Process
   before = process id (own m k)
 
@@ -155,16 +155,16 @@ module _ (m : Module) (e : EventT) (code k id : ℕ) (asleep : (process id (own 
 
   abbrev Waiting : Process → Type 0
   Waiting y =
-      (before.wait ≡ None → (y.wait ≡ None → ⊥) → StartOf m e code k id ⊎ OwnWait m e code k id y.wait)
-      × ((before.wait ≡ None → ⊥) → y.wait ≡ None
+      (before.wait ≡ NoWait → (y.wait ≡ NoWait → ⊥) → StartOf m e code k id ⊎ OwnWait m e code k id y.wait)
+      × ((before.wait ≡ NoWait → ⊥) → y.wait ≡ NoWait
       → (Tick m e code k id × (come (m.t + 1) before.times.wake ≡ true)) ⊎ (StopOf m e code k id ⊎ (Erasure m e code k id ⊎ (Service m e code k id ⊎ Entry m e code k id))))
-      × ((before.wait ≡ None → ⊥) → (y.wait ≡ None → ⊥) → (y.wait ≡ before.wait → ⊥) → Entry m e code k id × ((y.wait ≡ Delay) ⊎ (y.wait ≡ Period)))
+      × ((before.wait ≡ NoWait → ⊥) → (y.wait ≡ NoWait → ⊥) → (y.wait ≡ before.wait → ⊥) → Entry m e code k id × ((y.wait ≡ Delay) ⊎ (y.wait ≡ Period)))
 
   abbrev Marking : Process → Type 0
   Marking y =
       (before.suspended ≡ false → y.suspended ≡ true → CallOf m e code k id 7 ⊎ CallBy m e code k id 8 7)
       × (before.suspended ≡ true → y.suspended ≡ false
-      → CallOf m e code k id 11 ⊎ ((Tick m e code k id × (come (m.t + 1) before.times.wake ≡ true) × (before.wait ≡ None)) ⊎ (StopOf m e code k id ⊎ Erasure m e code k id)))
+      → CallOf m e code k id 11 ⊎ ((Tick m e code k id × (come (m.t + 1) before.times.wake ≡ true) × (before.wait ≡ NoWait)) ⊎ (StopOf m e code k id ⊎ Erasure m e code k id)))
 
   abbrev Missing : Process → Type 0
   Missing y = before.missed ≡ false → y.missed ≡ true → Tick m e code k id × (come (m.t + 1) before.times.deadline ≡ true)
@@ -228,10 +228,10 @@ module _ (m : Module) (e : EventT) (code k id : ℕ) (asleep : (process id (own 
       (λ _ b. absurd (b (same_wait is)), λ _ _. inr (inr (inr (inl c))), λ _ b _. absurd (b (same_wait is)))
       (marking y (same_mark is)) (missing y (same_missed is))
   changes_by y (Becomes.entered c is wait) =
-      let waits : before.wait ≡ None → ⊥ = λ z. not_both _ (ap waits_for_nothing z) (ap waits_for_nothing c.waits) in
+      let waits : before.wait ≡ NoWait → ⊥ = λ z. not_both _ (ap waits_for_nothing z) (ap waits_for_nothing c.waits) in
       altogether y
       (λ _ f. not_both _ (same_started is) f, λ off _. absurd (waits (asleep off).0))
-      (λ a _. absurd (waits a), λ _ _. inr (inr (inr (inr c))), λ _ b _. (c, either (periodic_at before.given.period) (λ p. inr (rw p at wait)) (λ p. ⊎_elim (λ (z : y.wait ≡ None). absurd (b z)) (λ (z : y.wait ≡ Delay). inl z) (rw p at wait))))
+      (λ a _. absurd (waits a), λ _ _. inr (inr (inr (inr c))), λ _ b _. (c, either (periodic_at before.given.period) (λ p. inr (rw p at wait)) (λ p. ⊎_elim (λ (z : y.wait ≡ NoWait). absurd (b z)) (λ (z : y.wait ≡ Delay). inl z) (rw p at wait))))
       (marking y (same_mark is)) (missing_none y (same_missed is))
   changes_by y (Becomes.erased c is) = altogether y
       (λ _ _. inr c, λ _ on. not_both _ on (same_started is))
@@ -240,9 +240,9 @@ module _ (m : Module) (e : EventT) (code k id : ℕ) (asleep : (process id (own 
       (missing_none y (same_missed is))
 
 -- one that is DORMANT has neither a wait nor the mark
-asleep_in : (frame t : ℕ) (p : Partition) → Valid frame t p → (id : ℕ) → (process id p).started ≡ false → ((process id p).wait ≡ None) × ((process id p).suspended ≡ false)
-asleep_in frame t p v id off = either (contains id (ids_from p.processCount 1))
-    (λ c. let b = from_range p.processCount 1 id c in let d = (v.each_process id (b.0, omega arith)).dormant off in (d.wait, d.unmarked))
+asleep_in : (frame t : ℕ) (p : Partition) → Valid frame t p → (id : ℕ) → (process id p).started ≡ false → ((process id p).wait ≡ NoWait) × ((process id p).suspended ≡ false)
+asleep_in frame t p v id off = either (contains id (ids_from p.process_count 1))
+    (λ c. let b = from_range p.process_count 1 id c in let d = (v.each_process id (b.0, omega arith)).dormant off in (d.wait, d.unmarked))
     (λ c. let z = not_created p v.lists id c in (same_wait z, same_mark z))
 
 -- ---------------------------------------------------------------- a tick

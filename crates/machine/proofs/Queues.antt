@@ -18,7 +18,7 @@ use Rattle.machine.specs.declared.Decision.TheVariants.{Refused, Unchanged, Tick
 use Rattle.machine.specs.declared.Semaphore.{Semaphore as SemaphoreT}
 use Rattle.machine.specs.declared.EventState.{EventState}
 use Rattle.machine.specs.declared.Wait.TheVariants.{Semaphore, Event, Source}
-use Rattle.machine.specs.declared.Time.TheVariants.{At}
+use Rattle.std.specs.Prelude.{Some}
 use Rattle.machine.specs.declared.Field.TheVariants.{Number}
 use Rattle.machine.specs.declared.Request.{Request}
 use Rattle.machine.specs.declared.Event.{Event as EventT}
@@ -117,7 +117,7 @@ module _ (m : Module) (s : SoundModule m) (o : ℕ) (some : o ≡ 0 → ⊥) whe
     now_valid = s.each_partition (k - 1) here
 
     -- the caller begins to wait, the other partitions stay
-    blocks_follow : (id : ℕ) (x : Process) → Between 1 now.processCount id → id ≡ running now → ready (process id now) ≡ true → (i : ℕ) → i < m.table.size → Follows 7 k i (get_or (set m.partitions (k - 1) (stored id x now)) i no_partition)
+    blocks_follow : (id : ℕ) (x : Process) → Between 1 now.process_count id → id ≡ running now → ready (process id now) ≡ true → (i : ℕ) → i < m.table.size → Follows 7 k i (get_or (set m.partitions (k - 1) (stored id x now)) i no_partition)
     blocks_follow id x b is h i l =
         let v = now_valid.lists in
         let q = stored id x now in
@@ -206,7 +206,7 @@ abbrev pub becomes_ready : Partition → Partition → ℕ → Bool
 becomes_ready p q y = ready_in q y && not (ready_in p y)
 
 -- each process once: who stays READY keeps its place, and who becomes so joins in the order of the changes
-pub arrive_all : (f : Process → Process) (l : List ℕ) (p : Partition) → ListedIn p → AllCreated l p.processCount → Distinct l
+pub arrive_all : (f : Process → Process) (l : List ℕ) (p : Partition) → ListedIn p → AllCreated l p.process_count → Distinct l
     → let q = changed_all f l p in members q.arrival ≡ kept (ready_in q) (members p.arrival) ++ kept (becomes_ready p q) l
 unfolding changed_all contains Distinct kept
 arrive_all f [] p v all dis = sym (append-nil _ ∙ kept_all (ready_in p) (members p.arrival) (λ y c. sym (v.arrivals.exact y) ∙ c))
@@ -215,7 +215,7 @@ arrive_all f (id ∷ l) p v all dis =
     let b = all id (rw (eq-eqb id id refl)) in
     let p₁ = stored id x p in
     let v₁ = stored_listed p id x v b in
-    let all₁ : AllCreated l p₁.processCount = λ y c. rw (rest_count p _ (stored_rest p id x)) (all y (rw c (or-true (eqb id y)))) in
+    let all₁ : AllCreated l p₁.process_count = λ y c. rw (rest_count p _ (stored_rest p id x)) (all y (rw c (or-true (eqb id y)))) in
     let q = changed_all f l p₁ in
     let apart : (y : ℕ) → contains y l ≡ true → y ≡ id → ⊥ = λ y c e. not_both _ (rw e at c) dis.0 in
     let is : process id q ≡ x = changed_process f l p₁ v₁ all₁ dis.1 id ∙ rw dis.0 (process_stored p id x v b) in
@@ -234,7 +234,7 @@ arrive_all f (id ∷ l) p v all dis =
     go q false false was now a k = rw now
 
 -- none of them READY before: those READY then join, and the others stay
-pub all_arrive : (f : Process → Process) (l : List ℕ) (p : Partition) → ListedIn p → AllCreated l p.processCount → Distinct l → ((y : ℕ) → contains y l ≡ true → ready (process y p) ≡ false)
+pub all_arrive : (f : Process → Process) (l : List ℕ) (p : Partition) → ListedIn p → AllCreated l p.process_count → Distinct l → ((y : ℕ) → contains y l ≡ true → ready (process y p) ≡ false)
     → members (changed_all f l p).arrival ≡ members p.arrival ++ kept (λ y. ready (f (process y p))) l
 all_arrive f l p v all dis none =
     let q = changed_all f l p in
@@ -253,7 +253,7 @@ module _ (o : ℕ) (some : o ≡ 0 → ⊥) (p : Partition) (v : ListedIn p) (id
   unfolding contains
   first_in = rw (e, eq-eqb id id refl)
 
-  pub first_created : Between 1 p.processCount id
+  pub first_created : Between 1 p.process_count id
   first_created = waiters_created p v o id first_in
 
   pub others_apart : (y : ℕ) → contains y rest ≡ true → y ≡ id → ⊥
@@ -329,11 +329,11 @@ module _ (m : Module) (k : ℕ) (u : SoundModule m) (h : Calling m k) where
 
   -- a call that stores q: the first of queue o served, in a record r that differs from the caller's in no process
   pub first_served_by : (o : ℕ) (some : o ≡ 0 → ⊥) (r : Partition) → ListedIn r → ((y : ℕ) → process y r ≡ process y p) → (f : Process → Process) → Ends f
-      → (id : ℕ) (rest : List ℕ) → waiters o r ≡ id ∷ rest → (value : ℕ) (event : EventT) → Gives m event 0 value (At 0) (with_part (k - 1) (stored id (f (process id p)) r) m) → FirstServed m k event o id rest (f (process id p)).message
+      → (id : ℕ) (rest : List ℕ) → waiters o r ≡ id ∷ rest → (value : ℕ) (event : EventT) → Gives m event 0 value (Some 0) (with_part (k - 1) (stored id (f (process id p)) r) m) → FirstServed m k event o id rest (f (process id p)).message
   first_served_by o some r v same f ends id rest e value event g = served_in m k o some r v same f ends id rest e event g.code_is (own_after m k u h (stored id (f (process id p)) r) g)
 
   -- a call that stores q, which has all processes of the caller's record
-  pub none_served : (o value : ℕ) (event : EventT) (q : Partition) → Gives m event 0 value (At 0) (with_part (k - 1) q m) → waiters o q ≡ [] → q.processes ≡ p.processes → NoneServed m k event o
+  pub none_served : (o value : ℕ) (event : EventT) (q : Partition) → Gives m event 0 value (Some 0) (with_part (k - 1) q m) → waiters o q ≡ [] → q.processes ≡ p.processes → NoneServed m k event o
   none_served o value event q g e f = record {
     code = g.code_is;
     queue = rw (own_after m k u h q g) e;
@@ -341,7 +341,7 @@ module _ (m : Module) (k : ℕ) (u : SoundModule m) (h : Calling m k) where
   }
 
   -- SIGNAL
-  module _ (j : ℕ) (b : Between 1 p.semaphoreCount j) (below : (semaphore j p).value ≡ (semaphore j p).max → ⊥) where
+  module _ (j : ℕ) (b : Between 1 p.semaphore_count j) (below : (semaphore j p).value ≡ (semaphore j p).max → ⊥) where
     abbrev o : ℕ
     o = object (Semaphore j)
 
@@ -351,11 +351,11 @@ module _ (m : Module) (k : ℕ) (u : SoundModule m) (h : Calling m k) where
     abbrev signals : EventT
     signals = call_by k 16 (pos j) (pos 0) (pos 0) (pos 0)
 
-    signal_gives : (l : List ℕ) → waiters o p ≡ l → Gives m signals 0 0 (At 0) (with_part (k - 1) (applied (signalled l j p) p) m)
+    signal_gives : (l : List ℕ) → waiters o p ≡ l → Gives m signals 0 0 (Some 0) (with_part (k - 1) (applied (signalled l j p) p) m)
     unfolding call_decision services stray_field signal checked
     signal_gives l e =
         let f : field (pos j) ≡ Number j = field_number j (omega (arith, b.1, valid.objects.semaphores.numbered.few)) in
-        gives m k u h 16 (pos j) (pos 0) (pos 0) (pos 0) (omega arith) (omega arith) refl (changed (signalled l j p)) (rw (f, known m k u h j p.semaphoreCount b, ne_eqb _ _ below, e))
+        gives m k u h 16 (pos j) (pos 0) (pos 0) (pos 0) (omega arith) (omega arith) refl (changed (signalled l j p)) (rw (f, known m k u h j p.semaphore_count b, ne_eqb _ _ below, e))
 
     pub signal_first_holds : (id : ℕ) (rest : List ℕ) → waiters o p ≡ id ∷ rest → FirstServed m k signals o id rest (has m k id) × SameObjects p (own (step m signals).state k)
     unfolding signalled
@@ -385,7 +385,7 @@ module _ (m : Module) (k : ℕ) (u : SoundModule m) (h : Calling m k) where
     abbrev done : Partition
     done = changed_all f (waiters o r) r
 
-    pub all_served_by : (event : EventT) → Gives m event 0 0 (At 0) (with_part (k - 1) done m) → AllServed m k event o (λ id. (f (process id p)).message)
+    pub all_served_by : (event : EventT) → Gives m event 0 0 (Some 0) (with_part (k - 1) done m) → AllServed m k event o (λ id. (f (process id p)).message)
     all_served_by event gives =
         let is : (y : ℕ) → process y done ≡ cond (contains y (waiters o p)) (f (process y p)) (process y p) = λ y. ended_process r v o some f off o y ∙ rw (queue, same y) in
         let g = own_after m k u h done gives in
@@ -398,7 +398,7 @@ module _ (m : Module) (k : ℕ) (u : SoundModule m) (h : Calling m k) where
         }
 
   -- SET_EVENT
-  module _ (j : ℕ) (b : Between 1 p.eventCount j) where
+  module _ (j : ℕ) (b : Between 1 p.event_count j) where
     abbrev sets : EventT
     sets = call_by k 18 (pos j) (pos 0) (pos 0) (pos 0)
 
@@ -409,7 +409,7 @@ module _ (m : Module) (k : ℕ) (u : SoundModule m) (h : Calling m k) where
     abbrev up : Partition
     up = stored_event j state p
 
-    up_is : up ≡ with_events (set p.events (j - 1) state) (max p.eventCount j) p
+    up_is : up ≡ with_events (set p.events (j - 1) state) (max p.event_count j) p
     up_is = event_in j state p (within_in event_limit j b.0 (omega (arith, b.1, valid.objects.events.numbered.few)))
 
     abbrev waits_on_holds : ℕ
@@ -418,11 +418,11 @@ module _ (m : Module) (k : ℕ) (u : SoundModule m) (h : Calling m k) where
     abbrev after_all : Partition
     after_all = changed_all served (waiters waits_on_holds up) up
 
-    set_gives : Gives m sets 0 0 (At 0) (with_part (k - 1) after_all m)
+    set_gives : Gives m sets 0 0 (Some 0) (with_part (k - 1) after_all m)
     unfolding call_decision services stray_field set_event checked
     set_gives =
         let f : field (pos j) ≡ Number j = field_number j (omega (arith, b.1, valid.objects.events.numbered.few)) in
-        gives m k u h 18 (pos j) (pos 0) (pos 0) (pos 0) (omega arith) (omega arith) refl (Changed (with_up j true p) (Ended waits_on_holds) 0) (rw (f, known m k u h j p.eventCount b))
+        gives m k u h 18 (pos j) (pos 0) (pos 0) (pos 0) (omega arith) (omega arith) refl (Changed (with_up j true p) (Ended waits_on_holds) 0) (rw (f, known m k u h j p.event_count b))
 
     set_up : (event j after_all).up ≡ true
     set_up =

@@ -20,7 +20,7 @@ pub stored_same : (id : ℕ) (p : Partition) → stored id (process id p) p ≡ 
 unfolding stored
 stored_same id p = go (within process_limit id)
   where
-    go : (b : Bool) → cond b (with_processes (replaced process_limit id (process id p) p.processes) p.processCount (follow (ready (process id p)) (ready (process id p)) id p.arrival) (follow (on_object (process id p)) (on_object (process id p)) id p.waiting) p) p ≡ p
+    go : (b : Bool) → cond b (with_processes (replaced process_limit id (process id p) p.processes) p.process_count (follow (ready (process id p)) (ready (process id p)) id p.arrival) (follow (on_object (process id p)) (on_object (process id p)) id p.waiting) p) p ≡ p
     go true = rw (replaced_same process_limit id blank_process p.processes, follow_same (ready (process id p)) id p.arrival, follow_same (on_object (process id p)) id p.waiting)
     go false = refl
 

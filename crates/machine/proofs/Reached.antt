@@ -168,7 +168,7 @@ erased_sound k (suc n) m h s =
     (λ _. e)
 
 -- a channel of a sound table is queuing by its size alone
-pub queuing_plain : (T : Table) → SoundTable T → (i : ℕ) → i < T.channelCount → queuing (channel T i) ≡ ltb 0 (channel T i).size
+pub queuing_plain : (T : Table) → SoundTable T → (i : ℕ) → i < T.channel_count → queuing (channel T i) ≡ ltb 0 (channel T i).size
 queuing_plain T s i l =
     let c = s.each_channel i l in
     rw (within_in partition_limit (channel T i).source c.source.0 (omega (arith, c.source.1, s.size.1)), within_in partition_limit (channel T i).destination c.destination.0 (omega (arith, c.destination.1, s.size.1)), and-true (ltb 0 (channel T i).size))
@@ -179,7 +179,7 @@ unfolding refilled_to
 refilled_table k zero m = refl
 refilled_table k (suc n) m = by_test (λ (x : Module). x.table ≡ m.table) (queuing_at (refilled_to k n m).table n && leads_into k (channel (refilled_to k n m).table n)) (λ _. refilled_table k n m) (λ _. refilled_table k n m)
 
-pub refilled_at_sound : (i : ℕ) (m : Module) → SoundModule m → i < m.table.channelCount → SoundModule (refilled_at i m)
+pub refilled_at_sound : (i : ℕ) (m : Module) → SoundModule m → i < m.table.channel_count → SoundModule (refilled_at i m)
 refilled_at_sound i m s l =
     let c = channel m.table i in
     let j = c.source - 1 in
@@ -189,7 +189,7 @@ refilled_at_sound i m s l =
     let o = object (Source (i + 1) 0) in
     let v = s.each_partition j here in
     part_sound (with_queue i (queue_of (map (λ id. carried (process id p)) (admitted i c p))) m)
-    (queue_stored m s i (omega (arith, l, s.table.channelCount)) _ (let_in_queue m.table.frame m.t p v o c.size))
+    (queue_stored m s i (omega (arith, l, s.table.channel_count)) _ (let_in_queue m.table.frame m.t p v o c.size))
     j here _ (let_in_valid m.table.frame m.t p v o c.size)
 
 pub refilled_sound : (k n : ℕ) (m : Module) → SoundModule m → SoundModule (refilled_to k n m)
@@ -199,12 +199,12 @@ refilled_sound k (suc n) m s =
     let u = refilled_to k n m in
     let e = refilled_sound k n m s in
     by_test SoundModule (queuing_at u.table n && leads_into k (channel u.table n))
-    (λ t. refilled_at_sound n u e (ltb-true n u.table.channelCount (and_left (ltb n u.table.channelCount) _ (and_left (queuing_at u.table n) _ t))))
+    (λ t. refilled_at_sound n u e (ltb-true n u.table.channel_count (and_left (ltb n u.table.channel_count) _ (and_left (queuing_at u.table n) _ t))))
     (λ _. e)
 
 -- a queue that a restart of partition k fills anew
 pub record Fills (m : Module) (k i : ℕ) : Type 0 where
-  pub there : i < m.table.channelCount
+  pub there : i < m.table.channel_count
   pub few : i < channel_limit
   pub kind : queuing (channel m.table i) ≡ true
   pub into : (channel m.table i).destination ≡ k
@@ -213,8 +213,8 @@ pub fills : (m : Module) → SoundModule m → (k i : ℕ) (T : Table) → T ≡
 fills m s k i T e t =
     let w : (queuing_at m.table i && leads_into k (channel m.table i)) ≡ true = ap (λ (U : Table). queuing_at U i && leads_into k (channel U i)) (sym e) ∙ t in
     let g = and_left (queuing_at m.table i) _ w in
-    let l = ltb-true i m.table.channelCount (and_left (ltb i m.table.channelCount) _ g) in
-    record { there = l; few = omega (arith, s.table.channelCount); kind = and_right (ltb i m.table.channelCount) _ g; into = eqb-true _ k (and_right (queuing_at m.table i) _ w) }
+    let l = ltb-true i m.table.channel_count (and_left (ltb i m.table.channel_count) _ g) in
+    record { there = l; few = omega (arith, s.table.channel_count); kind = and_right (ltb i m.table.channel_count) _ g; into = eqb-true _ k (and_right (queuing_at m.table i) _ w) }
 
 -- what letting in the first who wait at the source of such a channel keeps of each partition, filling queues anew keeps
 pub refilled_keeps : (P : ℕ → Partition → Type 0) (k : ℕ) (m : Module) → SoundModule m → (n : ℕ)
@@ -242,7 +242,7 @@ refilled_keeps P k m s (suc n) lets h i l =
     (λ _. ih i l)
 
 -- a transfer, where it may be made
-pub passed_sound : (m : Module) → SoundModule m → (k i : ℕ) (a : Transfer) → i < m.table.channelCount
+pub passed_sound : (m : Module) → SoundModule m → (k i : ℕ) (a : Transfer) → i < m.table.channel_count
     → SoundMove (channel m.table i).size (queue m i) a → SoundEnd (part m (other_end k (channel m.table i) - 1)) a → SoundModule (passed k i a m)
 passed_sound m s k i a l h e =
     let c = channel m.table i in
@@ -250,7 +250,7 @@ passed_sound m s k i a l h e =
     let g = s.table.each_channel i l in
     let few : c.size ≤ message_limit = omega (arith, g.room) in
     let u = with_queue i (moved a (queue m i)) m in
-    let w = queue_stored m s i (omega (arith, l, s.table.channelCount)) (moved a (queue m i)) (moved_sound c.size (queue m i) (s.each_queue i) few a h) in
+    let w = queue_stored m s i (omega (arith, l, s.table.channel_count)) (moved a (queue m i)) (moved_sound c.size (queue m i) (s.each_queue i) few a h) in
     let end : Between 1 m.table.size (other_end k c) = by_test (Between 1 m.table.size) (eqb c.source k) (λ _. g.destination) (λ _. g.source) in
     let here : j < m.table.size = omega (arith, end.0, end.1) in
     by_test SoundModule (ends_wait a)
@@ -267,7 +267,7 @@ seen_sound m s k i = by_test (SoundMessage m.t) (eqb (channel m.table i).destina
 
 -- channel number i + 1, on which partition k makes a transfer: it is a queuing one of the table, k is at one of its ends, and its traffic is seen
 pub record Channelled (m : Module) (k i : ℕ) (x : Port) : Type 0 where
-  pub there : i < m.table.channelCount
+  pub there : i < m.table.channel_count
   pub is : x.channel ≡ channel m.table i
   pub kind : queuing (channel m.table i) ≡ true
   pub sees : x.traffic ≡ traffic_of (queue m i) (other_queue k i (channel m.table i)) (part m (other_end k (channel m.table i) - 1))
@@ -314,8 +314,8 @@ module _ (m : Module) (s : SoundModule m) (r : Request) (q : Calls m r) where
 
   pub on_queue_holds : (i : ℕ) (a : Transfer) (n : ℕ) → OnQueue (port_of m caller r) (number_of r.call) i a n → Channelled m caller i (port_of m caller r)
   on_queue_holds i a n b =
-      let e = in_limits 1 m.table.channelCount r.a b.there in
-      let l : number_of r.a - 1 < m.table.channelCount = omega (arith, e.0, e.1) in
+      let e = in_limits 1 m.table.channel_count r.a b.there in
+      let l : number_of r.a - 1 < m.table.channel_count = omega (arith, e.0, e.1) in
       let c = channel m.table (number_of r.a - 1) in
       let g = s.table.each_channel (number_of r.a - 1) l in
       let at : apart caller c ≡ false = ⊎_elim
@@ -328,7 +328,7 @@ module _ (m : Module) (s : SoundModule m) (r : Request) (q : Calls m r) where
 
   -- the channel of a transfer: what is seen of it is its traffic
   pub transfer_sound : (i : ℕ) (a : Transfer) (n : ℕ) → OnQueue (port_of m caller r) (number_of r.call) i a n
-      → (i < m.table.channelCount) × SoundMove (channel m.table i).size (queue m i) a × SoundEnd (part m (other_end caller (channel m.table i) - 1)) a
+      → (i < m.table.channel_count) × SoundMove (channel m.table i).size (queue m i) a × SoundEnd (part m (other_end caller (channel m.table i) - 1)) a
   transfer_sound i a n b =
       let g = on_queue_holds i a n b in
       let c = channel m.table i in
@@ -355,8 +355,8 @@ module _ (m : Module) (s : SoundModule m) (r : Request) (q : Calls m r) where
   applied_sound (Restarted mode) h b =
       refilled_sound caller channel_limit _ (part_sound (erased_to caller channel_limit m) (erased_sound caller channel_limit m (omega arith) s) (caller - 1) place _ (valid (Restarted mode) h))
   applied_sound (Written i x) h b =
-      let c = in_limits 1 m.table.channelCount r.a b.there in
-      message_sound m s i (omega (arith, b.place, c.0, c.1, s.table.channelCount)) x h
+      let c = in_limits 1 m.table.channel_count r.a b.there in
+      message_sound m s i (omega (arith, b.place, c.0, c.1, s.table.channel_count)) x h
   applied_sound (Passed i a n) h b = let t = transfer_sound i a n b in passed_sound m s caller i a t.0 t.1 t.2
 
 pub decided_sound : (m : Module) → SoundModule m → (r : Request) → SoundModule (module_after m (number_of r.partition) (decision m r))

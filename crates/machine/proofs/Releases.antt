@@ -4,7 +4,7 @@ use mathlib.Core.Path.{◌≡◌, ap, sym, ◌∙◌}
 use native.Mathlib.Omega.{arith}
 use Rattle.machine.specs.declared.Module.{Module}
 use Rattle.machine.specs.declared.Process.{Process}
-use Rattle.machine.specs.declared.Time.TheVariants.{At}
+use Rattle.std.specs.Prelude.{Some}
 use Rattle.machine.specs.Theorems.Valid.{SoundModule}
 use Rattle.machine.specs.Windows.{release_point}
 use Rattle.machine.specs.Theorems.Starts.{Release}
@@ -18,7 +18,7 @@ module _ (m : Module) (k : ℕ) (u : SoundModule m) (h : Calling m k) where
   point : Release m.table k m.t (release_point m.table m.t k)
   point = release_earliest m.table u.table m.t k (h.some, calling_low m k u h) u.time
 
-  at_is : (a b : ℕ) → At a ≡ At b → a ≡ b
+  at_is : (a b : ℕ) → Some a ≡ Some b → a ≡ b
   at_is a b e = cc
 
   laws : Releases m k

@@ -12,8 +12,8 @@ use Rattle.machine.specs.declared.Module.{Module}
 use Rattle.machine.specs.declared.Answer.{Answer}
 use Rattle.machine.specs.declared.Line.{Line}
 use Rattle.machine.specs.declared.Line.TheVariants.{Six, Bad}
-use Rattle.machine.specs.declared.Time.{Time}
-use Rattle.machine.specs.declared.Time.TheVariants.{Never, At}
+use Rattle.machine.specs.Time.{Time}
+use Rattle.std.specs.Prelude.{None, Some}
 use Rattle.machine.specs.Limits.{number_limit, line_length, partition_limit}
 use Rattle.machine.specs.Line.{in_range, all_in_range, line_text}
 use Rattle.machine.specs.Step.{step}
@@ -33,8 +33,8 @@ natural n h = le-leb n number_limit h
 
 time_in_range : (t : Time) → NotAfter number_limit t → in_range (time_number t) ≡ true
 unfolding in_range
-time_in_range Never h = refl
-time_in_range (At n) h = le-leb n number_limit h
+time_in_range None h = refl
+time_in_range (Some n) h = le-leb n number_limit h
 
 -- six numbers in range
 six_in_range : (a b c d e f : ℤ) → in_range a ≡ true → in_range b ≡ true → in_range c ≡ true → in_range d ≡ true → in_range e ≡ true → in_range f ≡ true → all_in_range (a ∷ b ∷ c ∷ d ∷ e ∷ f ∷ []) ≡ true

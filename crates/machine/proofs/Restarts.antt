@@ -198,7 +198,7 @@ module _ (k : ℕ) (m : Module) (s : SoundModule m) where
         let u = refilled_to k i m in
         let e = refilled_sound k i m s in
         let T = refilled_table k i m in
-        let on : filled k u.table i ≡ true = ap (λ (U : Table). filled k U i) T ∙ rw (lt-ltb i m.table.channelCount f.there, f.kind, eq-eqb c.destination k f.into) in
+        let on : filled k u.table i ≡ true = ap (λ (U : Table). filled k U i) T ∙ rw (lt-ltb i m.table.channel_count f.there, f.kind, eq-eqb c.destination k f.into) in
         let to : channel u.table i ≡ c = ap (λ (U : Table). channel U i) T in
         by_test (λ (x : Module). queue x i ≡ queue_of let_in) (filled k u.table i)
         (λ _. get_or-set_same u.queues i _ no_queue (omega (arith, f.few, e.queues_size)) ∙ ap (λ (x : Channel). queue_of (map (λ id. carried (process id (part u (x.source - 1)))) (admitted i x (part u (x.source - 1))))) to ∙ ap queue_of (let_in_same (part u from) (unserved i (omega arith))))
@@ -221,7 +221,7 @@ module _ (k : ℕ) (m : Module) (s : SoundModule m) where
         let u = refilled_to k i m in
         let e = refilled_sound k i m s in
         let T = refilled_table k i m in
-        let on : filled k u.table i ≡ true = ap (λ (U : Table). filled k U i) T ∙ rw (lt-ltb i m.table.channelCount f.there, f.kind, eq-eqb c.destination k f.into) in
+        let on : filled k u.table i ≡ true = ap (λ (U : Table). filled k U i) T ∙ rw (lt-ltb i m.table.channel_count f.there, f.kind, eq-eqb c.destination k f.into) in
         let to : channel u.table i ≡ c = ap (λ (U : Table). channel U i) T in
         let size : u.table.size ≡ m.table.size = ap (λ (U : Table). U.size) T in
         let p = part u from in
@@ -268,7 +268,7 @@ module _ (k : ℕ) (m : Module) (s : SoundModule m) where
         let u = refilled_to k i m in
         let e = refilled_sound k i m s in
         let T = refilled_table k i m in
-        let on : filled k u.table i ≡ true = ap (λ (U : Table). filled k U i) T ∙ rw (lt-ltb i m.table.channelCount f.there, f.kind, eq-eqb c.destination k f.into) in
+        let on : filled k u.table i ≡ true = ap (λ (U : Table). filled k U i) T ∙ rw (lt-ltb i m.table.channel_count f.there, f.kind, eq-eqb c.destination k f.into) in
         let to : channel u.table i ≡ c = ap (λ (U : Table). channel U i) T in
         let size : u.table.size ≡ m.table.size = ap (λ (U : Table). U.size) T in
         let p = part u from in

@@ -16,7 +16,7 @@ use Rattle.machine.specs.declared.Channel.{Channel}
 use Rattle.machine.specs.declared.Message.{Message}
 use Rattle.machine.specs.declared.Module.{Module}
 use Rattle.machine.specs.declared.Table.{Table}
-use Rattle.machine.specs.declared.Time.TheVariants.{At}
+use Rattle.std.specs.Prelude.{Some}
 use Rattle.machine.specs.declared.Request.{Request}
 use Rattle.machine.specs.declared.Decision.{Decision}
 use Rattle.machine.specs.declared.Decision.TheVariants.{Refused, Unchanged, Ticked, Blocked, Changed, Restarted, Written, Passed as PassedOn}
@@ -82,7 +82,7 @@ module _ (m : Module) (e : EventT) (k n j : ℕ) (t : done k n j (answered_event
   done_zero = eqb-true _ 0 (and_right (plain_number j e.a) _ (and_right (is_call k n e) _ t))
 
 -- ---------------------------------------------------------------- the message of a channel, over one event
-module _ (m : Module) (s : SoundModule m) (e : EventT) (i : ℕ) (inside : i < m.table.channelCount) where
+module _ (m : Module) (s : SoundModule m) (e : EventT) (i : ℕ) (inside : i < m.table.channel_count) where
   abbrev c : Channel
   c = channel m.table i
 
@@ -112,7 +112,7 @@ module _ (m : Module) (s : SoundModule m) (e : EventT) (i : ℕ) (inside : i < m
       left (Restarted mode) b g is =
           ap (λ (l : List Message). get_or l i no_message) (refilled_messages k channel_limit _)
           ∙ erased_other k channel_limit m i (not_so (eqb c.destination k) (λ t. not_both _ (rw (eqb-true _ k t) (restart_told m e q g.0 g.1 is)) lasts))
-      left (Written j x) b g is = get_or-set_other m.messages j i x no_message (λ z. not_both _ (writes b.source b.call (let l = in_limits 1 m.table.channelCount r.a b.there in omega (arith, l.0, b.place)) is) unwritten)
+      left (Written j x) b g is = get_or-set_other m.messages j i x no_message (λ z. not_both _ (writes b.source b.call (let l = in_limits 1 m.table.channel_count r.a b.there in omega (arith, l.0, b.place)) is) unwritten)
       left (PassedOn j a v) b g is = by_test (λ (x : Module). message x i ≡ message m i) (ends_wait a) (λ _. refl) (λ _. refl)
 
     message_left : message (step m e).state i ≡ message m i
@@ -134,7 +134,7 @@ module _ (m : Module) (s : SoundModule m) (e : EventT) (i : ℕ) (inside : i < m
       let time : m.t ≡ (step m e).answer.t = sym ((each_event m h e).shown.0 ∙ ap (λ (x : Module). x.t) g.state) in
       ap (λ (x : Module). message x i) g.state
       ∙ ap (λ j. get_or (set m.messages j (record { present = true; value = id_of e.b; written = m.t })) i no_message) place
-      ∙ get_or-set_same m.messages i _ no_message (omega (arith, inside, s.table.channelCount, s.messages_size))
+      ∙ get_or-set_same m.messages i _ no_message (omega (arith, inside, s.table.channel_count, s.messages_size))
       ∙ ap (λ t. record { present = true; value = id_of e.b; written = t }) time
     where
       one_less : i + 1 - 1 ≡ i
@@ -148,7 +148,7 @@ module _ (m : Module) (s : SoundModule m) (e : EventT) (i : ℕ) (inside : i < m
       ap (λ (x : EventT). message (step m x).state i) u.is
       ∙ ap (λ (x : Module). message x i) g.state
       ∙ ap (λ (l : List Message). get_or l i no_message) (refilled_messages c.destination channel_limit _)
-      ∙ erased_own c.destination channel_limit m i (omega (arith, inside, s.table.channelCount)) refl
+      ∙ erased_own c.destination channel_limit m i (omega (arith, inside, s.table.channel_count)) refl
 
   message_step : Reached m → message (next m e) i ≡ written c i here (message m i)
   message_step h = either (done c.source 21 (i + 1) here)
@@ -159,18 +159,18 @@ module _ (m : Module) (s : SoundModule m) (e : EventT) (i : ℕ) (inside : i < m
 
 -- ---------------------------------------------------------------- and over a list, from the fresh module on
 -- a record with a channel has a sound table
-pub channel_sound : (m : Module) → ValidModule m → (i : ℕ) → i < m.table.channelCount → SoundModule m
+pub channel_sound : (m : Module) → ValidModule m → (i : ℕ) → i < m.table.channel_count → SoundModule m
 unfolding empty_module empty_table
-channel_sound m (inl h) i l = absurd (omega (arith, ap (λ (q : Module). q.table.channelCount) h))
+channel_sound m (inl h) i l = absurd (omega (arith, ap (λ (q : Module). q.table.channel_count) h))
 channel_sound m (inr s) i l = s
 
-fresh_message : (input : List ℕ) (i : ℕ) → i < (read_table input).state.table.channelCount → message (read_table input).state i ≡ no_message
+fresh_message : (input : List ℕ) (i : ℕ) → i < (read_table input).state.table.channel_count → message (read_table input).state i ≡ no_message
 unfolding empty_module empty_table fresh_module
 fresh_message input i l = either (eqb (read_table input).code 0)
     (λ e. rw ((table_read input).accepted (eqb-true _ 0 e)).1 (get_d_replicate_any channel_limit i no_message))
-    (λ e. absurd (omega (arith, ap (λ (q : Module). q.table.channelCount) ((table_read input).refused (eqb-false _ 0 e)))))
+    (λ e. absurd (omega (arith, ap (λ (q : Module). q.table.channel_count) ((table_read input).refused (eqb-false _ 0 e)))))
 
-pub sampling : (input : List ℕ) (i : ℕ) (es : List EventT) → let m = (read_table input).state in i < m.table.channelCount → message (after m es) i ≡ last_written m i es
+pub sampling : (input : List ℕ) (i : ℕ) (es : List EventT) → let m = (read_table input).state in i < m.table.channel_count → message (after m es) i ≡ last_written m i es
 sampling input i es l =
     let m = (read_table input).state in
     (along_list (written (channel m.table i) i) (λ q. message q i) (λ _ q. Reached q × (q.table ≡ m.table))
@@ -183,16 +183,16 @@ sampling input i es l =
 -- READ of a message that is known
 pub read_message : (q : Module) (k i : ℕ) (x : Message) → let c = channel q.table i in
     let e = call_by k 22 (pos (i + 1)) (pos 0) (pos 0) (pos 0) in
-    i < q.table.channelCount → c.size ≡ 0 → c.destination ≡ k → Calling q k → message q i ≡ x
+    i < q.table.channel_count → c.size ≡ 0 → c.destination ≡ k → Calling q k → message q i ≡ x
     → (x.present ≡ false → Refuses q e 1)
-    × (x.present ≡ true → Gives q e 0 x.value (At (cond (leb (q.t - x.written) c.refresh) 1 0)) q)
+    × (x.present ≡ true → Gives q e 0 x.value (Some (cond (leb (q.t - x.written) c.refresh) 1 0)) q)
 unfolding Checks
 read_message q k i x l size to h is =
     let c = channel q.table i in
     let place : i + 1 - 1 ≡ i = omega arith in
     let here = eq-eqb c.destination k to in
     let g = (((((each_call q k h).read (pos (i + 1))
-    ).1 (rw (le-leb 1 (i + 1) (omega arith), le-leb (i + 1) q.table.channelCount (omega arith)))
+    ).1 (rw (le-leb 1 (i + 1) (omega arith), le-leb (i + 1) q.table.channel_count (omega arith)))
     ).1 (rw (place, size))
     ).1 (rw (place, here) (and-false (not (eqb c.source k))))
     ).1 (rw (place, here)) in

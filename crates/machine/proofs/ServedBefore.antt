@@ -116,7 +116,7 @@ module _ (m : Module) (h : Reached m) (e : EventT) (k j : ℕ) (b : Between 1 m.
       over_gone _ (λ y. omega arith) (own (next m e) k) x 0 _ (process x p) g.ended
 
 -- ---------------------------------------------------------------- services of channels
-module _ (m : Module) (h : Reached m) (i : ℕ) (inside : i < m.table.channelCount) where
+module _ (m : Module) (h : Reached m) (i : ℕ) (inside : i < m.table.channel_count) where
   abbrev c : Channel
   c = channel m.table i
 

@@ -10,9 +10,9 @@ use Rattle.machine.specs.declared.Given.{Given}
 use Rattle.machine.specs.declared.Process.{Process}
 use Rattle.machine.specs.declared.Context.{Context}
 use Rattle.machine.specs.declared.Wait.{Wait}
-use Rattle.machine.specs.declared.Wait.TheVariants.{None}
-use Rattle.machine.specs.declared.Time.{Time}
-use Rattle.machine.specs.declared.Time.TheVariants.{Never, At}
+use Rattle.machine.specs.declared.Wait.TheVariants.{None as NoWait}
+use Rattle.machine.specs.Time.{Time}
+use Rattle.std.specs.Prelude.{None, Some}
 use Rattle.machine.specs.Limits.{priority_limit, duration_limit, time_limit, frame_limit, greatest_time}
 use Rattle.machine.specs.Process.{Class, class_of, object_in, for_nothing, created_process, capped, later, due, is_never, periodic, on_object, object, carried_in, carried, waits_for_nothing, waits_for_normal, ready, with_deadline, served, handed, with_suspended, with_current, waiting_for, suspended_until, only_marked, woken, expired, ticked, start_rule, started_early, entered, stopped, resumed, next_release}
 use Rattle.machine.specs.Theorems.Valid.{Between, latest_wake, latest_deadline, AtMost, NotAfter, Ahead, Timeout, SoundPeriod, Below, SoundCapacity, SoundGiven, Timeless, Bounded, Dormant, Early, KnownWait, SoundWake, Released, SoundRelease, Setting, setting, Going, Lasting, LastingIn, SoundCode, SoundMark, SoundProcess}
@@ -21,45 +21,45 @@ use Rattle.machine.proofs.Bounds.{not_so, so, and_true_parts}
 use Rattle.machine.proofs.Either.{either}
 
 -- ---------------------------------------------------------------- sums of times
-pub later_plain : (m n : ℕ) → m + n ≤ greatest_time → later (At m) (At n) ≡ At (m + n)
+pub later_plain : (m n : ℕ) → m + n ≤ greatest_time → later (Some m) (Some n) ≡ Some (m + n)
 later_plain m n h = rw (le-leb (m + n) greatest_time h)
 
 capped_at_most : (n k : ℕ) → n ≤ k → capped n ≤ k
 capped_at_most n k h = by_test (λ (c : ℕ). c ≤ k) (leb n greatest_time) (λ _. h) (λ e. omega (arith, leb-false n greatest_time e))
 
 pub later_not_after : (m n k : ℕ) (a b : Time) → NotAfter m a → NotAfter n b → m + n ≤ k → NotAfter k (later a b)
-later_not_after m n k Never b ha hb h = tt
-later_not_after m n k (At a) Never ha hb h = tt
-later_not_after m n k (At a) (At b) ha hb h = capped_at_most (a + b) k (omega arith)
+later_not_after m n k None b ha hb h = tt
+later_not_after m n k (Some a) None ha hb h = tt
+later_not_after m n k (Some a) (Some b) ha hb h = capped_at_most (a + b) k (omega arith)
 
 pub later_at_most : (m n k : ℕ) (a b : Time) → AtMost m a → AtMost n b → m + n ≤ k → AtMost k (later a b)
-later_at_most m n k Never b ha hb h = ha
-later_at_most m n k (At a) Never ha hb h = hb
-later_at_most m n k (At a) (At b) ha hb h = capped_at_most (a + b) k (omega arith)
+later_at_most m n k None b ha hb h = ha
+later_at_most m n k (Some a) None ha hb h = hb
+later_at_most m n k (Some a) (Some b) ha hb h = capped_at_most (a + b) k (omega arith)
 
 -- a number of D after t, but 0
-pub ahead_later : (t n : ℕ) → t ≤ time_limit → (n ≡ 0 → ⊥) → n ≤ duration_limit → Ahead t (later (At t) (At n))
+pub ahead_later : (t n : ℕ) → t ≤ time_limit → (n ≡ 0 → ⊥) → n ≤ duration_limit → Ahead t (later (Some t) (Some n))
 ahead_later t n h some short = rw (le-leb (t + n) greatest_time (omega arith)) (omega arith, omega arith)
 
 pub at_most_more : (m n : ℕ) (a : Time) → AtMost m a → m ≤ n → AtMost n a
-at_most_more m n Never h le = h
-at_most_more m n (At a) h le = omega arith
+at_most_more m n None h le = h
+at_most_more m n (Some a) h le = omega arith
 
 pub at_most_not_after : (n : ℕ) (a : Time) → AtMost n a → NotAfter n a
-at_most_not_after n Never h = tt
-at_most_not_after n (At a) h = h
+at_most_not_after n None h = tt
+at_most_not_after n (Some a) h = h
 
 pub capacity_bound : (period c : Time) → SoundCapacity period c → NotAfter duration_limit c
-capacity_bound period Never h = tt
-capacity_bound period (At n) h = h.0.1
+capacity_bound period None h = tt
+capacity_bound period (Some n) h = h.0.1
 
 pub period_not_after : (frame : ℕ) (p : Time) → SoundPeriod frame p → NotAfter duration_limit p
-period_not_after frame Never h = tt
-period_not_after frame (At n) h = h.0.1
+period_not_after frame None h = tt
+period_not_after frame (Some n) h = h.0.1
 
 pub period_bound : (frame : ℕ) (p : Time) → SoundPeriod frame p → is_never p ≡ false → AtMost duration_limit p
-period_bound frame Never h e = not_both _ refl e
-period_bound frame (At n) h e = h.0.1
+period_bound frame None h e = not_both _ refl e
+period_bound frame (Some n) h e = h.0.1
 
 -- ---------------------------------------------------------------- a sound process by what it is
 module _ (s : Setting) (x : Process) (l : LastingIn s.frame x) (c : SoundCode x.code) (m : SoundMark x) where
@@ -85,43 +85,43 @@ outside_normal s s' x n n' e h = record {
 
 -- ---------------------------------------------------------------- lemmas on the parts, by their variables
 zero_below : (frame : ℕ) (p : Time) → SoundPeriod frame p → Below p 0
-zero_below frame Never h = tt
-zero_below frame (At n) h = h.0.0
+zero_below frame None h = tt
+zero_below frame (Some n) h = h.0.0
 
 -- a delay below a period
 delay_below : (frame delay : ℕ) (p : Time) → SoundPeriod frame p → is_never p ≡ false → Below p delay → delay < duration_limit
-delay_below frame delay Never h e b = not_both _ refl e
-delay_below frame delay (At n) h e b = omega (arith, h.0)
+delay_below frame delay None h e b = not_both _ refl e
+delay_below frame delay (Some n) h e b = omega (arith, h.0)
 
 -- no wait and no wake time, whatever the mark
-none_wake : (t : ℕ) (mark : Bool) (r : Time) → SoundWake t mark r Class.nothing Never
+none_wake : (t : ℕ) (mark : Bool) (r : Time) → SoundWake t mark r Class.nothing None
 none_wake t true r = tt
 none_wake t false r = refl
 
-released_never : (t : ℕ) (p r : Time) → is_never p ≡ true → r ≡ Never → Released t p r
-released_never t Never r e h = h
-released_never t (At n) r e h = not_both _ e refl
+released_never : (t : ℕ) (p r : Time) → is_never p ≡ true → r ≡ None → Released t p r
+released_never t None r e h = h
+released_never t (Some n) r e h = not_both _ e refl
 
 released_at_most : (t : ℕ) (p r : Time) → is_never p ≡ false → AtMost t r → Released t p r
-released_at_most t Never r e h = not_both _ refl e
-released_at_most t (At n) r e h = h
+released_at_most t None r e h = not_both _ refl e
+released_at_most t (Some n) r e h = h
 
 pub at_most_released : (t : ℕ) (p r : Time) → is_never p ≡ false → Released t p r → AtMost t r
-at_most_released t Never r e h = not_both _ refl e
-at_most_released t (At n) r e h = h
+at_most_released t None r e h = not_both _ refl e
+at_most_released t (Some n) r e h = h
 
 released_more : (t : ℕ) (p r : Time) → Released t p r → Released (t + 1) p r
-released_more t Never r h = h
-released_more t (At n) r h = at_most_more t (t + 1) r h (omega arith)
+released_more t None r h = h
+released_more t (Some n) r h = at_most_more t (t + 1) r h (omega arith)
 
 -- one tick later, where w has not come
 timeout_on : (t : ℕ) (w : Time) → Timeout t w → due (t + 1) w ≡ false → Timeout (t + 1) w
-timeout_on t Never h e = tt
-timeout_on t (At n) h e = let l = leb-false n (t + 1) e in (l, omega (arith, h.1))
+timeout_on t None h e = tt
+timeout_on t (Some n) h e = let l = leb-false n (t + 1) e in (l, omega (arith, h.1))
 
 ahead_on : (t : ℕ) (w : Time) → Ahead t w → due (t + 1) w ≡ false → Ahead (t + 1) w
-ahead_on t Never h e = h
-ahead_on t (At n) h e = let l = leb-false n (t + 1) e in (l, omega (arith, h.1))
+ahead_on t None h e = h
+ahead_on t (Some n) h e = let l = leb-false n (t + 1) e in (l, omega (arith, h.1))
 
 wake_on : (t : ℕ) (mark : Bool) (r : Time) (v : Class) (w : Time) → SoundWake t mark r v w → due (t + 1) w ≡ false → SoundWake (t + 1) mark r v w
 wake_on t true r Class.nothing w h e = timeout_on t w h e
@@ -139,8 +139,8 @@ release_on t p Class.release r h = h
 release_on t p (Class.onto kind k n) r h = released_more t p r h
 
 due_at_most : (t : ℕ) (w : Time) → due t w ≡ true → AtMost t w
-due_at_most t Never e = not_both _ e refl
-due_at_most t (At n) e = leb-true n t e
+due_at_most t None e = not_both _ e refl
+due_at_most t (Some n) e = leb-true n t e
 
 -- one tick later, where w has come and the wait ends
 release_ended : (t : ℕ) (p : Time) (mark : Bool) (v : Class) (r w : Time) → SoundRelease t p v r → SoundWake t mark r v w → due (t + 1) w ≡ true → Released (t + 1) p r
@@ -182,7 +182,7 @@ for_nothing_holds Class.release e = not_both _ e refl
 for_nothing_holds (Class.onto kind k n) e = not_both _ e refl
 
 -- ---------------------------------------------------------------- creating and starting
-no_times : (delay : ℕ) → Timeless (record { release = Never; deadline = Never; wake = Never; delay = delay })
+no_times : (delay : ℕ) → Timeless (record { release = None; deadline = None; wake = None; delay = delay })
 no_times delay = record { release = refl; deadline = refl; wake = refl }
 
 pub created_sound : (s : Setting) (g : Given) → SoundGiven s.frame g → SoundProcess s (created_process g)
@@ -197,15 +197,15 @@ with_current_holds frame x l n b started = record { given = l.given; current = b
 
 -- the start rule, with any mark that the process may have and any priority
 module _ (c : Context) (ends : c.time ≤ time_limit) (frame : c.frame ≤ frame_limit) (near : c.release ≤ c.time + c.frame) (normal : Bool) (e : normal ≡ true) (a : ℕ → ℕ) where
-  module _ (delay : ℕ) (x : Process) (l : LastingIn c.frame x) (none : x.times.release ≡ Never) (short : delay ≤ duration_limit) (below : Below x.given.period delay) where
-    start_release : is_never x.given.period ≡ false → AtMost latest_wake (later (At c.release) (At delay))
-    start_release k = later_at_most c.release delay latest_wake (At c.release) (At delay) (omega arith) (omega arith) (omega (arith, delay_below c.frame delay x.given.period l.given.period k below))
+  module _ (delay : ℕ) (x : Process) (l : LastingIn c.frame x) (none : x.times.release ≡ None) (short : delay ≤ duration_limit) (below : Below x.given.period delay) where
+    start_release : is_never x.given.period ≡ false → AtMost latest_wake (later (Some c.release) (Some delay))
+    start_release k = later_at_most c.release delay latest_wake (Some c.release) (Some delay) (omega arith) (omega arith) (omega (arith, delay_below c.frame delay x.given.period l.given.period k below))
 
     cap : NotAfter duration_limit x.given.capacity
     cap = capacity_bound x.given.period x.given.capacity l.given.capacity
 
-    start_deadline : NotAfter latest_deadline (later (later (At c.time) (At delay)) x.given.capacity)
-    start_deadline = later_not_after (time_limit + duration_limit) duration_limit latest_deadline (later (At c.time) (At delay)) x.given.capacity (later_not_after time_limit duration_limit (time_limit + duration_limit) (At c.time) (At delay) ends short (omega arith)) cap (omega arith)
+    start_deadline : NotAfter latest_deadline (later (later (Some c.time) (Some delay)) x.given.capacity)
+    start_deadline = later_not_after (time_limit + duration_limit) duration_limit latest_deadline (later (Some c.time) (Some delay)) x.given.capacity (later_not_after time_limit duration_limit (time_limit + duration_limit) (Some c.time) (Some delay) ends short (omega arith)) cap (omega arith)
 
     pub start_any : (mark : Bool) → (periodic x && mark) ≡ false → (n : ℕ) → Between 1 priority_limit n → SoundProcess (setting c.frame c.time normal a) (with_suspended mark (with_current n (start_rule c delay x)))
     unfolding start_rule
@@ -219,7 +219,7 @@ module _ (c : Context) (ends : c.time ≤ time_limit) (frame : c.frame ≤ frame
           wait = tt;
           wake = refl;
           release = (some, start_release some);
-          deadline = later_not_after latest_wake duration_limit latest_deadline (later (At c.release) (At delay)) x.given.capacity (at_most_not_after latest_wake (later (At c.release) (At delay)) (start_release some)) cap (omega arith);
+          deadline = later_not_after latest_wake duration_limit latest_deadline (later (Some c.release) (Some delay)) x.given.capacity (at_most_not_after latest_wake (later (Some c.release) (Some delay)) (start_release some)) cap (omega arith);
         }))
         (λ k.
         let never = not-false (is_never x.given.period) k in
@@ -441,7 +441,7 @@ expired_sound s t x h =
     })
     (λ _. h)
   where
-    no_deadline : Timeless x.times → Timeless (with_deadline Never x.times)
+    no_deadline : Timeless x.times → Timeless (with_deadline None x.times)
     no_deadline d = record { release = d.release; deadline = refl; wake = d.wake }
 
 pub ticked_sound : (frame t : ℕ) (a : ℕ → ℕ) (normal : Bool) → normal ≡ true → (x : Process) → SoundProcess (setting frame t normal a) x → SoundProcess (setting frame (t + 1) normal a) (ticked (t + 1) x)
@@ -449,14 +449,14 @@ ticked_sound frame t a normal n x h = expired_sound _ (t + 1) _ (woken_sound fra
 
 -- ---------------------------------------------------------------- what follows
 ahead_bound : (t : ℕ) (w : Time) → t ≤ time_limit → Timeout t w → NotAfter latest_wake w
-ahead_bound t Never ends h = tt
-ahead_bound t (At n) ends h = omega (arith, h.1)
+ahead_bound t None ends h = tt
+ahead_bound t (Some n) ends h = omega (arith, h.1)
 
 ahead_timeout : (t : ℕ) (w : Time) → Ahead t w → Timeout t w
-ahead_timeout t Never h = tt
-ahead_timeout t (At n) h = h
+ahead_timeout t None h = tt
+ahead_timeout t (Some n) h = h
 
-never_bound : (n : ℕ) (w : Time) → w ≡ Never → NotAfter n w
+never_bound : (n : ℕ) (w : Time) → w ≡ None → NotAfter n w
 never_bound n w e = rw e tt
 
 wake_bound : (t : ℕ) (mark : Bool) (r : Time) (v : Class) (w : Time) → t ≤ time_limit → NotAfter latest_wake r → SoundWake t mark r v w → NotAfter latest_wake w
@@ -468,8 +468,8 @@ wake_bound t mark r Class.release w ends k h = rw h k
 wake_bound t mark r (Class.onto kind j n) w ends k h = ahead_bound t w ends h
 
 released_bound : (t : ℕ) (p r : Time) → t ≤ time_limit → Released t p r → NotAfter latest_wake r
-released_bound t Never r ends h = never_bound latest_wake r h
-released_bound t (At p) r ends h = at_most_not_after latest_wake r (at_most_more t latest_wake r h (omega arith))
+released_bound t None r ends h = never_bound latest_wake r h
+released_bound t (Some p) r ends h = at_most_not_after latest_wake r (at_most_more t latest_wake r h (omega arith))
 
 release_bound : (t : ℕ) (p : Time) (v : Class) (r : Time) → t ≤ time_limit → SoundRelease t p v r → NotAfter latest_wake r
 release_bound t p Class.nothing r ends h = released_bound t p r ends h
@@ -494,7 +494,7 @@ module _ (s : Setting) (x : Process) (h : SoundProcess s x) where
       (λ e. timeless_bounded (h.dormant e).times)
 
   -- a wake time with neither a wait nor the mark is never reached
-  pub wake_marked : x.wait ≡ None → x.suspended ≡ false → x.times.wake ≡ Never
+  pub wake_marked : x.wait ≡ NoWait → x.suspended ≡ false → x.times.wake ≡ None
   wake_marked k u = either x.started
       (λ e. either s.normal
       (λ n. rw (k, u) at (h.going e n).wake)

@@ -23,9 +23,9 @@ use Rattle.machine.specs.declared.Decision.TheVariants.{Written, Ticked, Restart
 use Rattle.machine.specs.declared.Field.{Field}
 use Rattle.machine.specs.declared.Field.TheVariants.{Number, MinusOne, Other}
 use Rattle.machine.specs.declared.Wait.{Wait}
-use Rattle.machine.specs.declared.Wait.TheVariants.{None, Normal, Delay, Timed, Period, Semaphore, Event, Sending, Receiving, Blackboard, Source, Destination}
-use Rattle.machine.specs.declared.Time.{Time}
-use Rattle.machine.specs.declared.Time.TheVariants.{Never, At}
+use Rattle.machine.specs.declared.Wait.TheVariants.{None as NoWait, Normal, Delay, Timed, Period, Semaphore, Event, Sending, Receiving, Blackboard, Source, Destination}
+use Rattle.machine.specs.Time.{Time}
+use Rattle.std.specs.Prelude.{None, Some}
 use Rattle.machine.specs.Limits.{time_limit, channel_limit, mode_limit}
 use Rattle.machine.specs.Fields.{field, request_of, is_number, number_of}
 use Rattle.machine.specs.Ids.{members, kept}
@@ -168,7 +168,7 @@ restart_keeps_queue m e i no_send_holds no_receive_holds d =
 -- ---------------------------------------------------------------- waits
 -- the wait that names semaphore j, event j
 semaphore_is : (w : Wait) (j : ℕ) → j ≤ 255 → object w ≡ object (Semaphore j) → w ≡ Semaphore j
-semaphore_is None j h e = absurd (omega arith)
+semaphore_is NoWait j h e = absurd (omega arith)
 semaphore_is Normal j h e = absurd (omega arith)
 semaphore_is Delay j h e = absurd (omega arith)
 semaphore_is Timed j h e = absurd (omega arith)
@@ -209,16 +209,16 @@ module _ (t : ℕ) (x : Process) where
   unfolding woken
   woken_marked w = by_test (λ (y : Process). y.suspended ≡ x.suspended) (due t x.times.wake) (λ _. rw w) (λ _. refl)
 
-  come : (a : Time) (n : ℕ) → a ≡ At n → n ≤ t → due t a ≡ true
+  come : (a : Time) (n : ℕ) → a ≡ Some n → n ≤ t → due t a ≡ true
   come a n e h = rw e (le-leb n t h)
 
-  woken_is : (n : ℕ) (code : ℕ) → x.times.wake ≡ At n → n ≤ t → waits_for_nothing x.wait ≡ false → cond (on_object x) 6 0 ≡ code → woken t x ≡ wait_ended code x
+  woken_is : (n : ℕ) (code : ℕ) → x.times.wake ≡ Some n → n ≤ t → waits_for_nothing x.wait ≡ false → cond (on_object x) 6 0 ≡ code → woken t x ≡ wait_ended code x
   unfolding woken
   woken_is n code e h w c = rw (come x.times.wake n e h, w, c)
 
 -- what a tick makes of one process
 module _ (t : ℕ) (x : Process) where
-  wait_over_holds : (n : ℕ) (code : ℕ) → x.times.wake ≡ At n → n ≤ t → waits_for_nothing x.wait ≡ false → cond (on_object x) 6 0 ≡ code → WaitEnded code x (ticked t x)
+  wait_over_holds : (n : ℕ) (code : ℕ) → x.times.wake ≡ Some n → n ≤ t → waits_for_nothing x.wait ≡ false → cond (on_object x) 6 0 ≡ code → WaitEnded code x (ticked t x)
   wait_over_holds n code e h w c =
       let y = woken_is t x n code e h w c in
       let k = expired_past t (woken t x) in
@@ -230,14 +230,14 @@ module _ (t : ℕ) (x : Process) where
         started = k.started ∙ ap (λ (z : Process). z.started) y;
       }
 
-  suspension_over : (n : ℕ) → x.times.wake ≡ At n → n ≤ t → x.wait ≡ None → x.suspended ≡ true → ((ticked t x).suspended ≡ false) × ((ticked t x).code ≡ 6) × ((ticked t x).times.wake ≡ Never)
+  suspension_over : (n : ℕ) → x.times.wake ≡ Some n → n ≤ t → x.wait ≡ NoWait → x.suspended ≡ true → ((ticked t x).suspended ≡ false) × ((ticked t x).code ≡ 6) × ((ticked t x).times.wake ≡ None)
   unfolding woken
   suspension_over n e h w s =
       let k = expired_past t (woken t x) in
       let d = come t x x.times.wake n e h in
       (k.mark ∙ rw (d, w, s), k.code_is ∙ rw (d, w, s), k.wake ∙ rw (d, w, s))
 
-  deadline_over : (n : ℕ) → x.times.deadline ≡ At n → n ≤ t → ((ticked t x).missed ≡ true) × ((ticked t x).times.deadline ≡ Never)
+  deadline_over : (n : ℕ) → x.times.deadline ≡ Some n → n ≤ t → ((ticked t x).missed ≡ true) × ((ticked t x).times.deadline ≡ None)
   unfolding expired
   deadline_over n e h = let d : due t (woken t x).times.deadline ≡ true = come t x (woken t x).times.deadline n (woken_deadline t x ∙ e) h in (rw d, rw d)
 
@@ -263,7 +263,7 @@ tick_formed : (m : Module) → 1 ≤ m.table.size → Pl.malformed m.table (requ
 unfolding Pl.stray_field
 tick_formed m h = rw (ne_eqb m.table.size 0 (λ z. omega arith), from_zero m.table.size)
 
-module _ (m : Module) (u : SoundModule m) (room : m.t < time_limit) (k id : ℕ) (b : Between 1 m.table.size k) (normal : (own m k).mode ≡ 3) (c : Between 1 (own m k).processCount id) where
+module _ (m : Module) (u : SoundModule m) (room : m.t < time_limit) (k id : ℕ) (b : Between 1 m.table.size k) (normal : (own m k).mode ≡ 3) (c : Between 1 (own m k).process_count id) where
   ticked_process : process id (own (Ti.tick_module m) k) ≡ ticked (m.t + 1) (process id (own m k))
   unfolding tick_partition
   ticked_process =
@@ -290,7 +290,7 @@ module _ (m : Module) (k : ℕ) (u : SoundModule m) (h : Calling m k) where
       ∙ get_or-set_same m.partitions (k - 1) p M.no_partition (omega (arith, place, u.partitions_size, u.table.size.1))
 
   module _ (mode : ℕ) (low : mode ≤ 2) (warm : mode ≡ 2 → (own m k).mode ≡ 1 → ⊥) where
-    pub restart_gives : Gives m (call_by k 1 (pos mode) (pos 0) (pos 0) (pos 0)) 0 0 (At 0) (St.restarted k (nothing_created mode) m)
+    pub restart_gives : Gives m (call_by k 1 (pos mode) (pos 0) (pos 0) (pos 0)) 0 0 (Some 0) (St.restarted k (nothing_created mode) m)
     unfolding call_decision services Pl.stray_field C.set_mode D.checked
     restart_gives =
         gives m k u h 1 (pos mode) (pos 0) (pos 0) (pos 0) (omega arith) (omega arith) refl (Restarted mode)
@@ -301,14 +301,14 @@ module _ (m : Module) (k : ℕ) (u : SoundModule m) (h : Calling m k) where
 
     restart_is : let e = call_by k 1 (pos mode) (pos 0) (pos 0) (pos 0) in
         ((St.step m e).answer.code ≡ 0) × (own (St.step m e).state k ≡ nothing_created mode)
-        × ((i : ℕ) → i < m.table.channelCount → (M.channel m.table i).destination ≡ k → (M.message (St.step m e).state i).present ≡ false)
+        × ((i : ℕ) → i < m.table.channel_count → (M.channel m.table i).destination ≡ k → (M.message (St.step m e).state i).present ≡ false)
         × ((i : ℕ) → ((M.channel m.table i).destination ≡ k → ⊥) → M.message (St.step m e).state i ≡ M.message m i)
-        × ((i : ℕ) → i < m.table.channelCount → ((M.channel m.table i).size ≡ 0 → ⊥) → (M.channel m.table i).destination ≡ k
+        × ((i : ℕ) → i < m.table.channel_count → ((M.channel m.table i).size ≡ 0 → ⊥) → (M.channel m.table i).destination ≡ k
         → let c = M.channel m.table i in
         let p = own m c.source in
         held (M.queue (St.step m e).state i) ≡ map (λ id. carried (process id p)) (take c.size (waiters (object (Source (i + 1) 0)) p)))
         × ((i : ℕ) → ((M.channel m.table i).destination ≡ k → ⊥) → M.queue (St.step m e).state i ≡ M.queue m i)
-        × ((i id : ℕ) → i < m.table.channelCount → ((M.channel m.table i).size ≡ 0 → ⊥) → (M.channel m.table i).destination ≡ k
+        × ((i id : ℕ) → i < m.table.channel_count → ((M.channel m.table i).size ≡ 0 → ⊥) → (M.channel m.table i).destination ≡ k
         → let c = M.channel m.table i in
         let p = own m c.source in
         contains id (take c.size (waiters (object (Source (i + 1) 0)) p)) ≡ true → process id (own (St.step m e).state c.source) ≡ let_go (process id p))
@@ -320,13 +320,13 @@ module _ (m : Module) (k : ℕ) (u : SoundModule m) (h : Calling m k) where
         let q = M.with_part (k - 1) p erased in
         let w = part_sound erased (erased_sound k channel_limit m (omega arith) u) (k - 1) place p (nothing_valid m.table.frame m.t mode (omega arith)) in
         let messages = refilled_messages k channel_limit q in
-        let fills : (i : ℕ) → i < m.table.channelCount → ((M.channel m.table i).size ≡ 0 → ⊥) → (M.channel m.table i).destination ≡ k → Fills q k i = λ i b full d. record { there = b; few = omega (arith, b, u.table.channelCount); kind = queuing_plain m.table u.table i b ∙ lt-ltb 0 (M.channel m.table i).size (omega (arith, full)); into = d } in
-        let source : (i : ℕ) → i < m.table.channelCount → (M.channel m.table i).destination ≡ k → M.part q ((M.channel m.table i).source - 1) ≡ own m (M.channel m.table i).source = λ i b d.
+        let fills : (i : ℕ) → i < m.table.channel_count → ((M.channel m.table i).size ≡ 0 → ⊥) → (M.channel m.table i).destination ≡ k → Fills q k i = λ i b full d. record { there = b; few = omega (arith, b, u.table.channel_count); kind = queuing_plain m.table u.table i b ∙ lt-ltb 0 (M.channel m.table i).size (omega (arith, full)); into = d } in
+        let source : (i : ℕ) → i < m.table.channel_count → (M.channel m.table i).destination ≡ k → M.part q ((M.channel m.table i).source - 1) ≡ own m (M.channel m.table i).source = λ i b d.
         let c = u.table.each_channel i b in
         get_or-set_other m.partitions (k - 1) ((M.channel m.table i).source - 1) p M.no_partition (λ z. c.apart (omega (arith, c.source.0, c.destination.0, d))) in (
           g.code_is,
           ap (λ (n : Module). own n k) g.state ∙ own_restarted mode (omega arith),
-          λ i b d. ap (λ (n : Module). (M.message n i).present) g.state ∙ ap (λ (l : List Message). (get_or l i D.no_message).present) messages ∙ ap (λ (x : Message). x.present) (erased_own k channel_limit m i (omega (arith, u.table.channelCount)) d),
+          λ i b d. ap (λ (n : Module). (M.message n i).present) g.state ∙ ap (λ (l : List Message). (get_or l i D.no_message).present) messages ∙ ap (λ (x : Message). x.present) (erased_own k channel_limit m i (omega (arith, u.table.channel_count)) d),
           λ i ne. ap (λ (n : Module). M.message n i) g.state ∙ ap (λ (l : List Message). get_or l i D.no_message) messages ∙ erased_other k channel_limit m i (ne_eqb _ k ne),
           λ i b full d.
               let f = fills i b full d in
@@ -339,7 +339,7 @@ module _ (m : Module) (k : ℕ) (u : SoundModule m) (h : Calling m k) where
         )
 
   -- ---------------------------------------------------------------- SIGNAL
-  module _ (j id : ℕ) (before after : List ℕ) (b : Between 1 (own m k).semaphoreCount j) (below : (semaphore j (own m k)).value ≡ (semaphore j (own m k)).max → ⊥)
+  module _ (j id : ℕ) (before after : List ℕ) (b : Between 1 (own m k).semaphore_count j) (below : (semaphore j (own m k)).value ≡ (semaphore j (own m k)).max → ⊥)
       (split : members (own m k).waiting ≡ before ++ (id ∷ after)) (w : (process id (own m k)).wait ≡ Semaphore j)
       (first : (y : ℕ) → contains y before ≡ true → (process y (own m k)).wait ≡ Semaphore j → ⊥) where
     few : j ≤ 255
@@ -362,7 +362,7 @@ module _ (m : Module) (k : ℕ) (u : SoundModule m) (h : Calling m k) where
     signal_ends = let q = signal_first_holds m k u h j b below id _ queue_is in (q.0.code, q.0.ended, λ s. suspended_not_ready (process id (own (St.step m (call_by k 16 (pos j) (pos 0) (pos 0) (pos 0))).state k)) (ap (λ (x : Process). x.suspended) q.0.ended ∙ s))
 
   -- ---------------------------------------------------------------- SET_EVENT
-  module _ (j id : ℕ) (b : Between 1 (own m k).eventCount j) (w : (process id (own m k)).wait ≡ Event j) where
+  module _ (j id : ℕ) (b : Between 1 (own m k).event_count j) (w : (process id (own m k)).wait ≡ Event j) where
     set_ends : let a = call_by k 18 (pos j) (pos 0) (pos 0) (pos 0) in
         let y = process id (own (St.step m a).state k) in
         ((St.step m a).answer.code ≡ 0) × ((event j (own (St.step m a).state k)).up ≡ true) × (y ≡ let_go (process id (own m k))) × ReadyUnmarked (process id (own m k)) y

@@ -10,8 +10,8 @@ use lib.Dec.{leb, ltb, eqb}
 use lib.ListN.{length, get_or}
 use borrow.Author.Tests.{ltb-true, ltb-false, leb-true, leb-false, le-leb, eqb-true, eq-eqb, ne_eqb}
 use Rattle.machine.specs.declared.Table.{Table}
-use Rattle.machine.specs.declared.Time.{Time}
-use Rattle.machine.specs.declared.Time.TheVariants.{Never, At}
+use Rattle.machine.specs.Time.{Time}
+use Rattle.std.specs.Prelude.{None, Some}
 use Rattle.machine.specs.declared.Window.{Window}
 use Rattle.machine.specs.Limits.{time_limit, greatest_time}
 use Rattle.machine.specs.Table.{has_flagged}
@@ -23,20 +23,20 @@ use Rattle.machine.proofs.Tests.{by_test, and_left, and_right, not_both}
 
 -- ---------------------------------------------------------------- the search
 -- where no window passes, the first does not, and none of the others
-none_here : (f : Window → Bool) (w : Window) (ws : List Window) → first_start f (w ∷ ws) ≡ Never → (f w ≡ false) × (first_start f ws ≡ Never)
+none_here : (f : Window → Bool) (w : Window) (ws : List Window) → first_start f (w ∷ ws) ≡ None → (f w ≡ false) × (first_start f ws ≡ None)
 unfolding first_start
 none_here f w ws e = either (f w)
-    (λ p. let n : At w.start ≡ Never = rw p at e in let z : ◌≡◌ {A = ℕ} 0 1 = cc in absurd (omega arith))
+    (λ p. let n : Some w.start ≡ None = rw p at e in let z : ◌≡◌ {A = ℕ} 0 1 = cc in absurd (omega arith))
     (λ p. (p, rw p at e))
 
 -- something holds of a start that was found
 abbrev Found : (ℕ → Type 0) → Time → Type 0
-Found P Never = Unit {0}
-Found P (At s) = P s
+Found P None = Unit {0}
+Found P (Some s) = P s
 
 found_so : (P Q : ℕ → Type 0) → ((s : ℕ) → P s → Q s) → (r : Time) → Found P r → Found Q r
-found_so P Q f Never h = tt
-found_so P Q f (At s) h = f s h
+found_so P Q f None h = tt
+found_so P Q f (Some s) h = f s h
 
 -- a window that passes a test starts at s
 pub record Passes (f : Window → Bool) (ws : List Window) (s : ℕ) : Type 0 where
@@ -79,7 +79,7 @@ module _ (f : Window → Bool) (from : ℕ) where
       (first_start (starts_from f from) ws) (found_passes (starts_from f from) ws)
 
   -- where nothing is found, the first start of the frame lies before the place
-  found_before : (ws : List Window) → first_start (starts_from f from) ws ≡ Never → Found (λ s. s < from) (first_start (starts_from f 0) ws)
+  found_before : (ws : List Window) → first_start (starts_from f from) ws ≡ None → Found (λ s. s < from) (first_start (starts_from f 0) ws)
   unfolding first_start
   found_before [] e = tt
   found_before (w ∷ ws) e =
@@ -94,7 +94,7 @@ pub owned_passes : (k : ℕ) → PassedBy k (owned_by k)
 owned_passes k w e = and_right w.flag _ e
 
 -- a partition that has one has a start
-flagged_found : (k : ℕ) (f : Window → Bool) → PassedBy k f → (ws : List Window) → has_flagged k ws ≡ true → first_start (starts_from f 0) ws ≡ Never → ⊥
+flagged_found : (k : ℕ) (f : Window → Bool) → PassedBy k f → (ws : List Window) → has_flagged k ws ≡ true → first_start (starts_from f 0) ws ≡ None → ⊥
 unfolding has_flagged
 flagged_found k f by [] h e = true≢false (sym h)
 flagged_found k f by (w ∷ ws) h e =
@@ -150,24 +150,24 @@ pub frame_some : (T : Table) → SoundTable T → eqb T.frame 0 ≡ false
 frame_some T s = ne_eqb T.frame 0 (λ z. omega (arith, s.frame.0))
 
 module _ (frame x : ℕ) (place : x < frame) where
-  ahead_bounds : (here next : Time) → Found (λ s. x + 1 ≤ s) here → Found (λ s. s < frame) here → (here ≡ Never → Found (λ s. s < x + 1) next) → Between 1 frame (ahead_of frame x here next)
-  ahead_bounds (At s) next after inside before = (omega arith, omega arith)
-  ahead_bounds Never (At s) after inside before = let early : s < x + 1 = before refl in (omega arith, omega arith)
-  ahead_bounds Never Never after inside before = (omega arith, omega arith)
+  ahead_bounds : (here next : Time) → Found (λ s. x + 1 ≤ s) here → Found (λ s. s < frame) here → (here ≡ None → Found (λ s. s < x + 1) next) → Between 1 frame (ahead_of frame x here next)
+  ahead_bounds (Some s) next after inside before = (omega arith, omega arith)
+  ahead_bounds None (Some s) after inside before = let early : s < x + 1 = before refl in (omega arith, omega arith)
+  ahead_bounds None None after inside before = (omega arith, omega arith)
 
   ahead_starts : (P : ℕ → Type 0) → ((s : ℕ) → P s → s < frame) → (here next : Time)
-      → Found (λ s. x + 1 ≤ s) here → Found P here → (here ≡ Never → Found (λ s. s < x + 1) next) → Found P next → (next ≡ Never → ⊥)
+      → Found (λ s. x + 1 ≤ s) here → Found P here → (here ≡ None → Found (λ s. s < x + 1) next) → Found P next → (next ≡ None → ⊥)
       → P ((x + ahead_of frame x here next) % frame)
-  ahead_starts P inside (At s) next after starts before again some =
+  ahead_starts P inside (Some s) next after starts before again some =
       let last = inside s starts in
       let e : x + (s - x) ≡ s = omega arith in
       rw (e, mod-eq_of_lt last) starts
-  ahead_starts P inside Never (At s) after starts before again some =
+  ahead_starts P inside None (Some s) after starts before again some =
       let last = inside s again in
       let early : s < x + 1 = before refl in
       let e : x + (s + frame - x) ≡ s + frame = omega arith in
       rw (e, add-mod_right s frame, mod-eq_of_lt last) again
-  ahead_starts P inside Never Never after starts before again some = absurd (some refl)
+  ahead_starts P inside None None after starts before again some = absurd (some refl)
 
 module _ (frame x n y : ℕ) (place : x < frame) (lo : 1 ≤ n) (hi : n ≤ frame) (at : y ≡ (x + n) % frame) where
   -- y lies in this frame or in the next one
@@ -181,9 +181,9 @@ module _ (frame x n y : ℕ) (place : x < frame) (lo : 1 ≤ n) (hi : n ≤ fram
       inr (omega arith))
 
   ahead_least : (here next : Time) → (x + 1 ≤ y → AtMost y here) → Found (λ s. s < frame) here → AtMost y next → ahead_of frame x here next ≤ n
-  ahead_least (At s) next first inside again = ⊎_elim (λ (e : y ≡ x + n). omega (arith, first (omega arith))) (λ (e : y + frame ≡ x + n). omega arith) at_place
-  ahead_least Never (At s) first inside again = ⊎_elim (λ (e : y ≡ x + n). absurd (first (omega arith))) (λ (e : y + frame ≡ x + n). omega arith) at_place
-  ahead_least Never Never first inside again = absurd again
+  ahead_least (Some s) next first inside again = ⊎_elim (λ (e : y ≡ x + n). omega (arith, first (omega arith))) (λ (e : y + frame ≡ x + n). omega arith) at_place
+  ahead_least None (Some s) first inside again = ⊎_elim (λ (e : y ≡ x + n). absurd (first (omega arith))) (λ (e : y + frame ≡ x + n). omega arith) at_place
+  ahead_least None None first inside again = absurd again
 
 module _ (T : Table) (s : SoundTable T) (t : ℕ) (f : Window → Bool) where
   place : t % T.frame < T.frame

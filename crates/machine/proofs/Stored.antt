@@ -42,7 +42,7 @@ follow_plain f q tr true false id room = refl
 follow_plain f q tr false true id room = appended_plain f q tr id (room refl)
 follow_plain f q tr false false id room = tr.canonical
 
-module _ (p : Partition) (v : ListedIn p) (id : ℕ) (b : Between 1 p.processCount id) where
+module _ (p : Partition) (v : ListedIn p) (id : ℕ) (b : Between 1 p.process_count id) where
   high : id ≤ process_limit
   high = omega (arith, b.1, v.numbered.few)
 

@@ -85,13 +85,13 @@ module _ (n : ℕ) (r : Request) where
   abbrev pub Marked : Partition → Change → Type 0
   Marked p Nothing = Unit {0}
   Marked p (Stored id x) = x.given ≡ (process id p).given
-  Marked p (Created id x) = (id ≡ p.processCount + 1) × Free (λ y. (process y p).given.name) p.processCount x.given.name
+  Marked p (Created id x) = (id ≡ p.process_count + 1) × Free (λ y. (process y p).given.name) p.process_count x.given.name
   Marked p (Last id) = Unit {0}
-  Marked p (StoredSemaphore k s) = TakesName (λ y. (semaphore y p).name) p.semaphoreCount k s.name
-  Marked p (StoredEvent k s) = TakesName (λ y. (event y p).name) p.eventCount k s.name × ByCalls 18 19 p.eventCount k
-  Marked p (CreatedBuffer k name limit) = (k ≡ p.bufferCount + 1) × Free (λ y. (buffer y p).name) p.bufferCount name
-  Marked p (Moved k a) = Between 1 p.bufferCount k
-  Marked p (StoredBlackboard k s) = TakesName (λ y. (blackboard y p).name) p.blackboardCount k s.name × ByCalls 27 29 p.blackboardCount k
+  Marked p (StoredSemaphore k s) = TakesName (λ y. (semaphore y p).name) p.semaphore_count k s.name
+  Marked p (StoredEvent k s) = TakesName (λ y. (event y p).name) p.event_count k s.name × ByCalls 18 19 p.event_count k
+  Marked p (CreatedBuffer k name limit) = (k ≡ p.buffer_count + 1) × Free (λ y. (buffer y p).name) p.buffer_count name
+  Marked p (Moved k a) = Between 1 p.buffer_count k
+  Marked p (StoredBlackboard k s) = TakesName (λ y. (blackboard y p).name) p.blackboard_count k s.name × ByCalls 27 29 p.blackboard_count k
   Marked p (Ended o) = Unit {0}
   Marked p (Handed o m) = Unit {0}
   Marked p (LevelSet level holder) = Unit {0}
@@ -110,7 +110,7 @@ module _ (n : ℕ) (r : Request) where
   pub record Stores (p : Partition) (d : Decision) : Type 0 where
     pub is : Marks p d
 
-  pub signalled_marks : (p : Partition) (l : List ℕ) (k : ℕ) → Between 1 p.semaphoreCount k → Marked p (signalled l k p)
+  pub signalled_marks : (p : Partition) (l : List ℕ) (k : ℕ) → Between 1 p.semaphore_count k → Marked p (signalled l k p)
   unfolding signalled
   signalled_marks p [] k b = inl (b, refl)
   signalled_marks p (id ∷ l) k b = refl

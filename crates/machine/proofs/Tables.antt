@@ -49,11 +49,11 @@ pub record SoundDraft (n : ℕ) (d : Draft) : Type 0 where
   pub channels_size : length d.table.channels ≡ channel_limit
   pub announced : Between 1 window_limit d.windows
   pub announced_channels : d.channels ≤ channel_limit
-  pub left : d.table.windowCount + d.table.channelCount + n ≡ d.windows + d.channels
-  pub ordered : (d.table.windowCount ≤ d.windows) × (d.table.windowCount < d.windows → d.table.channelCount ≡ 0)
+  pub left : d.table.window_count + d.table.channel_count + n ≡ d.windows + d.channels
+  pub ordered : (d.table.window_count ≤ d.windows) × (d.table.window_count < d.windows → d.table.channel_count ≡ 0)
   pub each_window : SoundWindows 0 d.table.frame d.table.size (windows d.table)
   pub end : end_after 0 (windows d.table) ≡ d.previous
-  pub each_channel : (i : ℕ) → i < d.table.channelCount → SoundChannel d.table.size (channel d.table i)
+  pub each_channel : (i : ℕ) → i < d.table.channel_count → SoundChannel d.table.size (channel d.table i)
 
 pub window_sound : (d : Draft) (r : Row) → T.window_good d r ≡ true → SoundWindow d.previous d.table.frame d.table.size (T.window_of r)
 window_sound d r h =
@@ -91,15 +91,15 @@ channel_sound d r h =
     }
 
 -- one more window
-window_draft_holds : (n : ℕ) (d : Draft) (r : Row) → SoundDraft (suc n) d → d.table.windowCount < d.windows → T.window_good d r ≡ true → SoundDraft n (T.with_window d r)
+window_draft_holds : (n : ℕ) (d : Draft) (r : Row) → SoundDraft (suc n) d → d.table.window_count < d.windows → T.window_good d r ≡ true → SoundDraft n (T.with_window d r)
 window_draft_holds n d r s low h =
     let w = T.window_of r in
-    let more : take (d.table.windowCount + 1) (set d.table.windows d.table.windowCount w) ≡ windows d.table ++ (w ∷ []) =
-    rw add-one (take-suc-set d.table.windows d.table.windowCount w (omega (arith, s.windows_size, s.announced.1))) in
+    let more : take (d.table.window_count + 1) (set d.table.windows d.table.window_count w) ≡ windows d.table ++ (w ∷ []) =
+    rw add-one (take-suc-set d.table.windows d.table.window_count w (omega (arith, s.windows_size, s.announced.1))) in
     record {
       frame = s.frame;
       size = s.size;
-      windows_size = length-set d.table.windows d.table.windowCount w ∙ s.windows_size;
+      windows_size = length-set d.table.windows d.table.window_count w ∙ s.windows_size;
       channels_size = s.channels_size;
       announced = s.announced;
       announced_channels = s.announced_channels;
@@ -111,9 +111,9 @@ window_draft_holds n d r s low h =
     }
 
 -- one more channel
-channel_draft_holds : (n : ℕ) (d : Draft) (r : Row) → SoundDraft (suc n) d → d.windows ≤ d.table.windowCount → T.channel_good d r ≡ true → SoundDraft n (T.with_channel d r)
+channel_draft_holds : (n : ℕ) (d : Draft) (r : Row) → SoundDraft (suc n) d → d.windows ≤ d.table.window_count → T.channel_good d r ≡ true → SoundDraft n (T.with_channel d r)
 channel_draft_holds n d r s high h =
-    let c = d.table.channelCount in
+    let c = d.table.channel_count in
     let room : c < length d.table.channels = omega (arith, s.channels_size, s.announced_channels, s.left, s.ordered.0) in
     record {
       frame = s.frame;
@@ -129,9 +129,9 @@ channel_draft_holds n d r s high h =
       each_channel = λ i l. each i (eqb i c) refl l;
     }
   where
-    each : (i : ℕ) (b : Bool) → eqb i d.table.channelCount ≡ b → i < d.table.channelCount + 1 → SoundChannel d.table.size (get_or (set d.table.channels d.table.channelCount (T.channel_of r)) i no_channel)
-    each i true e l = rw (eqb-true i d.table.channelCount e, get_or-set_same d.table.channels d.table.channelCount (T.channel_of r) no_channel (omega (arith, s.channels_size, s.announced_channels, s.left, s.ordered.0))) (channel_sound d r h)
-    each i false e l = let ne = eqb-false i d.table.channelCount e in rw (get_or-set_other d.table.channels d.table.channelCount i (T.channel_of r) no_channel ne) (s.each_channel i (omega arith))
+    each : (i : ℕ) (b : Bool) → eqb i d.table.channel_count ≡ b → i < d.table.channel_count + 1 → SoundChannel d.table.size (get_or (set d.table.channels d.table.channel_count (T.channel_of r)) i no_channel)
+    each i true e l = rw (eqb-true i d.table.channel_count e, get_or-set_same d.table.channels d.table.channel_count (T.channel_of r) no_channel (omega (arith, s.channels_size, s.announced_channels, s.left, s.ordered.0))) (channel_sound d r h)
+    each i false e l = let ne = eqb-false i d.table.channel_count e in rw (get_or-set_other d.table.channels d.table.channel_count i (T.channel_of r) no_channel ne) (s.each_channel i (omega arith))
 
 -- what reading gives
 pub record TableRead (r : Reading) : Type 0 where
@@ -152,12 +152,12 @@ flagged_each (suc n) k ws h j lo hi =
     go false e f = f (eqb-false j k e)
 
 -- no line is left: every window of line 1 has been read
-windows_read : (d : Draft) → SoundDraft 0 d → d.table.windowCount ≡ d.windows
-windows_read d s = go (ltb d.table.windowCount d.windows) refl
+windows_read : (d : Draft) → SoundDraft 0 d → d.table.window_count ≡ d.windows
+windows_read d s = go (ltb d.table.window_count d.windows) refl
   where
-    go : (b : Bool) → ltb d.table.windowCount d.windows ≡ b → d.table.windowCount ≡ d.windows
-    go true e = let low = ltb-true d.table.windowCount d.windows e in let none = s.ordered.1 low in absurd (omega (arith, s.left))
-    go false e = omega (arith, ltb-false d.table.windowCount d.windows e, s.ordered.0)
+    go : (b : Bool) → ltb d.table.window_count d.windows ≡ b → d.table.window_count ≡ d.windows
+    go true e = let low = ltb-true d.table.window_count d.windows e in let none = s.ordered.1 low in absurd (omega (arith, s.left))
+    go false e = omega (arith, ltb-false d.table.window_count d.windows e, s.ordered.0)
 
 draft_table : (d : Draft) → SoundDraft 0 d → T.flagged_from d.table.size 1 (windows d.table) ≡ true → SoundTable d.table
 draft_table d s h =
@@ -166,9 +166,9 @@ draft_table d s h =
       frame = s.frame;
       size = s.size;
       windows_size = s.windows_size;
-      windowCount = (omega (arith, s.announced.0), omega (arith, s.announced.1));
+      window_count = (omega (arith, s.announced.0), omega (arith, s.announced.1));
       channels_size = s.channels_size;
-      channelCount = omega (arith, s.left, s.announced_channels);
+      channel_count = omega (arith, s.left, s.announced_channels);
       each_window = s.each_window;
       flagged = λ k b. flagged_each d.table.size 1 (windows d.table) h k b.0 (omega (arith, b.1));
       each_channel = s.each_channel;

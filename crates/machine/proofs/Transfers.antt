@@ -17,7 +17,7 @@ use Rattle.machine.specs.declared.Transfer.{Transfer}
 use Rattle.machine.specs.declared.Transfer.TheVariants.{HandedTo, LetIn}
 use Rattle.machine.specs.declared.Decision.TheVariants.{Passed}
 use Rattle.machine.specs.declared.Wait.TheVariants.{Source, Destination}
-use Rattle.machine.specs.declared.Time.TheVariants.{At}
+use Rattle.std.specs.Prelude.{Some}
 use Rattle.machine.specs.declared.Field.TheVariants.{Number}
 use Rattle.machine.specs.declared.Event.{Event as EventT}
 use Rattle.machine.specs.declared.Module.{Module}
@@ -48,7 +48,7 @@ use Rattle.machine.proofs.Ends.{channel_ends}
 place : (i : ℕ) → i + 1 - 1 ≡ i
 place i = omega arith
 
-module _ (m : Module) (k : ℕ) (u : SoundModule m) (h : Calling m k) (normal : (own m k).mode ≡ 3) (i : ℕ) (there : i < m.table.channelCount) (some : (channel m.table i).size ≡ 0 → ⊥) where
+module _ (m : Module) (k : ℕ) (u : SoundModule m) (h : Calling m k) (normal : (own m k).mode ≡ 3) (i : ℕ) (there : i < m.table.channel_count) (some : (channel m.table i).size ≡ 0 → ⊥) where
   abbrev p : Partition
   p = own m k
 
@@ -62,13 +62,13 @@ module _ (m : Module) (k : ℕ) (u : SoundModule m) (h : Calling m k) (normal : 
   few = let g = (u.table.each_channel i there).room in omega arith
 
   low : i < channel_limit
-  low = omega (arith, there, u.table.channelCount)
+  low = omega (arith, there, u.table.channel_count)
 
   number : field (pos (i + 1)) ≡ Number (i + 1)
   number = field_number (i + 1) (omega (arith, low))
 
-  exists : between 1 T.channelCount (Number (i + 1)) ≡ true
-  exists = rw (le-leb 1 (i + 1) (omega arith), le-leb (i + 1) T.channelCount (omega (arith, there)))
+  exists : between 1 T.channel_count (Number (i + 1)) ≡ true
+  exists = rw (le-leb 1 (i + 1) (omega arith), le-leb (i + 1) T.channel_count (omega (arith, there)))
 
   kind : queuing c ≡ true
   kind = queuing_plain T u.table i there ∙ either (ltb 0 c.size) (λ e. e) (λ e. absurd (some (omega (arith, ltb-false 0 c.size e))))
@@ -116,11 +116,11 @@ module _ (m : Module) (k : ℕ) (u : SoundModule m) (h : Calling m k) (normal : 
       abbrev sends : EventT
       sends = call_by k 30 (pos (i + 1)) (pos x) a (pos 0)
 
-      send_gives : (l : List ℕ) → waiters receivers (own m to) ≡ l → (queue m i).len < c.size → Gives m sends 0 0 (At 0) (passed k i (sent (get_or l 0 0) x) m)
+      send_gives : (l : List ℕ) → waiters receivers (own m to) ≡ l → (queue m i).len < c.size → Gives m sends 0 0 (Some 0) (passed k i (sent (get_or l 0 0) x) m)
       unfolding call_decision services stray_field send awaiting checked channel_checks
       send_gives l e room =
           gives m k u h 30 (pos (i + 1)) (pos x) a (pos 0) (omega arith) (omega arith) refl (Passed i (sent (get_or l 0 0) x) 0)
-          (rw (number, field_number x (omega arith), place i, exists, lt-ltb i T.channelCount there, kind, lt-ltb i channel_limit low, eq-eqb c.source k from, eq-eqb p.mode 3 normal, a_message x ok, time_out a t, lt-ltb (queue m i).len c.size room, e))
+          (rw (number, field_number x (omega arith), place i, exists, lt-ltb i T.channel_count there, kind, lt-ltb i channel_limit low, eq-eqb c.source k from, eq-eqb p.mode 3 normal, a_message x ok, time_out a t, lt-ltb (queue m i).len c.size room, e))
 
       send_first_holds : (id : ℕ) (rest : List ℕ) → waiters receivers (own m to) ≡ id ∷ rest
           → FirstServed m to sends receivers id rest x × (held (queue (step m sends).state i) ≡ messages) × (own (step m sends).state k ≡ own m k)
@@ -165,11 +165,11 @@ module _ (m : Module) (k : ℕ) (u : SoundModule m) (h : Calling m k) (normal : 
       value_is_holds : first (queue m i) ≡ x
       value_is_holds = queue_first c.size (queue m i) (u.each_queue i) ∙ ap (λ (r : List ℕ). get_or r 0 0) first_is
 
-      receive_gives : (w : List ℕ) → waiters senders (own m from) ≡ w → Gives m takes 0 x (At 0) (passed k i (received (get_or w 0 0) (carried (process (get_or w 0 0) (own m from)))) m)
+      receive_gives : (w : List ℕ) → waiters senders (own m from) ≡ w → Gives m takes 0 x (Some 0) (passed k i (received (get_or w 0 0) (carried (process (get_or w 0 0) (own m from)))) m)
       unfolding call_decision services stray_field receive awaiting checked channel_checks
       receive_gives w e =
           gives m k u h 31 (pos (i + 1)) a (pos 0) (pos 0) (omega arith) (omega arith) refl (Passed i (received (get_or w 0 0) (carried (process (get_or w 0 0) (own m from)))) x)
-          (rw (number, place i, exists, lt-ltb i T.channelCount there, kind, lt-ltb i channel_limit low, other, eq-eqb c.destination k to, eq-eqb p.mode 3 normal, time_out a t, lt-ltb 0 (queue m i).len held_some, e, value_is_holds))
+          (rw (number, place i, exists, lt-ltb i T.channel_count there, kind, lt-ltb i channel_limit low, other, eq-eqb c.destination k to, eq-eqb p.mode 3 normal, time_out a t, lt-ltb 0 (queue m i).len held_some, e, value_is_holds))
 
       receive_first_holds : (id : ℕ) (rest : List ℕ) → waiters senders (own m from) ≡ id ∷ rest
           → FirstServed m from takes senders id rest (has m from id) × ((step m takes).answer.value ≡ x) × (held (queue (step m takes).state i) ≡ l ++ (carried (process id (own m from)) ∷ [])) × (own (step m takes).state k ≡ own m k)
@@ -190,7 +190,7 @@ module _ (m : Module) (k : ℕ) (u : SoundModule m) (h : Calling m k) (normal : 
 
 -- a channel by its place, and its end
 module _ (m : Module) (k : ℕ) (h : Calling m k) (i : ℕ) (end : Channel → ℕ) (q : EndOf m.table end (i + 1) (k - 1)) where
-  is_there : i < m.table.channelCount
+  is_there : i < m.table.channel_count
   is_there = omega (arith, q.there.1)
 
   is_queuing : (channel m.table i).size ≡ 0 → ⊥

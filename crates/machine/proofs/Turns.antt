@@ -16,8 +16,8 @@ use Rattle.machine.specs.declared.Request.{Request}
 use Rattle.machine.specs.declared.Transfer.{Transfer}
 use Rattle.machine.specs.declared.Change.{Change}
 use Rattle.machine.specs.declared.Change.TheVariants.{Nothing, Stored, Created, Last, StoredSemaphore, StoredEvent, CreatedBuffer, Moved, StoredBlackboard, Ended, Handed, LevelSet, Entered}
-use Rattle.machine.specs.declared.Wait.TheVariants.{None, Normal, Period, Semaphore, Sending, Receiving}
-use Rattle.machine.specs.declared.Time.TheVariants.{Never}
+use Rattle.machine.specs.declared.Wait.TheVariants.{None as NoWait, Normal, Period, Semaphore, Sending, Receiving}
+use Rattle.std.specs.Prelude.{None}
 use Rattle.machine.specs.declared.Event.{Event as EventT}
 use Rattle.machine.specs.declared.Module.{Module}
 use Rattle.machine.specs.Limits.{process_limit, buffer_limit}
@@ -108,7 +108,7 @@ module _ (m : Module) (e : EventT) (k id : ℕ) (v : ListedIn (own m k)) (o : �
   waits_there h msg = Becomes.served (serves (eqb-true _ o (sym (waiters_exact (own m k) v o some id) ∙ h))) refl
 
   -- the wait of process w of the queue ends, in a partition that differs in no process
-  ended_is : (q : Partition) → Alike (own m k) q → ListedIn q → (w : ℕ) → Between 1 q.processCount w → contains w (waiters o (own m k)) ≡ true → (msg : ℕ) → Becomes m e 0 k id (process id (stored w (handed msg (process w q)) q))
+  ended_is : (q : Partition) → Alike (own m k) q → ListedIn q → (w : ℕ) → Between 1 q.process_count w → contains w (waiters o (own m k)) ≡ true → (msg : ℕ) → Becomes m e 0 k id (process id (stored w (handed msg (process w q)) q))
   ended_is q a u w b h msg = ⊎_elim
       (λ (z : id ≡ w).
       subst (Becomes m e 0 k id) (sym (ap (λ i. process i (stored w (handed msg (process w q)) q)) z ∙ process_stored q w (handed msg (process w q)) u b ∙ ap (λ i. handed msg (process i q)) (sym z) ∙ ap (handed msg) (alike_process (own m k) q a id)))
@@ -173,16 +173,16 @@ module _ (m : Module) (s : SoundModule m) (e : EventT) (k : ℕ) (id : ℕ) (n :
       let at = wait_is m.table.frame m.t p valid id kind (number_of r.a) some (omega (arith, a.1)) w in
       Service.here j (carried x) (calls j is) (at ∙ alike _ ∙ ap (λ i. served_by j i (carried x)) (sym (id_of_holds e.a (λ z. omega (arith, a.0))))) (λ z. omega (arith, w, ap object z))
 
-  few_semaphores : p.semaphoreCount ≤ 255
+  few_semaphores : p.semaphore_count ≤ 255
   few_semaphores = omega (arith, valid.objects.semaphores.numbered.few)
 
-  few_events : p.eventCount ≤ 255
+  few_events : p.event_count ≤ 255
   few_events = omega (arith, valid.objects.events.numbered.few)
 
-  few_buffers : p.bufferCount ≤ 255
+  few_buffers : p.buffer_count ≤ 255
   few_buffers = omega (arith, valid.objects.buffers.numbered.few)
 
-  few_blackboards : p.blackboardCount ≤ 255
+  few_blackboards : p.blackboard_count ≤ 255
   few_blackboards = omega (arith, valid.objects.blackboards.numbered.few)
 
   -- call j names no process
@@ -216,16 +216,16 @@ module _ (m : Module) (s : SoundModule m) (e : EventT) (k : ℕ) (id : ℕ) (n :
   put y b v (StoredBy.marks is a on off y_is) = to y_is (Becomes.suspended (of 7 is b a) on off refl)
   put y b v (StoredBy.resumes is a on marked y_is) =
       to y_is (by_test After (waits_for_nothing x.wait)
-      (λ t. Becomes.resumed (of 11 is b a) on marked (ap (λ w. with false Never 0 w x) (sym (for_none x.wait t))))
+      (λ t. Becomes.resumed (of 11 is b a) on marked (ap (λ w. with false None 0 w x) (sym (for_none x.wait t))))
       (λ _. Becomes.resumed (of 11 is b a) on marked refl))
   put y b v (StoredBy.prioritises is a on some y_is) = to y_is (Becomes.prioritised (of 12 is b a) on (ap (λ j. with_priority j x) (sym (id_of_holds e.b (λ z. omega arith)))))
-  put y b v (StoredBy.serves is known in_queue y_is) = let o = object (Semaphore (number_of r.a)) in to y_is (waits_there m e k id v o (λ z. omega arith) (serve 16 1 is (omega arith) p.semaphoreCount few_semaphores known (λ _. refl)) (off 16 is refl) in_queue x.message)
+  put y b v (StoredBy.serves is known in_queue y_is) = let o = object (Semaphore (number_of r.a)) in to y_is (waits_there m e k id v o (λ z. omega arith) (serve 16 1 is (omega arith) p.semaphore_count few_semaphores known (λ _. refl)) (off 16 is refl) in_queue x.message)
 
   -- the caller begins to wait, code 7
-  pub begin : (y : Process) → Valid m.table.frame m.t p → Between 1 p.processCount id → normal_mode p ≡ true → id ≡ running p → ready x ≡ true → BlockedBy r n x y → Becomes m e 7 k id y
+  pub begin : (y : Process) → Valid m.table.frame m.t p → Between 1 p.process_count id → normal_mode p ≡ true → id ≡ running p → ready x ≡ true → BlockedBy r n x y → Becomes m e 7 k id y
   begin y v b normal self on g = go g
     where
-      none : x.wait ≡ None
+      none : x.wait ≡ NoWait
       none = for_none x.wait (ap for_nothing (ready_parts x on).2)
 
       its : (j : ℕ) → n ≡ j → CallBy m e 7 k id j 7
@@ -246,12 +246,12 @@ module _ (m : Module) (s : SoundModule m) (e : EventT) (k : ℕ) (id : ℕ) (n :
   module _ (v : ListedIn p) where
     moved_turn : (j : ℕ) (a : Transfer) (q : Partition) → Alike p q → ListedIn q → SoundEnd q a → TransferBy r p n j a → After (process id (ended_by a q))
     moved_turn j a q al u h (TransferBy.sends is j-is known msg a_is) =
-        sent_is m e k id v (object (Receiving j)) (λ z. omega arith) (λ w. serve 24 4 is (omega arith) p.bufferCount few_buffers (rw (← j-is) known) (λ _. refl) (w ∙ ap (λ i. object (Receiving i)) j-is)) (off 24 is refl) q al u a msg a_is h
+        sent_is m e k id v (object (Receiving j)) (λ z. omega arith) (λ w. serve 24 4 is (omega arith) p.buffer_count few_buffers (rw (← j-is) known) (λ _. refl) (w ∙ ap (λ i. object (Receiving i)) j-is)) (off 24 is refl) q al u a msg a_is h
     moved_turn j a q al u h (TransferBy.receives is j-is known msg a_is) =
-        received_is m e k id v (object (Sending j 0)) (λ z. omega arith) (λ w. serve 25 3 is (omega arith) p.bufferCount few_buffers (rw (← j-is) known) (λ _. refl) (w ∙ ap (λ i. object (Sending i 0)) j-is)) (off 25 is refl) q al u a msg a_is h
+        received_is m e k id v (object (Sending j 0)) (λ z. omega arith) (λ w. serve 25 3 is (omega arith) p.buffer_count few_buffers (rw (← j-is) known) (λ _. refl) (w ∙ ap (λ i. object (Sending i 0)) j-is)) (off 25 is refl) q al u a msg a_is h
 
     -- several processes changed by f
-    all_turn : (f : Process → Process) (l : List ℕ) (q : Partition) → Alike p q → ListedIn q → AllCreated l q.processCount → Distinct l → (contains id l ≡ true → After (f x)) → (contains id l ≡ false → ActsElsewhere m e 0 k id) → After (process id (changed_all f l q))
+    all_turn : (f : Process → Process) (l : List ℕ) (q : Partition) → Alike p q → ListedIn q → AllCreated l q.process_count → Distinct l → (contains id l ≡ true → After (f x)) → (contains id l ≡ false → ActsElsewhere m e 0 k id) → After (process id (changed_all f l q))
     all_turn f l q a u all dis g none =
         to (changed_process f l q u all dis id)
         (by_test After (contains id l) (λ t. to (ap f (alike_process p q a id)) (g t)) (λ t. Becomes.same (none t) (alike_process p q a id)))
@@ -290,17 +290,17 @@ module _ (m : Module) (s : SoundModule m) (e : EventT) (k : ℕ) (id : ℕ) (n :
     turned (StoredBlackboard j y) q al u h g none = Becomes.same (none refl) (alike_process q (applied (StoredBlackboard j y) q) (untouched (StoredBlackboard j y) q refl) id ∙ alike_process p q al id)
     turned (Ended o) q al u h g none =
         all_turn served (waiters o q) q al u.lists (waiters_created q u.lists o) (waiters_distinct q u.lists o)
-        (λ t. waits_there m e k id v o (λ z. omega (arith, g.1)) (λ w. serve 18 2 g.0 (omega arith) p.eventCount few_events g.2 (λ _. refl) (w ∙ g.1)) (off 18 g.0 refl) (ap (contains id) (sym (alike_waiters p q al o)) ∙ t) x.message)
+        (λ t. waits_there m e k id v o (λ z. omega (arith, g.1)) (λ w. serve 18 2 g.0 (omega arith) p.event_count few_events g.2 (λ _. refl) (w ∙ g.1)) (off 18 g.0 refl) (ap (contains id) (sym (alike_waiters p q al o)) ∙ t) x.message)
         (λ _. off 18 g.0 refl)
     turned (Handed o msg) q al u h g none =
         all_turn (handed msg) (waiters o q) q al u.lists (waiters_created q u.lists o) (waiters_distinct q u.lists o)
-        (λ t. waits_there m e k id v o (λ z. omega (arith, g.1)) (λ w. serve 27 5 g.0 (omega arith) p.blackboardCount few_blackboards g.2 (λ _. refl) (w ∙ g.1)) (off 27 g.0 refl) (ap (contains id) (sym (alike_waiters p q al o)) ∙ t) msg)
+        (λ t. waits_there m e k id v o (λ z. omega (arith, g.1)) (λ w. serve 27 5 g.0 (omega arith) p.blackboard_count few_blackboards g.2 (λ _. refl) (w ∙ g.1)) (off 27 g.0 refl) (ap (contains id) (sym (alike_waiters p q al o)) ∙ t) msg)
         (λ _. off 27 g.0 refl)
     turned (LevelSet level holder) q al u h g none = Becomes.same (none refl) (alike_process p q al id)
     turned (Entered d) q al u h g none =
         let w = with_mode 3 q in
-        to (ap (process id) (each_changed (entered d) q.processCount 1 w))
-        (all_turn (entered d) (ids_from q.processCount 1) w (record { processes = al.processes; waiting = al.waiting }) u.lists (λ y t. let b = from_range q.processCount 1 y t in (b.0, omega arith)) (distinct_from q.processCount 1)
+        to (ap (process id) (each_changed (entered d) q.process_count 1 w))
+        (all_turn (entered d) (ids_from q.process_count 1) w (record { processes = al.processes; waiting = al.waiting }) u.lists (λ y t. let b = from_range q.process_count 1 y t in (b.0, omega arith)) (distinct_from q.process_count 1)
         (λ _. ⊎_elim
         (λ (b : (x.wait ≡ Normal) × Begun x (entered d x) x.current x.suspended). Becomes.entered (record { call = calls 1 g.0; is = number_is e.a 3 g.1; waits = b.0 }) b.1.is b.1.wait)
         (λ (z : (x.wait ≡ Normal → ⊥) × (entered d x ≡ x)). Becomes.same (entering g.0 g.1 z.0) z.1)

@@ -8,7 +8,7 @@ use Rattle.machine.specs.declared.Change.TheVariants.{Nothing, StoredBlackboard,
 use Rattle.machine.specs.declared.Decision.{Decision}
 use Rattle.machine.specs.declared.Decision.TheVariants.{Refused, Unchanged, Changed}
 use Rattle.machine.specs.declared.Wait.TheVariants.{Blackboard}
-use Rattle.machine.specs.declared.Time.TheVariants.{At}
+use Rattle.std.specs.Prelude.{Some}
 use Rattle.machine.specs.declared.Field.{Field}
 use Rattle.machine.specs.Limits.{blackboard_limit}
 use Rattle.machine.specs.Fields.{is_name, is_message, number_of}
@@ -23,8 +23,8 @@ blackboard_named name l = name_taken (λ (x : BlackboardT). x.name) name l
 unfoldable pub create_blackboard : Field → Partition → Decision
 create_blackboard name p =
     checked Refused
-    (creation_checks (leb blackboard_limit p.blackboardCount) (blackboard_named name (take p.blackboardCount p.blackboards)) (is_name name) (normal_mode p))
-    (Changed (StoredBlackboard (p.blackboardCount + 1) (empty_blackboard (number_of name))) Nothing (p.blackboardCount + 1))
+    (creation_checks (leb blackboard_limit p.blackboard_count) (blackboard_named name (take p.blackboard_count p.blackboards)) (is_name name) (normal_mode p))
+    (Changed (StoredBlackboard (p.blackboard_count + 1) (empty_blackboard (number_of name))) Nothing (p.blackboard_count + 1))
 
 -- blackboard k shows this message, or none
 abbrev pub showing : ℕ → ℕ → Partition → Change
@@ -38,7 +38,7 @@ cleared k p = StoredBlackboard k (empty_blackboard (blackboard k p).name)
 unfoldable pub show : ℕ → Field → Partition → Decision
 show k m p =
     checked Refused
-    ((unknown k p.blackboardCount, 3)
+    ((unknown k p.blackboard_count, 3)
     ∷ (not (is_message m), 3)
     ∷ [])
     (Changed (showing k (number_of m) p) (Handed (object (Blackboard k)) (number_of m)) 0)
@@ -46,12 +46,12 @@ show k m p =
 -- 28 READ_BLACKBOARD id, time-out. Readers of an empty blackboard wait. A message read is the value.
 unfoldable pub read_blackboard : Context → ℕ → Field → Partition → Decision
 read_blackboard c k a p =
-    awaiting c ((unknown k p.blackboardCount, 3) ∷ []) true [] a
-    (blackboard k p).shown (Unchanged (blackboard k p).message (At 0)) (Blackboard k) p
+    awaiting c ((unknown k p.blackboard_count, 3) ∷ []) true [] a
+    (blackboard k p).shown (Unchanged (blackboard k p).message (Some 0)) (Blackboard k) p
 
 -- 29 CLEAR id.
 unfoldable pub clear : ℕ → Partition → Decision
 clear k p =
     checked Refused
-    ((unknown k p.blackboardCount, 3) ∷ [])
+    ((unknown k p.blackboard_count, 3) ∷ [])
     (changed (cleared k p))

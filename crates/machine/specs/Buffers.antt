@@ -22,9 +22,9 @@ buffer_named name l = name_taken (λ (x : Buffer). x.name) name l
 unfoldable pub create_buffer : Field → Field → Partition → Decision
 create_buffer name limit p =
     checked Refused
-    (creation_checks (leb buffer_limit p.bufferCount) (buffer_named name (take p.bufferCount p.buffers))
+    (creation_checks (leb buffer_limit p.buffer_count) (buffer_named name (take p.buffer_count p.buffers))
     (is_name name && between 1 message_limit limit) (normal_mode p))
-    (Changed (CreatedBuffer (p.bufferCount + 1) (number_of name) (number_of limit)) Nothing (p.bufferCount + 1))
+    (Changed (CreatedBuffer (p.buffer_count + 1) (number_of name) (number_of limit)) Nothing (p.buffer_count + 1))
 
 -- there is room for one more message; there is a message
 abbrev pub has_room : Buffer → Bool
@@ -36,7 +36,7 @@ holds b = ltb 0 b.queue.len
 -- 24 SEND_BUFFER id, message, time-out. A bad message is 3 beside the time-out's 3. Its senders wait when it is full.
 unfoldable pub send_buffer : Context → ℕ → Field → Field → Partition → Decision
 send_buffer c k m a p =
-    awaiting c ((unknown k p.bufferCount, 3) ∷ []) (is_message m) [] a
+    awaiting c ((unknown k p.buffer_count, 3) ∷ []) (is_message m) [] a
     (has_room (buffer k p)) (changed (Moved k (sent (first_waiter (object (Receiving k)) p) (number_of m)))) (Sending k (number_of m)) p
 
 -- the first waiting sender's message is let in; a message received is the value
@@ -46,5 +46,5 @@ receives sender k p = Changed (Moved k (received sender (carried (process sender
 -- 25 RECEIVE_BUFFER id, time-out. Its receivers wait when it is empty.
 unfoldable pub receive_buffer : Context → ℕ → Field → Partition → Decision
 receive_buffer c k a p =
-    awaiting c ((unknown k p.bufferCount, 3) ∷ []) true [] a
+    awaiting c ((unknown k p.buffer_count, 3) ∷ []) true [] a
     (holds (buffer k p)) (receives (first_waiter (object (Sending k 0)) p) k p) (Receiving k) p

@@ -9,8 +9,8 @@ use Rattle.machine.specs.declared.Decision.{Decision}
 use Rattle.machine.specs.declared.Decision.TheVariants.{Refused, Unchanged, Changed, Restarted}
 use Rattle.machine.specs.declared.Request.{Request}
 use Rattle.machine.specs.declared.Wait.TheVariants.{Timed}
-use Rattle.machine.specs.declared.Time.{Time}
-use Rattle.machine.specs.declared.Time.TheVariants.{Never, At}
+use Rattle.machine.specs.Time.{Time}
+use Rattle.std.specs.Prelude.{None, Some}
 use Rattle.machine.specs.declared.Field.{Field}
 use Rattle.machine.specs.Limits.{process_limit, priority_limit, mode_limit, level_limit, duration_limit}
 use Rattle.machine.specs.Fields.{is_number, between, is_duration, is_minus_one, is_timeout, is_name, number_of, time_of}
@@ -26,7 +26,7 @@ set_mode c a p =
     ((not (between 0 mode_limit a), 3)
     ∷ (is_number 3 a && normal_mode p, 1)
     ∷ (is_number 2 a && eqb p.mode 1, 5)
-    ∷ (is_number 3 a && eqb p.processCount 0, 5)
+    ∷ (is_number 3 a && eqb p.process_count 0, 5)
     ∷ [])
     (cond (is_number 3 a) (changed (Entered c)) (Restarted (number_of a)))
 
@@ -58,13 +58,13 @@ admissible c r =
 unfoldable pub create_process : Context → Request → Partition → Decision
 create_process c r p =
     checked Refused
-    (creation_checks (leb process_limit p.processCount) (process_named r.a (take p.processCount p.processes)) (admissible c r) (normal_mode p))
-    (Changed (Created (p.processCount + 1) (created_process (record { name = number_of r.a; base = number_of r.b; period = time_of r.c; capacity = time_of r.e }))) Nothing (p.processCount + 1))
+    (creation_checks (leb process_limit p.process_count) (process_named r.a (take p.process_count p.processes)) (admissible c r) (normal_mode p))
+    (Changed (Created (p.process_count + 1) (created_process (record { name = number_of r.a; base = number_of r.b; period = time_of r.c; capacity = time_of r.e }))) Nothing (p.process_count + 1))
 
 -- periodic and delay ≥ period
 abbrev pub reaches : Time → ℕ → Bool
-reaches Never delay = false
-reaches (At period) delay = leb period delay
+reaches None delay = false
+reaches (Some period) delay = leb period delay
 
 -- 3 START id; 4 DELAYED_START id, delay. 3: delay not in D, or periodic and delay ≥ period. 1: not DORMANT. In NORMAL: start rule. Else
 -- priority, marks, wake code as there; waits for NORMAL; only here the delay field is set, by START to 0.
@@ -72,7 +72,7 @@ unfoldable pub start : Context → ℕ → Field → Partition → Decision
 start c id delay p =
     let x = process id p in
     checked Refused
-    ((unknown id p.processCount, 3)
+    ((unknown id p.process_count, 3)
     ∷ (not (is_duration delay) || reaches x.given.period (number_of delay), 3)
     ∷ (not (dormant x), 1)
     ∷ [])
@@ -82,7 +82,7 @@ start c id delay p =
 unfoldable pub stop : Context → ℕ → Partition → Decision
 stop c id p =
     checked Refused
-    ((unknown id p.processCount, 3)
+    ((unknown id p.process_count, 3)
     ∷ (eqb id c.caller, 3)
     ∷ (dormant (process id p), 1)
     ∷ [])
@@ -99,7 +99,7 @@ stop_self c p =
 unfoldable pub suspend : Context → ℕ → Partition → Decision
 suspend c id p =
     checked Refused
-    ((unknown id p.processCount, 3)
+    ((unknown id p.process_count, 3)
     ∷ (eqb id c.caller, 3)
     ∷ (dormant (process id p) || periodic (process id p), 5)
     ∷ ((process id p).suspended, 1)
@@ -117,7 +117,7 @@ suspend_self c a p =
     ∷ [])
     (cond (is_number 0 a)
     unchanged
-    (blocked p.level c.caller (suspended_until (later (At c.time) (time_of a)) (process c.caller p))))
+    (blocked p.level c.caller (suspended_until (later (Some c.time) (time_of a)) (process c.caller p))))
 
 -- 9 TIMED_WAIT a. 5: start mode. 3: not in D. 5: preemption is locked, time 0 included. a = 0: caller goes to the end of the arrival list; else
 -- waits timed, w = t + a, code 7.
@@ -127,7 +127,7 @@ timed_wait c a p =
     ((start_mode p, 5) ∷ (not (is_duration a), 3) ∷ (locked p.level, 5) ∷ [])
     (cond (is_number 0 a)
     (changed (Last c.caller))
-    (blocked p.level c.caller (waiting_for Timed (later (At c.time) (time_of a)) (process c.caller p))))
+    (blocked p.level c.caller (waiting_for Timed (later (Some c.time) (time_of a)) (process c.caller p))))
 
 -- 10 PERIODIC_WAIT. 5: start mode or aperiodic. r rises by period; w = r, d = r + capacity or −1; waits, code 7, even if r ≤ t; 5 while
 -- preemption is locked.
@@ -141,7 +141,7 @@ periodic_wait c p =
 unfoldable pub resume : Context → ℕ → Partition → Decision
 resume c id p =
     checked Refused
-    ((unknown id p.processCount, 3)
+    ((unknown id p.process_count, 3)
     ∷ (eqb id c.caller, 3)
     ∷ (dormant (process id p) || periodic (process id p), 5)
     ∷ (not (process id p).suspended, 1)
@@ -152,7 +152,7 @@ resume c id p =
 unfoldable pub set_priority : ℕ → Field → Partition → Decision
 set_priority id a p =
     checked Refused
-    ((unknown id p.processCount, 3)
+    ((unknown id p.process_count, 3)
     ∷ (not (is_priority a), 3)
     ∷ (dormant (process id p), 5)
     ∷ [])
@@ -166,7 +166,7 @@ status c id x = cond (dormant x) 0 (cond (eqb id c.caller) 2 (cond (ready x) 1 3
 unfoldable pub get_status : Context → ℕ → Partition → Decision
 get_status c id p =
     checked Refused
-    ((unknown id p.processCount, 3) ∷ [])
+    ((unknown id p.process_count, 3) ∷ [])
     (Unchanged (status c id (process id p)) (process id p).times.deadline)
 
 -- 32 LOCK_PREEMPTION. 1: outside NORMAL. 4: at 16 (bound: or above). The level rises by one; the process that raised it from 0 is the holder.
@@ -189,4 +189,4 @@ unlock_preemption p =
 
 -- 34 GET_TICKS_LEFT. Value the ticks left in the window; in every mode.
 unfoldable pub get_ticks_left : Context → Decision
-get_ticks_left c = Unchanged c.left (At 0)
+get_ticks_left c = Unchanged c.left (Some 0)

@@ -14,8 +14,8 @@ use Rattle.machine.specs.declared.Decision.TheVariants.{Refused, Unchanged, Writ
 use Rattle.machine.specs.declared.Partition.{Partition}
 use Rattle.machine.specs.declared.Request.{Request}
 use Rattle.machine.specs.declared.Table.{Table}
-use Rattle.machine.specs.declared.Time.{Time}
-use Rattle.machine.specs.declared.Time.TheVariants.{At}
+use Rattle.machine.specs.Time.{Time}
+use Rattle.std.specs.Prelude.{Some}
 use Rattle.machine.specs.declared.Wait.TheVariants.{Source, Destination}
 use Rattle.machine.specs.declared.Field.{Field}
 use Rattle.machine.specs.Limits.{partition_limit, channel_limit}
@@ -33,7 +33,7 @@ queuing c = ltb 0 c.size && (within partition_limit c.source && within partition
 
 -- there is a channel number i + 1, and it is queuing
 abbrev pub queuing_at : Table → ℕ → Bool
-queuing_at T i = ltb i T.channelCount && queuing (channel T i)
+queuing_at T i = ltb i T.channel_count && queuing (channel T i)
 
 -- what is seen at partition k of a channel that holds x: the message at the destination alone
 abbrev pub seen_at : ℕ → Channel → Message → Message
@@ -70,7 +70,7 @@ traffic_at m k i =
 abbrev pub port_at : Table → ℕ → Field → Message → Traffic → Port
 port_at T k a x y =
     let i = number_of a - 1 in
-    record { own = k; place = i; exists = between 1 T.channelCount a; channel = channel T i; message = seen_at k (channel T i) x; traffic = y }
+    record { own = k; place = i; exists = between 1 T.channel_count a; channel = channel T i; message = seen_at k (channel T i) x; traffic = y }
 
 abbrev pub port_of : Module → ℕ → Request → Port
 port_of m k r = let i = number_of r.a - 1 in port_at m.table k r.a (message m i) (traffic_at m k i)
@@ -94,7 +94,7 @@ write c x a =
 
 -- extra 1 if t − written ≤ refresh, else 0
 abbrev pub freshness : ℕ → Message → Channel → Time
-freshness t x c = At (cond (leb (t - x.written) c.refresh) 1 0)
+freshness t x c = Some (cond (leb (t - x.written) c.refresh) 1 0)
 
 -- 22 READ channel. Same 3; 5: not its destination. 1: no message. Value a, extra 1 if t − written ≤ refresh, else 0.
 unfoldable pub read : Context → Port → Decision

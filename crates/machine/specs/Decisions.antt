@@ -10,8 +10,8 @@ use Rattle.machine.specs.declared.Change.TheVariants.{Nothing}
 use Rattle.machine.specs.declared.Decision.{Decision}
 use Rattle.machine.specs.declared.Decision.TheVariants.{Refused, Unchanged, Ticked, Blocked, Changed, Restarted, Written, Passed}
 use Rattle.machine.specs.declared.Wait.{Wait}
-use Rattle.machine.specs.declared.Time.{Time}
-use Rattle.machine.specs.declared.Time.TheVariants.{At}
+use Rattle.machine.specs.Time.{Time}
+use Rattle.std.specs.Prelude.{Some}
 use Rattle.machine.specs.declared.Field.{Field}
 use Rattle.machine.specs.Fields.{is_number, is_timeout, time_of}
 use Rattle.machine.specs.Process.{later, waiting_for}
@@ -19,7 +19,7 @@ use Rattle.machine.specs.Partition.{idle_mode, normal_mode, locked, process}
 
 -- Code, value and extra are 0 unless named.
 abbrev pub coded : ℕ → Reply
-coded code = record { code = code; value = 0; extra = At 0 }
+coded code = record { code = code; value = 0; extra = Some 0 }
 
 abbrev pub valued : ℕ → Time → Reply
 valued value extra = record { code = 0; value = value; extra = extra }
@@ -43,10 +43,10 @@ reply_of (Refused code) = coded code
 reply_of (Unchanged value extra) = valued value extra
 reply_of Ticked = coded 0
 reply_of (Blocked id x) = coded 7
-reply_of (Changed a b value) = valued value (At 0)
+reply_of (Changed a b value) = valued value (Some 0)
 reply_of (Restarted mode) = coded 0
 reply_of (Written i x) = coded 0
-reply_of (Passed i a value) = valued value (At 0)
+reply_of (Passed i a value) = valued value (Some 0)
 
 -- code 0 and one change
 abbrev pub changed : Change → Decision
@@ -54,7 +54,7 @@ changed a = Changed a Nothing 0
 
 -- code 0, nothing changes
 abbrev pub unchanged : Decision
-unchanged = Unchanged 0 (At 0)
+unchanged = Unchanged 0 (Some 0)
 
 -- the only place that gives code 7: the process has the record x, in which it waits. While preemption is locked, a call that would give 7 gives 5.
 unfoldable pub blocked : ℕ → ℕ → Process → Decision
@@ -94,7 +94,7 @@ unfoldable pub queued : Context → Field → Wait → Partition → Decision
 queued c a w p =
     checked Refused
     ((is_number 0 a, 2) ∷ [])
-    (blocked p.level c.caller (waiting_for w (later (At c.time) (time_of a)) (process c.caller p)))
+    (blocked p.level c.caller (waiting_for w (later (Some c.time) (time_of a)) (process c.caller p)))
 
 -- a call that waits for the object that w names, with time-out a: its checks; where it need not wait, success; else it is queued
 unfoldable pub awaiting : Context → List (Bool × ℕ) → Bool → List (Bool × ℕ) → Field → Bool → Decision → Wait → Partition → Decision

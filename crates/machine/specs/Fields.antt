@@ -1,7 +1,7 @@
 -- The numbers of an event or a table line, as the rules look at them.
 use Rattle.std.specs.Prelude.{ℕ, zero, suc, Bool, true, false, cond, ◌&&◌, ◌||◌, leb, eqb, ℤ, pos, negsuc}
-use Rattle.machine.specs.declared.Time.{Time}
-use Rattle.machine.specs.declared.Time.TheVariants.{Never, At}
+use Rattle.machine.specs.Time.{Time}
+use Rattle.std.specs.Prelude.{None, Some}
 use Rattle.machine.specs.declared.Field.{Field}
 use Rattle.machine.specs.declared.Field.TheVariants.{Number, MinusOne, Other}
 use Rattle.machine.specs.declared.Event.{Event}
@@ -61,6 +61,6 @@ number_of Other = 0
 
 -- −1 means never
 abbrev pub time_of : Field → Time
-time_of (Number n) = At n
-time_of MinusOne = Never
-time_of Other = Never
+time_of (Number n) = Some n
+time_of MinusOne = None
+time_of Other = None

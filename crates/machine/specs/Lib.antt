@@ -1,4 +1,5 @@
 pub mod Limits
+pub mod Time
 pub mod Fields
 pub mod Ids
 pub mod Messages

@@ -23,15 +23,15 @@ no_partition = record {
   level = 0;
   holder = 0;
   processes = [];
-  processCount = 0;
+  process_count = 0;
   semaphores = [];
-  semaphoreCount = 0;
+  semaphore_count = 0;
   events = [];
-  eventCount = 0;
+  event_count = 0;
   buffers = [];
-  bufferCount = 0;
+  buffer_count = 0;
   blackboards = [];
-  blackboardCount = 0;
+  blackboard_count = 0;
   arrival = record { items = []; len = 0 };
   waiting = record { items = []; len = 0 };
 }
@@ -41,9 +41,9 @@ empty_table = record {
   frame = 0;
   size = 0;
   windows = replicate window_limit no_window;
-  windowCount = 0;
+  window_count = 0;
   channels = replicate channel_limit no_channel;
-  channelCount = 0;
+  channel_count = 0;
 }
 
 -- no module: an empty record, M, P and all else 0

@@ -29,16 +29,16 @@ event_named name l = name_taken (λ (x : EventState). x.name) name l
 unfoldable pub create_semaphore : Request → Partition → Decision
 create_semaphore r p =
     checked Refused
-    (creation_checks (leb semaphore_limit p.semaphoreCount) (semaphore_named r.a (take p.semaphoreCount p.semaphores))
+    (creation_checks (leb semaphore_limit p.semaphore_count) (semaphore_named r.a (take p.semaphore_count p.semaphores))
     (is_name r.a && (between 1 value_limit r.c && between 0 (number_of r.c) r.b)) (normal_mode p))
-    (Changed (StoredSemaphore (p.semaphoreCount + 1) (record { name = number_of r.a; value = number_of r.b; max = number_of r.c })) Nothing (p.semaphoreCount + 1))
+    (Changed (StoredSemaphore (p.semaphore_count + 1) (record { name = number_of r.a; value = number_of r.b; max = number_of r.c })) Nothing (p.semaphore_count + 1))
 
 -- 17 CREATE_EVENT name (DOWN): as 14.
 unfoldable pub create_event : Field → Partition → Decision
 create_event name p =
     checked Refused
-    (creation_checks (leb event_limit p.eventCount) (event_named name (take p.eventCount p.events)) (is_name name) (normal_mode p))
-    (Changed (StoredEvent (p.eventCount + 1) (record { name = number_of name; up = false })) Nothing (p.eventCount + 1))
+    (creation_checks (leb event_limit p.event_count) (event_named name (take p.event_count p.events)) (is_name name) (normal_mode p))
+    (Changed (StoredEvent (p.event_count + 1) (record { name = number_of name; up = false })) Nothing (p.event_count + 1))
 
 -- semaphore k with this value, event k UP or DOWN
 abbrev pub with_value : ℕ → ℕ → Partition → Change
@@ -50,13 +50,13 @@ with_up k up p = StoredEvent k (record { name = (event k p).name; up = up })
 -- 15 WAIT_SEMAPHORE id, a. 5: start mode. 3: a not in T. Value > 0: one less, code 0.
 unfoldable pub wait_semaphore : Context → ℕ → Field → Partition → Decision
 wait_semaphore c k a p =
-    awaiting c ((unknown k p.semaphoreCount, 3) ∷ []) true [] a
+    awaiting c ((unknown k p.semaphore_count, 3) ∷ []) true [] a
     (ltb 0 (semaphore k p).value) (changed (with_value k ((semaphore k p).value - 1) p)) (Semaphore k) p
 
 -- 20 WAIT_EVENT id, a: as 15; event UP: code 0.
 unfoldable pub wait_event : Context → ℕ → Field → Partition → Decision
 wait_event c k a p =
-    awaiting c ((unknown k p.eventCount, 3) ∷ []) true [] a
+    awaiting c ((unknown k p.event_count, 3) ∷ []) true [] a
     (event k p).up unchanged (Event k) p
 
 -- bound: a value past the greatest one is the greatest
@@ -72,7 +72,7 @@ signalled (id ∷ l) k p = Stored id (served (process id p))
 unfoldable pub signal : ℕ → Partition → Decision
 signal k p =
     checked Refused
-    ((unknown k p.semaphoreCount, 3)
+    ((unknown k p.semaphore_count, 3)
     ∷ (eqb (semaphore k p).value (semaphore k p).max, 1)
     ∷ [])
     (changed (signalled (waiters (object (Semaphore k)) p) k p))
@@ -81,12 +81,12 @@ signal k p =
 unfoldable pub set_event : ℕ → Partition → Decision
 set_event k p =
     checked Refused
-    ((unknown k p.eventCount, 3) ∷ [])
+    ((unknown k p.event_count, 3) ∷ [])
     (Changed (with_up k true p) (Ended (object (Event k))) 0)
 
 -- 19 RESET_EVENT id: DOWN.
 unfoldable pub reset_event : ℕ → Partition → Decision
 reset_event k p =
     checked Refused
-    ((unknown k p.eventCount, 3) ∷ [])
+    ((unknown k p.event_count, 3) ∷ [])
     (changed (with_up k false p))

@@ -57,15 +57,15 @@ nothing_created mode = record {
   level = 0;
   holder = 0;
   processes = replicate process_limit blank_process;
-  processCount = 0;
+  process_count = 0;
   semaphores = replicate semaphore_limit no_semaphore;
-  semaphoreCount = 0;
+  semaphore_count = 0;
   events = replicate event_limit no_event;
-  eventCount = 0;
+  event_count = 0;
   buffers = replicate buffer_limit no_buffer;
-  bufferCount = 0;
+  buffer_count = 0;
   blackboards = replicate blackboard_limit no_blackboard;
-  blackboardCount = 0;
+  blackboard_count = 0;
   arrival = ids_of [];
   waiting = ids_of [];
 }
@@ -103,15 +103,15 @@ with_mode_and_lock mode level holder p = record {
   level = level;
   holder = holder;
   processes = p.processes;
-  processCount = p.processCount;
+  process_count = p.process_count;
   semaphores = p.semaphores;
-  semaphoreCount = p.semaphoreCount;
+  semaphore_count = p.semaphore_count;
   events = p.events;
-  eventCount = p.eventCount;
+  event_count = p.event_count;
   buffers = p.buffers;
-  bufferCount = p.bufferCount;
+  buffer_count = p.buffer_count;
   blackboards = p.blackboards;
-  blackboardCount = p.blackboardCount;
+  blackboard_count = p.blackboard_count;
   arrival = p.arrival;
   waiting = p.waiting;
 }
@@ -129,15 +129,15 @@ with_processes l n a w p = record {
   level = p.level;
   holder = p.holder;
   processes = l;
-  processCount = n;
+  process_count = n;
   semaphores = p.semaphores;
-  semaphoreCount = p.semaphoreCount;
+  semaphore_count = p.semaphore_count;
   events = p.events;
-  eventCount = p.eventCount;
+  event_count = p.event_count;
   buffers = p.buffers;
-  bufferCount = p.bufferCount;
+  buffer_count = p.buffer_count;
   blackboards = p.blackboards;
-  blackboardCount = p.blackboardCount;
+  blackboard_count = p.blackboard_count;
   arrival = a;
   waiting = w;
 }
@@ -148,15 +148,15 @@ with_semaphores l n p = record {
   level = p.level;
   holder = p.holder;
   processes = p.processes;
-  processCount = p.processCount;
+  process_count = p.process_count;
   semaphores = l;
-  semaphoreCount = n;
+  semaphore_count = n;
   events = p.events;
-  eventCount = p.eventCount;
+  event_count = p.event_count;
   buffers = p.buffers;
-  bufferCount = p.bufferCount;
+  buffer_count = p.buffer_count;
   blackboards = p.blackboards;
-  blackboardCount = p.blackboardCount;
+  blackboard_count = p.blackboard_count;
   arrival = p.arrival;
   waiting = p.waiting;
 }
@@ -167,15 +167,15 @@ with_events l n p = record {
   level = p.level;
   holder = p.holder;
   processes = p.processes;
-  processCount = p.processCount;
+  process_count = p.process_count;
   semaphores = p.semaphores;
-  semaphoreCount = p.semaphoreCount;
+  semaphore_count = p.semaphore_count;
   events = l;
-  eventCount = n;
+  event_count = n;
   buffers = p.buffers;
-  bufferCount = p.bufferCount;
+  buffer_count = p.buffer_count;
   blackboards = p.blackboards;
-  blackboardCount = p.blackboardCount;
+  blackboard_count = p.blackboard_count;
   arrival = p.arrival;
   waiting = p.waiting;
 }
@@ -186,15 +186,15 @@ with_buffers l n p = record {
   level = p.level;
   holder = p.holder;
   processes = p.processes;
-  processCount = p.processCount;
+  process_count = p.process_count;
   semaphores = p.semaphores;
-  semaphoreCount = p.semaphoreCount;
+  semaphore_count = p.semaphore_count;
   events = p.events;
-  eventCount = p.eventCount;
+  event_count = p.event_count;
   buffers = l;
-  bufferCount = n;
+  buffer_count = n;
   blackboards = p.blackboards;
-  blackboardCount = p.blackboardCount;
+  blackboard_count = p.blackboard_count;
   arrival = p.arrival;
   waiting = p.waiting;
 }
@@ -205,15 +205,15 @@ with_blackboards l n p = record {
   level = p.level;
   holder = p.holder;
   processes = p.processes;
-  processCount = p.processCount;
+  process_count = p.process_count;
   semaphores = p.semaphores;
-  semaphoreCount = p.semaphoreCount;
+  semaphore_count = p.semaphore_count;
   events = p.events;
-  eventCount = p.eventCount;
+  event_count = p.event_count;
   buffers = p.buffers;
-  bufferCount = p.bufferCount;
+  buffer_count = p.buffer_count;
   blackboards = l;
-  blackboardCount = n;
+  blackboard_count = n;
   arrival = p.arrival;
   waiting = p.waiting;
 }
@@ -225,25 +225,25 @@ unfoldable pub stored : ℕ → Process → Partition → Partition
 stored id x p =
     let old = process id p in
     cond (within process_limit id)
-    (with_processes (replaced process_limit id x p.processes) p.processCount
+    (with_processes (replaced process_limit id x p.processes) p.process_count
     (follow (ready old) (ready x) id p.arrival)
     (follow (on_object old) (on_object x) id p.waiting) p)
     p
 
 -- semaphore k has this record from now on; the next one is created by it. Bound: no such id changes nothing.
 unfoldable pub stored_semaphore : ℕ → SemaphoreT → Partition → Partition
-stored_semaphore k s p = cond (within semaphore_limit k) (with_semaphores (replaced semaphore_limit k s p.semaphores) (max p.semaphoreCount k) p) p
+stored_semaphore k s p = cond (within semaphore_limit k) (with_semaphores (replaced semaphore_limit k s p.semaphores) (max p.semaphore_count k) p) p
 
 -- event k, the same way
 unfoldable pub stored_event : ℕ → EventState → Partition → Partition
-stored_event k e p = cond (within event_limit k) (with_events (replaced event_limit k e p.events) (max p.eventCount k) p) p
+stored_event k e p = cond (within event_limit k) (with_events (replaced event_limit k e p.events) (max p.event_count k) p) p
 
 -- buffer k, blackboard k
 unfoldable pub stored_buffer : ℕ → Buffer → Partition → Partition
-stored_buffer k b p = cond (within buffer_limit k) (with_buffers (replaced buffer_limit k b p.buffers) (max p.bufferCount k) p) p
+stored_buffer k b p = cond (within buffer_limit k) (with_buffers (replaced buffer_limit k b p.buffers) (max p.buffer_count k) p) p
 
 unfoldable pub stored_blackboard : ℕ → BlackboardT → Partition → Partition
-stored_blackboard k b p = cond (within blackboard_limit k) (with_blackboards (replaced blackboard_limit k b p.blackboards) (max p.blackboardCount k) p) p
+stored_blackboard k b p = cond (within blackboard_limit k) (with_blackboards (replaced blackboard_limit k b p.blackboards) (max p.blackboard_count k) p) p
 
 -- a buffer whose messages moved
 abbrev pub moved_in : Transfer → Buffer → Buffer
@@ -258,11 +258,11 @@ ended_by (LetIn id m) p = stored id (served (process id p)) p
 
 -- process id is created with this record, which neither is READY nor waits
 unfoldable pub created : ℕ → Process → Partition → Partition
-created id x p = cond (within process_limit id) (with_processes (replaced process_limit id x p.processes) (max p.processCount id) p.arrival p.waiting p) p
+created id x p = cond (within process_limit id) (with_processes (replaced process_limit id x p.processes) (max p.process_count id) p.arrival p.waiting p) p
 
 -- process id goes to the end of the arrival list
 unfoldable pub arrived_last : ℕ → Partition → Partition
-arrived_last id p = with_processes p.processes p.processCount (appended id (removed id p.arrival)) p.waiting p
+arrived_last id p = with_processes p.processes p.process_count (appended id (removed id p.arrival)) p.waiting p
 
 -- the process chosen so far, or a later one of greater priority; id 0 is none
 abbrev pub preferred : Choice → ℕ → ℕ → Choice
@@ -302,7 +302,7 @@ each_from f zero id p = p
 each_from f (suc n) id p = each_from f n (id + 1) (stored id (f (process id p)) p)
 
 abbrev pub each : (Process → Process) → Partition → Partition
-each f p = each_from f p.processCount 1 p
+each f p = each_from f p.process_count 1 p
 
 -- In each NORMAL partition, processes by ascending id
 unfoldable pub tick_partition : ℕ → Partition → Partition

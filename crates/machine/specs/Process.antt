@@ -5,28 +5,28 @@ use Rattle.machine.specs.declared.Times.{Times}
 use Rattle.machine.specs.declared.Process.{Process}
 use Rattle.machine.specs.declared.Context.{Context}
 use Rattle.machine.specs.declared.Wait.{Wait}
-use Rattle.machine.specs.declared.Wait.TheVariants.{None, Normal, Delay, Timed, Period, Semaphore, Event, Sending, Receiving, Blackboard, Source, Destination}
-use Rattle.machine.specs.declared.Time.{Time}
-use Rattle.machine.specs.declared.Time.TheVariants.{Never, At}
+use Rattle.machine.specs.declared.Wait.TheVariants.{None as NoWait, Normal, Delay, Timed, Period, Semaphore, Event, Sending, Receiving, Blackboard, Source, Destination}
+use Rattle.machine.specs.Time.{Time}
+use Rattle.std.specs.Prelude.{None, Some}
 use Rattle.machine.specs.Limits.{greatest_time}
 
 -- Created, it is DORMANT: four fields as given, no wait, r, d, w −1, the rest (current priority too) 0.
 abbrev pub created_process : Given → Process
 created_process g = record {
   given = g;
-  times = record { release = Never; deadline = Never; wake = Never; delay = 0 };
+  times = record { release = None; deadline = None; wake = None; delay = 0 };
   current = 0;
   suspended = false;
   missed = false;
   code = 0;
   message = 0;
   started = false;
-  wait = None;
+  wait = NoWait;
 }
 
 -- what stands where no process has been created
 abbrev pub blank_process : Process
-blank_process = created_process (record { name = 0; base = 0; period = Never; capacity = Never })
+blank_process = created_process (record { name = 0; base = 0; period = None; capacity = None })
 
 -- bound: a time past the greatest one is the greatest
 abbrev pub capped : ℕ → ℕ
@@ -34,18 +34,18 @@ capped n = cond (leb n greatest_time) n greatest_time
 
 -- a time after another: −1 where one of them is −1
 abbrev pub later : Time → Time → Time
-later Never b = Never
-later (At m) Never = Never
-later (At m) (At n) = At (capped (m + n))
+later None b = None
+later (Some m) None = None
+later (Some m) (Some n) = Some (capped (m + n))
 
 -- it is not −1 and ≤ t
 abbrev pub due : ℕ → Time → Bool
-due t Never = false
-due t (At w) = leb w t
+due t None = false
+due t (Some w) = leb w t
 
 abbrev pub is_never : Time → Bool
-is_never Never = true
-is_never (At n) = false
+is_never None = true
+is_never (Some n) = false
 
 -- period is not −1
 abbrev pub periodic : Process → Bool
@@ -61,7 +61,7 @@ pub data Class : Type 0 where
 
 -- A later family of objects adds a line here for each of its queues; no other rule goes through the reasons.
 abbrev pub class_of : Wait → Class
-class_of None = Class.nothing
+class_of NoWait = Class.nothing
 class_of Normal = Class.normal
 class_of Delay = Class.timer
 class_of Timed = Class.timer
@@ -138,7 +138,7 @@ released_at r capacity s = record { release = r; deadline = later r capacity; wa
 
 -- the wait ends (w −1) with this wake code, and this message is in the process record then; a suspended mark stays
 abbrev pub ended_with : ℕ → ℕ → Process → Process
-ended_with code m x = record { given = x.given; times = with_wake Never x.times; current = x.current; suspended = x.suspended; missed = x.missed; code = code; message = m; started = x.started; wait = None }
+ended_with code m x = record { given = x.given; times = with_wake None x.times; current = x.current; suspended = x.suspended; missed = x.missed; code = code; message = m; started = x.started; wait = NoWait }
 
 -- the same, and the message stays
 abbrev pub wait_ended : ℕ → Process → Process
@@ -184,7 +184,7 @@ woken t x =
 
 -- missed mark 1, d −1
 abbrev pub deadline_missed : Process → Process
-deadline_missed x = record { given = x.given; times = with_deadline Never x.times; current = x.current; suspended = x.suspended; missed = true; code = x.code; message = x.message; started = x.started; wait = x.wait }
+deadline_missed x = record { given = x.given; times = with_deadline None x.times; current = x.current; suspended = x.suspended; missed = true; code = x.code; message = x.message; started = x.started; wait = x.wait }
 
 -- Then if d is not −1 and d ≤ t: missed mark 1, d −1.
 unfoldable pub expired : ℕ → Process → Process
@@ -202,15 +202,15 @@ begun s w x = record { given = x.given; times = s; current = x.given.base; suspe
 -- delay with w = t + delay.
 abbrev pub started_aperiodic : Context → ℕ → Process → Process
 started_aperiodic c delay x =
-    let at = later (At c.time) (At delay) in
+    let at = later (Some c.time) (Some delay) in
     let d = later at x.given.capacity in
     cond (eqb delay 0)
-    (begun (with_wake Never (with_deadline d x.times)) None x)
+    (begun (with_wake None (with_deadline d x.times)) NoWait x)
     (begun (with_wake at (with_deadline d x.times)) Delay x)
 
 -- Periodic: r = the partition's next release point, plus delay; waits period, w = r, d = r + capacity, or −1.
 abbrev pub started_periodic : Context → ℕ → Process → Process
-started_periodic c delay x = begun (released_at (later (At c.release) (At delay)) x.given.capacity x.times) Period x
+started_periodic c delay x = begun (released_at (later (Some c.release) (Some delay)) x.given.capacity x.times) Period x
 
 unfoldable pub start_rule : Context → ℕ → Process → Process
 start_rule c delay x = cond (periodic x) (started_periodic c delay x) (started_aperiodic c delay x)
@@ -231,14 +231,14 @@ entered c x =
 abbrev pub stopped : Process → Process
 stopped x = record {
   given = x.given;
-  times = record { release = Never; deadline = Never; wake = Never; delay = x.times.delay };
+  times = record { release = None; deadline = None; wake = None; delay = x.times.delay };
   current = x.current;
   suspended = false;
   missed = x.missed;
   code = x.code;
   message = x.message;
   started = false;
-  wait = None;
+  wait = NoWait;
 }
 
 -- RESUME: clears the mark; if no wait, w = −1, wake code 0

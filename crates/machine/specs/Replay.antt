@@ -8,8 +8,8 @@ use Rattle.machine.specs.declared.Reading.{Reading}
 use Rattle.machine.specs.declared.Stepped.{Stepped}
 use Rattle.machine.specs.declared.Line.{Line}
 use Rattle.machine.specs.declared.Line.TheVariants.{Six, Bad}
-use Rattle.machine.specs.declared.Time.{Time}
-use Rattle.machine.specs.declared.Time.TheVariants.{Never, At}
+use Rattle.machine.specs.Time.{Time}
+use Rattle.std.specs.Prelude.{None, Some}
 use Rattle.machine.specs.Line.{read_line, lines, line_text, line_refusal}
 use Rattle.machine.specs.Step.{step}
 use Rattle.machine.specs.Module.{current}
@@ -22,8 +22,8 @@ event_of n = record { partition = n.n1; call = n.n2; a = n.n3; b = n.n4; c = n.n
 
 -- −1 meaning never
 abbrev pub time_number : Time → ℤ
-time_number Never = negsuc 0
-time_number (At t) = pos t
+time_number None = negsuc 0
+time_number (Some t) = pos t
 
 -- Fields: code, value, extra, t, current, running.
 abbrev pub answer_numbers : Answer → List ℤ
@@ -31,7 +31,7 @@ answer_numbers a = pos a.code ∷ pos a.value ∷ time_number a.extra ∷ pos a.
 
 -- 11 for a line that is no event: value, extra and running 0
 abbrev pub unread : Module → Answer
-unread m = record { code = line_refusal; value = 0; extra = At 0; t = m.t; current = current m; running = 0 }
+unread m = record { code = line_refusal; value = 0; extra = Some 0; t = m.t; current = current m; running = 0 }
 
 -- an event is stepped; a line that is no event steps nothing
 abbrev pub line_step : Module → Line → Stepped

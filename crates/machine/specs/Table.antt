@@ -33,9 +33,9 @@ head_draft r = record {
     frame = number_of r.f1;
     size = number_of r.f2;
     windows = replicate window_limit no_window;
-    windowCount = 0;
+    window_count = 0;
     channels = replicate channel_limit no_channel;
-    channelCount = 0;
+    channel_count = 0;
   };
   previous = 0;
   windows = number_of r.f3;
@@ -60,10 +60,10 @@ with_window d r = record {
   table = record {
     frame = d.table.frame;
     size = d.table.size;
-    windows = set d.table.windows d.table.windowCount (window_of r);
-    windowCount = d.table.windowCount + 1;
+    windows = set d.table.windows d.table.window_count (window_of r);
+    window_count = d.table.window_count + 1;
     channels = d.table.channels;
-    channelCount = d.table.channelCount;
+    channel_count = d.table.channel_count;
   };
   previous = number_of r.f1 + number_of r.f2;
   windows = d.windows;
@@ -90,9 +90,9 @@ with_channel d r = record {
     frame = d.table.frame;
     size = d.table.size;
     windows = d.table.windows;
-    windowCount = d.table.windowCount;
-    channels = set d.table.channels d.table.channelCount (channel_of r);
-    channelCount = d.table.channelCount + 1;
+    window_count = d.table.window_count;
+    channels = set d.table.channels d.table.channel_count (channel_of r);
+    channel_count = d.table.channel_count + 1;
   };
   previous = d.previous;
   windows = d.windows;
@@ -101,7 +101,7 @@ with_channel d r = record {
 
 -- windows come first
 abbrev pub window_next : Draft → Bool
-window_next d = ltb d.table.windowCount d.windows
+window_next d = ltb d.table.window_count d.windows
 
 abbrev pub row_good : Draft → Row → Bool
 row_good d r = cond (window_next d) (window_good d r) (channel_good d r)

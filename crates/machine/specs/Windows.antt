@@ -4,8 +4,8 @@ use Rattle.machine.specs.declared.Field.{Field}
 use Rattle.machine.specs.Limits.{time_limit}
 use Rattle.machine.specs.Fields.{between, number_of, field}
 use Rattle.machine.specs.Process.{capped}
-use Rattle.machine.specs.declared.Time.{Time}
-use Rattle.machine.specs.declared.Time.TheVariants.{Never, At}
+use Rattle.machine.specs.Time.{Time}
+use Rattle.std.specs.Prelude.{None, Some}
 use Rattle.machine.specs.declared.Window.{Window}
 use Rattle.machine.specs.declared.Table.{Table}
 use Rattle.machine.specs.declared.Lookup.{Lookup}
@@ -15,7 +15,7 @@ abbrev pub no_window : Window
 no_window = record { start = 0; duration = 0; partition = 0; flag = false }
 
 abbrev pub windows : Table → List Window
-windows T = take T.windowCount T.windows
+windows T = take T.window_count T.windows
 
 -- start ≤ x < start + duration
 abbrev pub covers : Window → ℕ → Bool
@@ -40,14 +40,14 @@ starts_from f from w = f w && leb from w.start
 
 -- the start of the first window that passes a test; −1 where none does
 unfoldable pub first_start : (Window → Bool) → List Window → Time
-first_start f [] = Never
-first_start f (w ∷ ws) = cond (f w) (At w.start) (first_start f ws)
+first_start f [] = None
+first_start f (w ∷ ws) = cond (f w) (Some w.start) (first_start f ws)
 
 -- how far ahead of place x the first of these starts lies: the first in this frame, or the second in the next one; M where there is none
 abbrev pub ahead_of : ℕ → ℕ → Time → Time → ℕ
-ahead_of frame x (At s) next = s - x
-ahead_of frame x Never (At s) = s + frame - x
-ahead_of frame x Never Never = frame
+ahead_of frame x (Some s) next = s - x
+ahead_of frame x None (Some s) = s + frame - x
+ahead_of frame x None None = frame
 
 -- the next start after t of a window that passes a test, as a number of ticks. Bound: 0 where M is 0
 unfoldable pub next_start : Table → ℕ → (Window → Bool) → ℕ

@@ -7,12 +7,8 @@ ghost use Rattle.machine.specs.Process.{blank_process};
 ghost use Rattle.machine.specs.Partition.{no_buffer, fresh_partition, empty_partition};
 ghost use Rattle.machine.specs.Module.{empty_table, fresh_module, empty_module};
 
-// A time in ticks; −1 of document 01 is Never.
-#[derive(Clone, Copy)]
-pub enum Time {
-    Never,
-    At(u32),
-}
+// A time in ticks; −1 of document 01, which is never, is None.
+pub type Time = Option<u32>;
 
 // What a process waits for, with the id of the object. Sending and Receiving are on a buffer, Source and Destination at that end of a queuing
 // channel; a sender's message is kept with its wait.
@@ -114,15 +110,15 @@ pub struct Partition {
     pub level: u8,
     pub holder: u8,
     pub processes: [Process; Module::PROCESSES],
-    pub processCount: u8,
+    pub process_count: u8,
     pub semaphores: [Semaphore; Module::SEMAPHORES],
-    pub semaphoreCount: u8,
+    pub semaphore_count: u8,
     pub events: [EventState; Module::EVENTS],
-    pub eventCount: u8,
+    pub event_count: u8,
     pub buffers: [Buffer; Module::BUFFERS],
-    pub bufferCount: u8,
+    pub buffer_count: u8,
     pub blackboards: [Blackboard; Module::BLACKBOARDS],
-    pub blackboardCount: u8,
+    pub blackboard_count: u8,
     pub arrival: Ids,
     pub waiting: Ids,
 }
@@ -150,9 +146,9 @@ pub struct Table {
     pub frame: u16,
     pub size: u8,
     pub windows: [Window; Module::WINDOWS],
-    pub windowCount: u8,
+    pub window_count: u8,
     pub channels: [Channel; Module::CHANNELS],
-    pub channelCount: u8,
+    pub channel_count: u8,
 }
 
 // What a sampling channel holds.
@@ -477,14 +473,14 @@ impl Table {
                 partition: 0,
                 flag: false,
             }; Module::WINDOWS],
-            windowCount: 0,
+            window_count: 0,
             channels: [Channel {
                 source: 0,
                 destination: 0,
                 refresh: 0,
                 size: 0,
             }; Module::CHANNELS],
-            channelCount: 0,
+            channel_count: 0,
         }
     }
 }
@@ -497,13 +493,13 @@ impl Process {
             given: Given {
                 name: 0,
                 base: 0,
-                period: Time::Never,
-                capacity: Time::Never,
+                period: None,
+                capacity: None,
             },
             times: Times {
-                release: Time::Never,
-                deadline: Time::Never,
-                wake: Time::Never,
+                release: None,
+                deadline: None,
+                wake: None,
                 delay: 0,
             },
             current: 0,
@@ -552,23 +548,23 @@ impl Partition {
             level: 0,
             holder: 0,
             processes: [x; Module::PROCESSES],
-            processCount: 0,
+            process_count: 0,
             semaphores: [Semaphore {
                 name: 0,
                 value: 0,
                 max: 0,
             }; Module::SEMAPHORES],
-            semaphoreCount: 0,
+            semaphore_count: 0,
             events: [EventState { name: 0, up: false }; Module::EVENTS],
-            eventCount: 0,
+            event_count: 0,
             buffers: [b; Module::BUFFERS],
-            bufferCount: 0,
+            buffer_count: 0,
             blackboards: [Blackboard {
                 name: 0,
                 shown: false,
                 message: 0,
             }; Module::BLACKBOARDS],
-            blackboardCount: 0,
+            blackboard_count: 0,
             arrival: Ids {
                 items: [0; Module::PROCESSES],
                 len: 0,

@@ -70,12 +70,12 @@ fn with_up(k: u32, e: EventState, up: bool) -> Change
 }
 
 pub fn is_semaphore_named(p: Partition, name: Field) -> bool
-    ensures { result ≡ semaphore_named name (take p.semaphoreCount p.semaphores) }
+    ensures { result ≡ semaphore_named name (take p.semaphore_count p.semaphores) }
 {
     let mut i: usize = 0;
     while i < Module::SEMAPHORES {
         let x = p.semaphores[i];
-        if decisions::is_named_at(name, x.name, i, p.semaphoreCount) {
+        if decisions::is_named_at(name, x.name, i, p.semaphore_count) {
             return true;
         }
         i = i + 1;
@@ -84,12 +84,12 @@ pub fn is_semaphore_named(p: Partition, name: Field) -> bool
 }
 
 pub fn is_event_named(p: Partition, name: Field) -> bool
-    ensures { result ≡ event_named name (take p.eventCount p.events) }
+    ensures { result ≡ event_named name (take p.event_count p.events) }
 {
     let mut i: usize = 0;
     while i < Module::EVENTS {
         let x = p.events[i];
-        if decisions::is_named_at(name, x.name, i, p.eventCount) {
+        if decisions::is_named_at(name, x.name, i, p.event_count) {
             return true;
         }
         i = i + 1;
@@ -115,7 +115,7 @@ fn is_semaphore_admitted(r: Request) -> bool
 
 // 14 CREATE_SEMAPHORE
 pub fn create_semaphore(v: View, r: Request) -> Decision
-    ensures { (p : PartitionT) (c : ContextT) (id : ℕ) → Shows v c id p → v.taken ≡ semaphore_named r.a (take p.semaphoreCount p.semaphores) → result ≡ create_semaphore r p }
+    ensures { (p : PartitionT) (c : ContextT) (id : ℕ) → Shows v c id p → v.taken ≡ semaphore_named r.a (take p.semaphore_count p.semaphores) → result ≡ create_semaphore r p }
 {
     let n = v.semaphores as u32;
     let name = r.a;
@@ -141,7 +141,7 @@ pub fn create_semaphore(v: View, r: Request) -> Decision
 
 // 17 CREATE_EVENT
 pub fn create_event(v: View, name: Field) -> Decision
-    ensures { (p : PartitionT) (c : ContextT) (id : ℕ) → Shows v c id p → v.taken ≡ event_named name (take p.eventCount p.events) → result ≡ create_event name p }
+    ensures { (p : PartitionT) (c : ContextT) (id : ℕ) → Shows v c id p → v.taken ≡ event_named name (take p.event_count p.events) → result ≡ create_event name p }
 {
     let n = v.events as u32;
     let code = decisions::creation_code(
@@ -169,7 +169,7 @@ fn wait_queued(v: View, c: Context, a: Field, wait: Wait) -> Decision
         return Decision::Refused(2);
     }
     let x = decisions::calling_in(v);
-    let until = process::later_time(Time::At(c.time), fields::time_of(a));
+    let until = process::later_time(Some(c.time), fields::time_of(a));
     decisions::block(v.level, c.caller, process::waiting_for(x, wait, until))
 }
 
@@ -244,7 +244,7 @@ pub fn wait_event(v: View, c: Context, k: u32, a: Field) -> Decision
     let unknown = decisions::is_unknown(k, v.events);
     let code = decisions::wait_code(unknown, v.mode != 3, fields::is_timeout(a));
     let e = decisions::event_in(v);
-    let success = Decision::Unchanged(0, Time::At(0));
+    let success = Decision::Unchanged(0, Some(0));
     awaited(v, c, code, a, e.up, success, Wait::Event(short_id(k)))
 }
 

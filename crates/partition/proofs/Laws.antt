@@ -156,11 +156,11 @@ module _ (id k : ℕ) (p : Partition) (x : Process) (e : k ≡ slot_of process_l
   pub stored_at : (a w : Ids) → k < process_limit
       → a ≡ follow (ready (get_or p.processes k blank_process)) (ready x) (in_byte id) p.arrival
       → w ≡ follow (on_object (get_or p.processes k blank_process)) (on_object x) (in_byte id) p.waiting
-      → with_processes (set p.processes k x) p.processCount a w p ≡ stored id x p
+      → with_processes (set p.processes k x) p.process_count a w p ≡ stored id x p
   stored_at a w h ea ew =
       rw (ea, ew)
       (sym (stored_in id x p (slot_in process_limit id k e h)
-      ∙ ap₂ (λ (j n : ℕ). let old = get_or p.processes j blank_process in with_processes (set p.processes j x) p.processCount (follow (ready old) (ready x) n p.arrival) (follow (on_object old) (on_object x) n p.waiting) p)
+      ∙ ap₂ (λ (j n : ℕ). let old = get_or p.processes j blank_process in with_processes (set p.processes j x) p.process_count (follow (ready old) (ready x) n p.arrival) (follow (on_object old) (on_object x) n p.waiting) p)
       (slot_place process_limit id k e h) (sym (slot_byte process_limit id k e (omega arith) h))))
 
 -- one of a kind stored at its place, with how many there are
@@ -168,23 +168,23 @@ kind_at : {A : Type 0} (limit id k : ℕ) (low : limit ≤ 255) (e : k ≡ slot_
 kind_at limit id k low e h l a count n en f = rw en (sym (ap₂ (λ (j m : ℕ). f (set l j a) (max count m)) (slot_place limit id k e h) (sym (slot_byte limit id k e low h))))
 
 module _ (id k : ℕ) (p : Partition) where
-  pub created_at : (x : Process) (n : ℕ) → k ≡ slot_of process_limit id → k < process_limit → n ≡ max p.processCount (in_byte id) → with_processes (set p.processes k x) n p.arrival p.waiting p ≡ created id x p
-  created_at x n e h en = kind_at process_limit id k (omega arith) e h p.processes x p.processCount n en (λ l m. with_processes l m p.arrival p.waiting p) ∙ sym (created_in id x p (slot_in process_limit id k e h))
+  pub created_at : (x : Process) (n : ℕ) → k ≡ slot_of process_limit id → k < process_limit → n ≡ max p.process_count (in_byte id) → with_processes (set p.processes k x) n p.arrival p.waiting p ≡ created id x p
+  created_at x n e h en = kind_at process_limit id k (omega arith) e h p.processes x p.process_count n en (λ l m. with_processes l m p.arrival p.waiting p) ∙ sym (created_in id x p (slot_in process_limit id k e h))
 
-  pub semaphore_at : (s : Semaphore) (n : ℕ) → k ≡ slot_of semaphore_limit id → k < semaphore_limit → n ≡ max p.semaphoreCount (in_byte id) → with_semaphores (set p.semaphores k s) n p ≡ stored_semaphore id s p
-  semaphore_at s n e h en = kind_at semaphore_limit id k (omega arith) e h p.semaphores s p.semaphoreCount n en (λ l m. with_semaphores l m p) ∙ sym (semaphore_in id s p (slot_in semaphore_limit id k e h))
+  pub semaphore_at : (s : Semaphore) (n : ℕ) → k ≡ slot_of semaphore_limit id → k < semaphore_limit → n ≡ max p.semaphore_count (in_byte id) → with_semaphores (set p.semaphores k s) n p ≡ stored_semaphore id s p
+  semaphore_at s n e h en = kind_at semaphore_limit id k (omega arith) e h p.semaphores s p.semaphore_count n en (λ l m. with_semaphores l m p) ∙ sym (semaphore_in id s p (slot_in semaphore_limit id k e h))
 
-  pub event_at_holds : (x : EventState) (n : ℕ) → k ≡ slot_of event_limit id → k < event_limit → n ≡ max p.eventCount (in_byte id) → with_events (set p.events k x) n p ≡ stored_event id x p
-  event_at_holds x n e h en = kind_at event_limit id k (omega arith) e h p.events x p.eventCount n en (λ l m. with_events l m p) ∙ sym (event_in id x p (slot_in event_limit id k e h))
+  pub event_at_holds : (x : EventState) (n : ℕ) → k ≡ slot_of event_limit id → k < event_limit → n ≡ max p.event_count (in_byte id) → with_events (set p.events k x) n p ≡ stored_event id x p
+  event_at_holds x n e h en = kind_at event_limit id k (omega arith) e h p.events x p.event_count n en (λ l m. with_events l m p) ∙ sym (event_in id x p (slot_in event_limit id k e h))
 
-  pub buffer_at : (b : Buffer) (n : ℕ) → k ≡ slot_of buffer_limit id → k < buffer_limit → n ≡ max p.bufferCount (in_byte id) → with_buffers (set p.buffers k b) n p ≡ stored_buffer id b p
-  buffer_at b n e h en = kind_at buffer_limit id k (omega arith) e h p.buffers b p.bufferCount n en (λ l m. with_buffers l m p) ∙ sym (buffer_in id b p (slot_in buffer_limit id k e h))
+  pub buffer_at : (b : Buffer) (n : ℕ) → k ≡ slot_of buffer_limit id → k < buffer_limit → n ≡ max p.buffer_count (in_byte id) → with_buffers (set p.buffers k b) n p ≡ stored_buffer id b p
+  buffer_at b n e h en = kind_at buffer_limit id k (omega arith) e h p.buffers b p.buffer_count n en (λ l m. with_buffers l m p) ∙ sym (buffer_in id b p (slot_in buffer_limit id k e h))
 
-  pub blackboard_at : (b : Blackboard) (n : ℕ) → k ≡ slot_of blackboard_limit id → k < blackboard_limit → n ≡ max p.blackboardCount (in_byte id) → with_blackboards (set p.blackboards k b) n p ≡ stored_blackboard id b p
-  blackboard_at b n e h en = kind_at blackboard_limit id k (omega arith) e h p.blackboards b p.blackboardCount n en (λ l m. with_blackboards l m p) ∙ sym (blackboard_in id b p (slot_in blackboard_limit id k e h))
+  pub blackboard_at : (b : Blackboard) (n : ℕ) → k ≡ slot_of blackboard_limit id → k < blackboard_limit → n ≡ max p.blackboard_count (in_byte id) → with_blackboards (set p.blackboards k b) n p ≡ stored_blackboard id b p
+  blackboard_at b n e h en = kind_at blackboard_limit id k (omega arith) e h p.blackboards b p.blackboard_count n en (λ l m. with_blackboards l m p) ∙ sym (blackboard_in id b p (slot_in blackboard_limit id k e h))
 
   -- the messages of a buffer moved where they lie
-  pub moved_at_holds : (a : Transfer) (o : Buffer) (n : ℕ) → k ≡ slot_of buffer_limit id → k < buffer_limit → n ≡ max p.bufferCount (in_byte id) → with_buffers (set p.buffers k (moved_in a (get_or p.buffers k o))) n p ≡ stored_buffer id (moved_in a (buffer id p)) p
+  pub moved_at_holds : (a : Transfer) (o : Buffer) (n : ℕ) → k ≡ slot_of buffer_limit id → k < buffer_limit → n ≡ max p.buffer_count (in_byte id) → with_buffers (set p.buffers k (moved_in a (get_or p.buffers k o))) n p ≡ stored_buffer id (moved_in a (buffer id p)) p
   moved_at_holds a o n e h en =
       rw (set_default (moved_in a) p.buffers k o no_buffer)
       (buffer_at (moved_in a (get_or p.buffers k no_buffer)) n e h en ∙ ap (λ (b : Buffer). stored_buffer id (moved_in a b) p) (named_at buffer_limit id k e no_buffer p.buffers h))

@@ -8,8 +8,8 @@ use native.Mathlib.Omega.{arith}
 use lib.Dec.{eqb}
 use lib.ListN.{get_or, set}
 use borrow.Author.Tests.{lt-leb, eqb-true, eqb-false}
-use Rattle.machine.specs.declared.Time.{Time}
-use Rattle.machine.specs.declared.Time.TheVariants.{Never, At}
+use Rattle.machine.specs.Time.{Time}
+use Rattle.std.specs.Prelude.{None, Some}
 use Rattle.machine.specs.declared.Partition.{Partition}
 use Rattle.machine.specs.declared.Process.{Process}
 use Rattle.machine.specs.Limits.{process_limit, greatest_time}
@@ -25,8 +25,8 @@ use Rattle.partition.specs.Soonest.{sooner, soonest_from, soonest_of}
 -- ---------------------------------------------------------------- the tick
 -- before the sooner of a time and a number that time has not come, nor that number
 not_due : (t : ℕ) (w : Time) (n : ℕ) → t < sooner w n → (due t w ≡ false) × (t < n)
-not_due t Never n h = (refl, h)
-not_due t (At w) n h = (lt-leb w t (omega arith), omega arith)
+not_due t None n h = (refl, h)
+not_due t (Some w) n h = (lt-leb w t (omega arith), omega arith)
 
 tick_from_same : (t n id : ℕ) (p : Partition) → t < soonest_from n id p → each_from (ticked t) n id p ≡ p
 unfolding each_from soonest_from
@@ -39,7 +39,7 @@ tick_from_same t (suc n) id p h =
 
 pub tick_same : (t n : ℕ) (p : Partition) → t < n → n ≤ soonest_of p → tick_partition t p ≡ p
 unfolding tick_partition
-tick_same t n p l h = by_test (λ (q : Partition). q ≡ p) (normal_mode p) (λ _. tick_from_same t p.processCount 1 p (omega arith)) (λ _. refl)
+tick_same t n p l h = by_test (λ (q : Partition). q ≡ p) (normal_mode p) (λ _. tick_from_same t p.process_count 1 p (omega arith)) (λ _. refl)
 
 -- ---------------------------------------------------------------- the loop
 pub soonest_done : (n id : ℕ) (p : Partition) → n ≤ id → soonest_from (n - id) (id + 1) p ≡ greatest_time
@@ -63,28 +63,28 @@ soonest_whole n m id s p z q e =
 -- ---------------------------------------------------------------- a process stored
 -- a number that no time of a partition comes before is one still where a process is stored, with the times of its new record
 own_times : (w d : Time) (n r : ℕ) → sooner w (sooner d n) ≤ r → sooner w (sooner d n) ≤ sooner w (sooner d r)
-own_times Never Never n r h = h
-own_times Never (At b) n r h = omega arith
-own_times (At a) Never n r h = omega arith
-own_times (At a) (At b) n r h = omega arith
+own_times None None n r h = h
+own_times None (Some b) n r h = omega arith
+own_times (Some a) None n r h = omega arith
+own_times (Some a) (Some b) n r h = omega arith
 
 other_times : (w d : Time) (s n r r' : ℕ) → s ≤ n → n ≤ sooner w (sooner d r) → s ≤ r' → s ≤ sooner w (sooner d r')
-other_times Never Never s n r r' l h k = k
-other_times Never (At b) s n r r' l h k = omega arith
-other_times (At a) Never s n r r' l h k = omega arith
-other_times (At a) (At b) s n r r' l h k = omega arith
+other_times None None s n r r' l h k = k
+other_times None (Some b) s n r r' l h k = omega arith
+other_times (Some a) None s n r r' l h k = omega arith
+other_times (Some a) (Some b) s n r r' l h k = omega arith
 
 rest_times : (w d : Time) (n r : ℕ) → n ≤ sooner w (sooner d r) → n ≤ r
-rest_times Never Never n r h = h
-rest_times Never (At b) n r h = omega arith
-rest_times (At a) Never n r h = omega arith
-rest_times (At a) (At b) n r h = omega arith
+rest_times None None n r h = h
+rest_times None (Some b) n r h = omega arith
+rest_times (Some a) None n r h = omega arith
+rest_times (Some a) (Some b) n r h = omega arith
 
 no_later : (w d : Time) (n : ℕ) → sooner w (sooner d n) ≤ n
-no_later Never Never n = omega arith
-no_later Never (At b) n = omega arith
-no_later (At a) Never n = omega arith
-no_later (At a) (At b) n = omega arith
+no_later None None n = omega arith
+no_later None (Some b) n = omega arith
+no_later (Some a) None n = omega arith
+no_later (Some a) (Some b) n = omega arith
 
 set_either : {A : Type 0} (P : A → Type 0) (l : List A) (i : ℕ) (x d : A) → P x → P (get_or l i d) → P (get_or (set l i x) i d)
 set_either P [] i x d a b = b
@@ -115,4 +115,4 @@ module _ (id : ℕ) (x : Process) (p : Partition) where
       (λ f. subst P (sym (process_other p id x j (eqb-false j id f))) other)
 
   pub soonest_stored : (n : ℕ) → n ≤ soonest_of p → least n ≤ soonest_of (stored id x p)
-  soonest_stored n h = subst (λ (k : ℕ). least n ≤ soonest_from k 1 (stored id x p)) (sym (ap (λ (q : Partition). q.processCount) (stored_rest p id x))) (soonest_from_holds p.processCount 1 n h)
+  soonest_stored n h = subst (λ (k : ℕ). least n ≤ soonest_from k 1 (stored id x p)) (sym (ap (λ (q : Partition). q.process_count) (stored_rest p id x))) (soonest_from_holds p.process_count 1 n h)

@@ -3,13 +3,13 @@ use Rattle.std.specs.Prelude.{ℕ, zero, suc, ◌+◌, min}
 use Rattle.machine.specs.Limits.{greatest_time}
 use Rattle.machine.specs.Partition.{process}
 use Rattle.machine.specs.declared.Partition.{Partition}
-use Rattle.machine.specs.declared.Time.{Time}
-use Rattle.machine.specs.declared.Time.TheVariants.{Never, At}
+use Rattle.machine.specs.Time.{Time}
+use Rattle.std.specs.Prelude.{None, Some}
 
 -- the least of a time and a number; −1 is no bound
 abbrev pub sooner : Time → ℕ → ℕ
-sooner Never n = n
-sooner (At t) n = min t n
+sooner None n = n
+sooner (Some t) n = min t n
 
 -- of n processes from id on
 unfoldable pub soonest_from : ℕ → ℕ → Partition → ℕ
@@ -17,4 +17,4 @@ soonest_from zero id p = greatest_time
 soonest_from (suc n) id p = sooner (process id p).times.wake (sooner (process id p).times.deadline (soonest_from n (id + 1) p))
 
 abbrev pub soonest_of : Partition → ℕ
-soonest_of p = soonest_from p.processCount 1 p
+soonest_of p = soonest_from p.process_count 1 p

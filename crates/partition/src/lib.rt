@@ -247,8 +247,8 @@ fn sooner_of(a: Time, n: u32) -> u32
     ensures { result ≡ sooner a n }
 {
     match a {
-        Time::Never => n,
-        Time::At(t) => { if t <= n { t } else { n } }
+        None => n,
+        Some(t) => { if t <= n { t } else { n } }
     }
 }
 
@@ -266,7 +266,7 @@ fn soonest_with(x: Process, n: u32) -> u32
 pub fn soonest_of(p: Partition) -> u32
     ensures { result ≡ soonest_of p }
 {
-    let n = wide(p.processCount);
+    let n = wide(p.process_count);
     let mut id = n;
     let mut s = Module::LATEST;
     while 0 < id {
@@ -334,7 +334,7 @@ pub fn create(p: Partition, id: u32, x: Process) -> Partition
     }
     let mut q = p;
     q.processes[i] = x;
-    q.processCount = counted(p.processCount, id);
+    q.process_count = counted(p.process_count, id);
     q
 }
 
@@ -349,7 +349,7 @@ pub fn create_buffer(p: Partition, k: u32, name: u16, limit: u8) -> Partition
     let b = Buffer::blank();
     let mut q = p;
     q.buffers[i] = Buffer { name, limit, ..b };
-    q.bufferCount = counted(p.bufferCount, k);
+    q.buffer_count = counted(p.buffer_count, k);
     q
 }
 
@@ -457,7 +457,7 @@ pub fn ticked(p: Partition, t: u32) -> Partition
     if p.mode != 3 {
         return p;
     }
-    let n = wide(p.processCount);
+    let n = wide(p.process_count);
     let mut q = p;
     let mut id: u32 = 0;
     while id < n {
@@ -485,7 +485,7 @@ fn enter_process(p: Partition, c: Context, id: u32) -> Partition
 pub fn enter_normal(p: Partition, c: Context) -> Partition
     ensures { result ≡ entered_normal c p }
 {
-    let n = wide(p.processCount);
+    let n = wide(p.process_count);
     let mut q = p;
     q.mode = 3;
     q.level = 0;

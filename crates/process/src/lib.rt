@@ -20,10 +20,10 @@ pub fn later_time(a: Time, b: Time) -> Time
     ensures { result ≡ later a b }
 {
     match a {
-        Time::Never => Time::Never,
-        Time::At(m) => match b {
-            Time::Never => Time::Never,
-            Time::At(n) => Time::At(capped_time(m as u64 + n as u64)),
+        None => None,
+        Some(m) => match b {
+            None => None,
+            Some(n) => Some(capped_time(m as u64 + n as u64)),
         },
     }
 }
@@ -33,8 +33,8 @@ pub fn is_due(a: Time, t: u32) -> bool
     ensures { result ≡ due t a }
 {
     match a {
-        Time::Never => false,
-        Time::At(w) => w <= t,
+        None => false,
+        Some(w) => w <= t,
     }
 }
 
@@ -42,8 +42,8 @@ pub fn is_never(a: Time) -> bool
     ensures { result ≡ is_never a }
 {
     match a {
-        Time::Never => true,
-        Time::At(_) => false,
+        None => true,
+        Some(_) => false,
     }
 }
 
@@ -52,8 +52,8 @@ pub fn does_reach(period: Time, delay: u32) -> bool
     ensures { result ≡ reaches period delay }
 {
     match period {
-        Time::Never => false,
-        Time::At(n) => n <= delay,
+        None => false,
+        Some(n) => n <= delay,
     }
 }
 
@@ -178,7 +178,7 @@ pub fn wait_ended(x: Process, code: u8) -> Process
 {
     let old = x.times;
     let times = Times {
-        wake: Time::Never,
+        wake: None,
         ..old
     };
     Process {
@@ -271,7 +271,7 @@ pub fn expire(x: Process, t: u32) -> Process
     let deadline = old.deadline;
     if is_due(deadline, t) {
         let times = Times {
-            deadline: Time::Never,
+            deadline: None,
             ..old
         };
         return Process {
@@ -326,12 +326,12 @@ pub fn start_aperiodic(x: Process, c: Context, delay: u32) -> Process
     let given = x.given;
     let capacity = given.capacity;
     let old = x.times;
-    let at = later_time(Time::At(c.time), Time::At(delay));
+    let at = later_time(Some(c.time), Some(delay));
     let deadline = later_time(at, capacity);
     if delay == 0 {
         let times = Times {
             deadline,
-            wake: Time::Never,
+            wake: None,
             ..old
         };
         return begin(x, times, Wait::None);
@@ -350,7 +350,7 @@ pub fn start_periodic(x: Process, c: Context, delay: u32) -> Process
     let given = x.given;
     let capacity = given.capacity;
     let old = x.times;
-    let release = later_time(Time::At(c.release), Time::At(delay));
+    let release = later_time(Some(c.release), Some(delay));
     begin(x, released_at(old, release, capacity), Wait::Period)
 }
 
@@ -392,9 +392,9 @@ pub fn stop(x: Process) -> Process
 {
     let old = x.times;
     let times = Times {
-        release: Time::Never,
-        deadline: Time::Never,
-        wake: Time::Never,
+        release: None,
+        deadline: None,
+        wake: None,
         ..old
     };
     Process {

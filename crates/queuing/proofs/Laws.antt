@@ -46,7 +46,7 @@ numbered i n e h = e ∙ rw (lt-ltb i channel_limit h)
 -- a channel c at place i, of which b says that it is queuing
 module _ (T : Table) (i : ℕ) (b : Bool) (c : Channel) (eb : b ≡ queuing_at T i) (t : not b ≡ false) (ec : c ≡ channel T i) where
   kind : queuing (channel T i) ≡ true
-  kind = and_right (ltb i T.channelCount) _ (sym eb ∙ not-false b t)
+  kind = and_right (ltb i T.channel_count) _ (sym eb ∙ not-false b t)
 
   pub at_place : length T.channels ≡ channel_limit → i < channel_limit
   at_place long = placed T i long kind
@@ -58,7 +58,7 @@ module _ (T : Table) (i : ℕ) (b : Bool) (c : Channel) (eb : b ≡ queuing_at T
 pub none_at_zero : (T : Table) (i : ℕ) → sees_traffic T 0 i ≡ false
 none_at_zero T i = either (queuing_at T i)
     (λ e.
-    let g = and_right (ltb 0 (channel T i).size) _ (and_right (ltb i T.channelCount) _ e) in
+    let g = and_right (ltb 0 (channel T i).size) _ (and_right (ltb i T.channel_count) _ e) in
     let s = within_out partition_limit (channel T i).source (and_left (within partition_limit (channel T i).source) _ g) in
     let d = within_out partition_limit (channel T i).destination (and_right (within partition_limit (channel T i).source) _ g) in
     rw (e, ne_eqb (channel T i).source 0 (λ z. omega (arith, s.0)), ne_eqb (channel T i).destination 0 (λ z. omega (arith, d.0))))

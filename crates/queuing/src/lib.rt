@@ -23,7 +23,7 @@ use machine::{
 fn is_queuing_at(table: Table, i: usize) -> bool
     ensures { result ≡ queuing_at table i }
 {
-    if table.channelCount as usize <= i {
+    if table.channel_count as usize <= i {
         return false;
     }
     channels::is_queuing(channels::channel_at(table, i))
@@ -31,7 +31,7 @@ fn is_queuing_at(table: Table, i: usize) -> bool
 
 // Whether partition k sees the traffic of the channel at this place, which is this one of so many.
 fn sees_traffic(count: u8, c: Channel, k: u32, place: usize) -> bool
-    ensures { (T : TableT) → T.channelCount ≡ count → c ≡ channel T place → result ≡ sees_traffic T k place }
+    ensures { (T : TableT) → T.channel_count ≡ count → c ≡ channel T place → result ≡ sees_traffic T k place }
 {
     if count as usize <= place {
         return false;
@@ -72,7 +72,7 @@ fn other_slot(table: Table, k: u32, place: usize) -> usize
 // Where the partition at the other end lies, if partition k sees the traffic of the channel at this place, which is this one of so many;
 // past the last if not.
 pub fn seen_slot(count: u8, c: Channel, k: u32, place: usize) -> usize
-    ensures { (T : TableT) → T.channelCount ≡ count → c ≡ channel T place → result ≡ cond (sees_traffic T k place) (other_end k (channel T place) - 1) partition_limit }
+    ensures { (T : TableT) → T.channel_count ≡ count → c ≡ channel T place → result ≡ cond (sees_traffic T k place) (other_end k (channel T place) - 1) partition_limit }
 {
     if k == 0 {
         return Module::PARTITIONS;

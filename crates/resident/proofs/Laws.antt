@@ -102,7 +102,7 @@ module _ {p : Partition} {currents objects : List ℕ} (m : Mirrors p currents o
           → a ≡ follow (ready (get_or p.processes k blank_process)) (ready x) (in_byte id) p.arrival
           → w ≡ follow (on_object (get_or p.processes k blank_process)) (on_object x) (in_byte id) p.waiting
           → c ≡ x.current → o ≡ object_of x
-          → q ≡ with_processes (set p.processes k x) p.processCount a w p → cs ≡ set currents k c → os ≡ set objects k o
+          → q ≡ with_processes (set p.processes k x) p.process_count a w p → cs ≡ set currents k c → os ≡ set objects k o
           → (q ≡ stored id x p) × Mirrors q cs os
       stored_here h ea ew ec eo eq ecs eos = (eq ∙ stored_at id k p x e _ _ h ea ew, rw (ecs, eos) (mirrors_set k x (ap processes_of eq) ec eo))
 

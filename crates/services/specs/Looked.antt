@@ -13,11 +13,11 @@ use Rattle.machine.specs.declared.Wait.TheVariants.{Semaphore, Sending, Receivin
 -- whether one of the kind that call n creates has this name
 abbrev pub taken_for : ℕ → Field → Partition → Bool
 taken_for n name p =
-    cond (eqb n 2) (process_named name (take p.processCount p.processes))
-    (cond (eqb n 14) (semaphore_named name (take p.semaphoreCount p.semaphores))
-    (cond (eqb n 17) (event_named name (take p.eventCount p.events))
-    (cond (eqb n 23) (buffer_named name (take p.bufferCount p.buffers))
-    (cond (eqb n 26) (blackboard_named name (take p.blackboardCount p.blackboards))
+    cond (eqb n 2) (process_named name (take p.process_count p.processes))
+    (cond (eqb n 14) (semaphore_named name (take p.semaphore_count p.semaphores))
+    (cond (eqb n 17) (event_named name (take p.event_count p.events))
+    (cond (eqb n 23) (buffer_named name (take p.buffer_count p.buffers))
+    (cond (eqb n 26) (blackboard_named name (take p.blackboard_count p.blackboards))
     false))))
 
 -- the calls that create: only they look at a name

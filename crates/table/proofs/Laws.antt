@@ -45,7 +45,7 @@ apart_yes {m} {n} b p q e f = rw (← p, ← q, ne_eqb m n e) f
 -- ---------------------------------------------------------------- the final check
 module _ (T : Table) (k i n : ℕ) (e : n ≡ length (windows T)) where
   window_at : i < n → drop i (windows T) ≡ get_or T.windows i no_window ∷ drop (i + 1) (windows T)
-  window_at h = taken_more T.windows T.windowCount i no_window (omega arith)
+  window_at h = taken_more T.windows T.window_count i no_window (omega arith)
 
   -- a flagged window of partition k is found
   pub window_found : i < n → (b : Bool) → b ≡ flagged_for k (get_or T.windows i no_window) → b ≡ true
@@ -62,7 +62,7 @@ module _ (T : Table) (k i n : ℕ) (e : n ≡ length (windows T)) where
   -- none is
   pub window_missing : n ≤ i → has_flagged k (drop i (windows T)) ≡ has_flagged k (windows T) → has_flagged k (windows T) ≡ false
   unfolding has_flagged
-  window_missing h q = sym q ∙ rw (taken_done T.windows T.windowCount i no_window (omega arith))
+  window_missing h q = sym q ∙ rw (taken_done T.windows T.window_count i no_window (omega arith))
 
 pub partitions_start : (size : ℕ) (ws : List Window) → flagged_from (size + 1 - 1) 1 ws ≡ flagged_from size 1 ws
 partitions_start size ws = let e : size + 1 - 1 ≡ size = omega arith in rw e

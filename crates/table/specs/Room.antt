@@ -5,4 +5,4 @@ use Rattle.machine.specs.Limits.{window_limit, channel_limit}
 
 pub record Room (d : Draft) : Type 0 where
   pub window : d.windows ≤ window_limit
-  pub channel : d.windows ≤ d.table.windowCount → d.table.channelCount < channel_limit
+  pub channel : d.windows ≤ d.table.window_count → d.table.channel_count < channel_limit

@@ -92,7 +92,7 @@ fn is_window_good(d: Draft, r: Row) -> bool
 }
 
 fn with_window(d: Draft, r: Row) -> Draft
-    requires { (window_good d r ≡ true) × (d.table.windowCount < window_limit) }
+    requires { (window_good d r ≡ true) × (d.table.window_count < window_limit) }
     ensures { result ≡ with_window d r }
 {
     let f1 = r.f1;
@@ -104,14 +104,14 @@ fn with_window(d: Draft, r: Row) -> Draft
     let partition = fields::number_of(f3) as u8;
     let flag = fields::is_number(f4, 1);
     let mut t = d.table;
-    let i = t.windowCount as usize;
+    let i = t.window_count as usize;
     t.windows[i] = Window {
         start,
         duration,
         partition,
         flag,
     };
-    t.windowCount = t.windowCount + 1;
+    t.window_count = t.window_count + 1;
     Draft {
         table: t,
         previous: start + duration,
@@ -149,7 +149,7 @@ fn is_channel_good(d: Draft, r: Row) -> bool
 }
 
 fn with_channel(d: Draft, r: Row) -> Draft
-    requires { (channel_good d r ≡ true) × (d.table.channelCount < channel_limit) }
+    requires { (channel_good d r ≡ true) × (d.table.channel_count < channel_limit) }
     ensures { result ≡ with_channel d r }
 {
     let f1 = r.f1;
@@ -161,14 +161,14 @@ fn with_channel(d: Draft, r: Row) -> Draft
     let refresh = fields::number_of(f3);
     let size = fields::number_of(f5) as u8;
     let mut t = d.table;
-    let i = t.channelCount as usize;
+    let i = t.channel_count as usize;
     t.channels[i] = Channel {
         source,
         destination,
         refresh,
         size,
     };
-    t.channelCount = t.channelCount + 1;
+    t.channel_count = t.channel_count + 1;
     Draft { table: t, ..d }
 }
 
@@ -177,7 +177,7 @@ fn is_window_next(d: Draft) -> bool
     ensures { result ≡ window_next d }
 {
     let t = d.table;
-    t.windowCount < d.windows
+    t.window_count < d.windows
 }
 
 fn is_row_good(d: Draft, r: Row) -> bool

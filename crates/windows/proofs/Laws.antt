@@ -13,18 +13,18 @@ use Rattle.machine.specs.Limits.{time_limit}
 use Rattle.machine.specs.Windows.{no_window, windows, covers, owned_by, starts_from, first_start, ahead_of, next_start, covering, waiting_of}
 use Rattle.machine.specs.declared.Field.{Field}
 use Rattle.machine.specs.declared.Table.{Table}
-use Rattle.machine.specs.declared.Time.{Time}
-use Rattle.machine.specs.declared.Time.TheVariants.{Never, At}
+use Rattle.machine.specs.Time.{Time}
+use Rattle.std.specs.Prelude.{None, Some}
 use Rattle.machine.specs.declared.Window.{Window}
 use Rattle.machine.proofs.Either.{either}
 use Rattle.machine.proofs.Taken.{taken_more, taken_done}
 
 module _ (T : Table) (i : ℕ) where
   next_window : i < length (windows T) → drop i (windows T) ≡ get_or T.windows i no_window ∷ drop (i + 1) (windows T)
-  next_window = taken_more T.windows T.windowCount i no_window
+  next_window = taken_more T.windows T.window_count i no_window
 
   no_window_holds : length (windows T) ≤ i → drop i (windows T) ≡ []
-  no_window_holds = taken_done T.windows T.windowCount i no_window
+  no_window_holds = taken_done T.windows T.window_count i no_window
 
   -- it covers place x, or the later ones decide, or none is left
   module _ (x gap : ℕ) where
@@ -44,7 +44,7 @@ module _ (T : Table) (i : ℕ) where
   -- it is the first that passes a test and does not start before a place, or the later ones decide, or none is left
   module _ (f : Window → Bool) (from : ℕ) where
     start_here : i < length (windows T) → let w = get_or T.windows i no_window in
-        f w ≡ true → from ≤ w.start → first_start (starts_from f from) (drop i (windows T)) ≡ At w.start
+        f w ≡ true → from ≤ w.start → first_start (starts_from f from) (drop i (windows T)) ≡ Some w.start
     unfolding first_start
     start_here h e l = rw (next_window h, first_start, e, le-leb from (get_or T.windows i no_window).start l)
 
@@ -52,7 +52,7 @@ module _ (T : Table) (i : ℕ) where
     unfolding first_start
     start_more h e = rw (next_window h, first_start, e)
 
-    start_done : length (windows T) ≤ i → first_start (starts_from f from) (drop i (windows T)) ≡ Never
+    start_done : length (windows T) ≤ i → first_start (starts_from f from) (drop i (windows T)) ≡ None
     unfolding first_start
     start_done h = rw (no_window_holds h)
 
@@ -62,7 +62,7 @@ place T t some = mod-lt t (omega arith)
 
 -- how far ahead the first start of the next frame lies, of the windows from i on
 abbrev later : Table → ℕ → (Window → Bool) → ℕ → ℕ
-later T t f i = ahead_of T.frame (t % T.frame) Never (first_start (starts_from f 0) (drop i (windows T)))
+later T t f i = ahead_of T.frame (t % T.frame) None (first_start (starts_from f 0) (drop i (windows T)))
 
 -- what the search knows before window i: none of the windows before it starts later in this frame; and of the next frame the first start of them
 pub record Searched (T : Table) (t : ℕ) (f : Window → Bool) (ahead : ℕ) (found : Bool) (i : ℕ) : Type 0 where
@@ -85,7 +85,7 @@ module _ (T : Table) (t : ℕ) (f : Window → Bool) where
     pub search_more : i < length (windows T) → f (get_or T.windows i no_window) ≡ false → Searched T t f ahead found (i + 1)
     search_more h e = record {
       here = sym (start_more T i f (t % T.frame + 1) h (rw e)) ∙ s.here;
-      next = ap (λ (r : Time). cond found ahead (ahead_of T.frame (t % T.frame) Never r)) (sym (start_more T i f 0 h (rw e))) ∙ s.next;
+      next = ap (λ (r : Time). cond found ahead (ahead_of T.frame (t % T.frame) None r)) (sym (start_more T i f 0 h (rw e))) ∙ s.next;
       none = s.none;
     }
 
@@ -97,7 +97,7 @@ module _ (T : Table) (t : ℕ) (f : Window → Bool) where
       pub search_first : found ≡ false → Searched T t f ((get_or T.windows i no_window).start + T.frame - t % T.frame) true (i + 1)
       search_first none = record {
         here = passed;
-        next = sym (ap (ahead_of T.frame (t % T.frame) Never) (start_here T i f 0 h e (omega arith))) ∙ rw none at s.next;
+        next = sym (ap (ahead_of T.frame (t % T.frame) None) (start_here T i f 0 h e (omega arith))) ∙ rw none at s.next;
         none = λ z. absurd (true≢false z);
       }
 
@@ -107,8 +107,8 @@ module _ (T : Table) (t : ℕ) (f : Window → Bool) where
     pub search_ends : (T.frame ≡ 0 → ⊥) → length (windows T) ≤ i → ahead ≡ next_start T t f
     unfolding next_start
     search_ends some h =
-        let here : Never ≡ first_start (starts_from f (t % T.frame + 1)) (windows T) = sym (start_done T i f (t % T.frame + 1) h) ∙ s.here in
-        let next : cond found ahead T.frame ≡ later T t f 0 = ap (λ (r : Time). cond found ahead (ahead_of T.frame (t % T.frame) Never r)) (sym (start_done T i f 0 h)) ∙ s.next in
+        let here : None ≡ first_start (starts_from f (t % T.frame + 1)) (windows T) = sym (start_done T i f (t % T.frame + 1) h) ∙ s.here in
+        let next : cond found ahead T.frame ≡ later T t f 0 = ap (λ (r : Time). cond found ahead (ahead_of T.frame (t % T.frame) None r)) (sym (start_done T i f 0 h)) ∙ s.next in
         rw (ne_eqb T.frame 0 some, ← here) (either found (λ e. rw e at next) (λ e. s.none e ∙ rw e at next))
 
 -- ---------------------------------------------------------------- the waiting time

@@ -20,7 +20,7 @@ pub enum Sought {
 pub fn count(table: Table) -> usize
     ensures { (result ≡ length (windows table)) × (result ≤ window_limit) }
 {
-    let n = table.windowCount as usize;
+    let n = table.window_count as usize;
     if n < Module::WINDOWS {
         n
     } else {

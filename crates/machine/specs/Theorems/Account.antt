@@ -184,4 +184,4 @@ pub record Account : Type 0 where
   -- each queuing channel, over every list of events from the fresh module on; its ends may restart
   pub channel : (input : List ℕ) (i : ℕ) (es : List Event)
       → let m = (read_table input).state in
-      i < m.table.channelCount → ((channel m.table i).size ≡ 0 → ⊥) → Balances (channel_flow m.table i) m es
+      i < m.table.channel_count → ((channel m.table i).size ≡ 0 → ⊥) → Balances (channel_flow m.table i) m es

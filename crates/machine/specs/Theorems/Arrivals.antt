@@ -54,7 +54,7 @@ pub record Arrivals : Type 0 where
   pub ticked : (m : Module) → Reached m → (e : EventT) (k : ℕ) → Between 1 m.table.size k → let p = own m k in
       let q = own (step m e).state k in
       e.partition ≡ pos 0 → (step m e).answer.code ≡ 0
-      → members q.arrival ≡ kept (λ id. ready (process id q)) (members p.arrival) ++ kept (λ id. ready (process id q) && not (ready (process id p))) (ids_from p.processCount 1)
+      → members q.arrival ≡ kept (λ id. ready (process id q)) (members p.arrival) ++ kept (λ id. ready (process id q) && not (ready (process id p))) (ids_from p.process_count 1)
   -- who joins, or is moved, stands behind everyone who stays READY and is not
   pub behind : (m : Module) → Reached m → (e : EventT) (k a b : ℕ) → Between 1 m.table.size k → let p = own m k in
       let q = own (step m e).state k in

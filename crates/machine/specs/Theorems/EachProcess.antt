@@ -99,11 +99,11 @@ module _ (m : Module) (e : EventT) (code k id : ℕ) where
   -- destination of a channel at whose source it waits
   pub data Service : Type 0 where
     here : (n message : ℕ) → Call n 0 → was.wait ≡ served_by n (id_of e.a) message → (was.wait ≡ None → ⊥) → Service
-    sent : (i : ℕ) → i < m.table.channelCount → e.partition ≡ pos (channel m.table i).source → e.call ≡ pos 30 → e.a ≡ pos (i + 1) → code ≡ 0
+    sent : (i : ℕ) → i < m.table.channel_count → e.partition ≡ pos (channel m.table i).source → e.call ≡ pos 30 → e.a ≡ pos (i + 1) → code ≡ 0
         → k ≡ (channel m.table i).destination → was.wait ≡ Destination (i + 1) → Service
-    taken : (i message : ℕ) → i < m.table.channelCount → e.partition ≡ pos (channel m.table i).destination → e.call ≡ pos 31 → e.a ≡ pos (i + 1) → code ≡ 0
+    taken : (i message : ℕ) → i < m.table.channel_count → e.partition ≡ pos (channel m.table i).destination → e.call ≡ pos 31 → e.a ≡ pos (i + 1) → code ≡ 0
         → k ≡ (channel m.table i).source → was.wait ≡ Source (i + 1) message → Service
-    restart : (i message mode : ℕ) → i < m.table.channelCount → e.partition ≡ pos (channel m.table i).destination → e.call ≡ pos 1 → e.a ≡ pos mode → mode ≤ 2 → code ≡ 0
+    restart : (i message mode : ℕ) → i < m.table.channel_count → e.partition ≡ pos (channel m.table i).destination → e.call ≡ pos 1 → e.a ≡ pos mode → mode ≤ 2 → code ≡ 0
         → k ≡ (channel m.table i).source → was.wait ≡ Source (i + 1) message → Service
 
   -- none of these (but for a service), no SUSPEND, RESUME or SET_PRIORITY of it, and no call by it that waits

@@ -3,7 +3,7 @@
 use Rattle.std.specs.Prelude.{ℕ, ◌≡◌, not, ◌&&◌, eqb, pos}
 use Rattle.machine.specs.declared.Event.{Event as EventT}
 use Rattle.machine.specs.declared.Module.{Module}
-use Rattle.machine.specs.declared.Time.TheVariants.{Never}
+use Rattle.std.specs.Prelude.{None}
 use Rattle.machine.specs.declared.Wait.TheVariants.{Normal}
 use Rattle.machine.specs.Ids.{members, kept}
 use Rattle.machine.specs.Process.{ready}
@@ -24,15 +24,15 @@ pub record Enters (m : Module) (k : ℕ) : Type 0 where
   -- an aperiodic one that waits for NORMAL takes the start rule with its delay, keeping its suspended mark and current priority: d = t + delay + capacity, or −1
   pub aperiodic : (id : ℕ) → let x = process id (own m k) in
       let y = process id (own (step m (enter k)).state k) in
-      Between 1 (own m k).processCount id → x.wait ≡ Normal → x.given.period ≡ Never → y ≡ started_at m.t x.times.delay x.current x.suspended x
+      Between 1 (own m k).process_count id → x.wait ≡ Normal → x.given.period ≡ None → y ≡ started_at m.t x.times.delay x.current x.suspended x
   -- it is READY where its delay is 0 and it is not suspended
   pub ready_at : (id : ℕ) → let x = process id (own m k) in
       let y = process id (own (step m (enter k)).state k) in
-      Between 1 (own m k).processCount id → x.wait ≡ Normal → x.given.period ≡ Never → ready y ≡ (not x.suspended && eqb x.times.delay 0)
+      Between 1 (own m k).process_count id → x.wait ≡ Normal → x.given.period ≡ None → ready y ≡ (not x.suspended && eqb x.times.delay 0)
   -- who does not wait for NORMAL stays
   pub others : (id : ℕ) → let x = process id (own m k) in
       let y = process id (own (step m (enter k)).state k) in
-      Between 1 (own m k).processCount id → (x.wait ≡ Normal → ⊥) → y ≡ x
+      Between 1 (own m k).process_count id → (x.wait ≡ Normal → ⊥) → y ≡ x
   -- the arrival list holds the READY ones by ascending id
   pub arrival : let q = own (step m (enter k)).state k in
-      members q.arrival ≡ kept (λ id. ready (process id q)) (ids_from (own m k).processCount 1)
+      members q.arrival ≡ kept (λ id. ready (process id q)) (ids_from (own m k).process_count 1)

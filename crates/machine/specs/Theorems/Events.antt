@@ -6,9 +6,9 @@ use Rattle.machine.specs.declared.Process.{Process}
 use Rattle.machine.specs.declared.Partition.{Partition}
 use Rattle.machine.specs.declared.Event.{Event as EventT}
 use Rattle.machine.specs.declared.Module.{Module}
-use Rattle.machine.specs.declared.Wait.TheVariants.{None}
-use Rattle.machine.specs.declared.Time.{Time}
-use Rattle.machine.specs.declared.Time.TheVariants.{Never, At}
+use Rattle.machine.specs.declared.Wait.TheVariants.{None as NoWait}
+use Rattle.machine.specs.Time.{Time}
+use Rattle.std.specs.Prelude.{None, Some}
 use Rattle.machine.specs.Limits.{duration_limit}
 use Rattle.machine.specs.Ids.{members, ids_of, kept, other}
 use Rattle.machine.specs.Partition.{semaphore, running, with_processes, with_semaphores, with_events, with_buffers, with_blackboards}
@@ -40,7 +40,7 @@ pub record Gives (m : Module) (e : EventT) (code value : ℕ) (extra : Time) (q 
 
 -- refused with this code; the whole record stays
 abbrev pub Refuses : Module → EventT → ℕ → Type 0
-Refuses m e code = Gives m e code 0 (At 0) m
+Refuses m e code = Gives m e code 0 (Some 0) m
 
 -- a time-out: −1, or 0..9,999,999
 abbrev pub TimeOut : ℤ → Type 0
@@ -48,7 +48,7 @@ TimeOut a = (plain_minus_one a || plain_between 0 duration_limit a) ≡ true
 
 -- partition k has the record p from now on, and nothing else changes
 abbrev pub Puts : Module → EventT → ℕ → ℕ → ℕ → Partition → Type 0
-Puts m e code value k p = Gives m e code value (At 0) (with_part (k - 1) p m)
+Puts m e code value k p = Gives m e code value (Some 0) (with_part (k - 1) p m)
 
 -- a call of partition k comes to its body: the record is reached, the partition is current and not IDLE, and in NORMAL a process runs
 pub record Calling (m : Module) (k : ℕ) : Type 0 where
@@ -61,7 +61,7 @@ pub record Calling (m : Module) (k : ℕ) : Type 0 where
 -- ---------------------------------------------------------------- the record after
 -- process id, which waits on nothing before and after, has the record x; the arrival list is this one
 abbrev pub with_process : ℕ → Process → Ids → Partition → Partition
-with_process id x arrival p = with_processes (set p.processes (id - 1) x) p.processCount arrival p.waiting p
+with_process id x arrival p = with_processes (set p.processes (id - 1) x) p.process_count arrival p.waiting p
 
 -- the arrival list without an id, and with it at its end
 abbrev pub without : ℕ → Ids → Ids
@@ -72,25 +72,25 @@ at_end id q = ids_of (kept (other id) (members q) ++ (id ∷ []))
 
 -- one more process. Created, it is DORMANT: four fields as given, no wait, r, d, w −1, the rest (current priority too) 0.
 abbrev pub new_process : Given → Process
-new_process g = record { given = g; times = record { release = Never; deadline = Never; wake = Never; delay = 0 }; current = 0; suspended = false; missed = false; code = 0; message = 0; started = false; wait = None }
+new_process g = record { given = g; times = record { release = None; deadline = None; wake = None; delay = 0 }; current = 0; suspended = false; missed = false; code = 0; message = 0; started = false; wait = NoWait }
 
 abbrev pub with_new : Given → Partition → Partition
-with_new g p = with_processes (set p.processes p.processCount (new_process g)) (p.processCount + 1) p.arrival p.waiting p
+with_new g p = with_processes (set p.processes p.process_count (new_process g)) (p.process_count + 1) p.arrival p.waiting p
 
 -- one more semaphore, one more event (DOWN)
 abbrev pub with_new_semaphore : ℕ → ℕ → ℕ → Partition → Partition
-with_new_semaphore name start max p = with_semaphores (set p.semaphores p.semaphoreCount (record { name = name; value = start; max = max })) (p.semaphoreCount + 1) p
+with_new_semaphore name start max p = with_semaphores (set p.semaphores p.semaphore_count (record { name = name; value = start; max = max })) (p.semaphore_count + 1) p
 
 abbrev pub with_new_event : ℕ → Partition → Partition
-with_new_event name p = with_events (set p.events p.eventCount (record { name = name; up = false })) (p.eventCount + 1) p
+with_new_event name p = with_events (set p.events p.event_count (record { name = name; up = false })) (p.event_count + 1) p
 
 -- one more buffer, one more blackboard, with nothing in them
 abbrev pub with_new_buffer : ℕ → ℕ → Partition → Partition
-with_new_buffer name limit p = with_buffers (set p.buffers p.bufferCount (record { name = name; limit = limit; queue = queue_of [] })) (p.bufferCount + 1) p
+with_new_buffer name limit p = with_buffers (set p.buffers p.buffer_count (record { name = name; limit = limit; queue = queue_of [] })) (p.buffer_count + 1) p
 
 abbrev pub with_new_blackboard : ℕ → Partition → Partition
-with_new_blackboard name p = with_blackboards (set p.blackboards p.blackboardCount (record { name = name; shown = false; message = 0 })) (p.blackboardCount + 1) p
+with_new_blackboard name p = with_blackboards (set p.blackboards p.blackboard_count (record { name = name; shown = false; message = 0 })) (p.blackboard_count + 1) p
 
 -- semaphore j has this value
 abbrev pub with_semaphore_at : ℕ → ℕ → Partition → Partition
-with_semaphore_at j n p = with_semaphores (set p.semaphores (j - 1) (record { name = (semaphore j p).name; value = n; max = (semaphore j p).max })) p.semaphoreCount p
+with_semaphore_at j n p = with_semaphores (set p.semaphores (j - 1) (record { name = (semaphore j p).name; value = n; max = (semaphore j p).max })) p.semaphore_count p

@@ -6,7 +6,7 @@ use Rattle.machine.specs.declared.EventRecord.{EventRecord}
 use Rattle.machine.specs.declared.Channel.{Channel}
 use Rattle.machine.specs.declared.Message.{Message}
 use Rattle.machine.specs.declared.Module.{Module}
-use Rattle.machine.specs.declared.Time.TheVariants.{At}
+use Rattle.std.specs.Prelude.{Some}
 use Rattle.machine.specs.declared.Wait.TheVariants.{Blackboard, Event as EventOf}
 use Rattle.machine.specs.Partition.{event, blackboard}
 use Rattle.machine.specs.Module.{channel, message}
@@ -65,16 +65,16 @@ pub record Latest : Type 0 where
   -- the message of a channel, its value and its time, is that of the last WRITE answered 0 since the last accepted mode 0 to 2 of its destination; none
   -- without one
   pub sampling : (input : List ℕ) (i : ℕ) (es : List Event) → let m = (read_table input).state in
-      i < m.table.channelCount → message (after m es) i ≡ last_written m i es
+      i < m.table.channel_count → message (after m es) i ≡ last_written m i es
   -- READ then: 1 without one; else its value, with 1 exactly while t − written ≤ refresh
   pub read : (input : List ℕ) (i k : ℕ) (es : List Event) → let m = (read_table input).state in
       let q = after m es in
       let c = channel m.table i in
       let x = last_written m i es in
       let e = call_by k 22 (pos (i + 1)) (pos 0) (pos 0) (pos 0) in
-      i < m.table.channelCount → c.size ≡ 0 → c.destination ≡ k → Calling q k
+      i < m.table.channel_count → c.size ≡ 0 → c.destination ≡ k → Calling q k
       → (x.present ≡ false → Refuses q e 1)
-      × (x.present ≡ true → Gives q e 0 x.value (At (cond (leb (q.t - x.written) c.refresh) 1 0)) q)
+      × (x.present ≡ true → Gives q e 0 x.value (Some (cond (leb (q.t - x.written) c.refresh) 1 0)) q)
   -- a blackboard shows the message of the last SHOW answered 0 since its creation, none where a CLEAR came later or there was no SHOW
   pub board : (input : List ℕ) (before : List Event) (k j : ℕ) (name : ℤ) (es : List Event) → let m = after (read_table input).state before in
       let s = next m (call_by k 26 name (pos 0) (pos 0) (pos 0)) in
@@ -90,10 +90,10 @@ pub record Latest : Type 0 where
       let q = after s es in
       let e = call_by k 28 (pos j) a (pos 0) (pos 0) in
       Since m k 26 j name es → Calling q k
-      → MayWait q k e ((not (plain_between 1 (own q k).blackboardCount (pos j)), 3) ∷ []) (in_t a) a (last_shown s k j es).0 (Gives q e 0 (last_shown s k j es).1 (At 0) q) (Blackboard j)
+      → MayWait q k e ((not (plain_between 1 (own q k).blackboard_count (pos j)), 3) ∷ []) (in_t a) a (last_shown s k j es).0 (Gives q e 0 (last_shown s k j es).1 (Some 0) q) (Blackboard j)
   pub wait_event : (input : List ℕ) (before : List Event) (k j : ℕ) (name a : ℤ) (es : List Event) → let m = after (read_table input).state before in
       let s = next m (call_by k 17 name (pos 0) (pos 0) (pos 0)) in
       let q = after s es in
       let e = call_by k 20 (pos j) a (pos 0) (pos 0) in
       Since m k 17 j name es → Calling q k
-      → MayWait q k e ((not (plain_between 1 (own q k).eventCount (pos j)), 3) ∷ []) (in_t a) a (last_set s k j es) (Gives q e 0 0 (At 0) q) (EventOf j)
+      → MayWait q k e ((not (plain_between 1 (own q k).event_count (pos j)), 3) ∷ []) (in_t a) a (last_set s k j es) (Gives q e 0 0 (Some 0) q) (EventOf j)

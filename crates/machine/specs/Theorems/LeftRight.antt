@@ -56,7 +56,7 @@ Within T S = (k : ℕ) → S k ≡ true → (1 ≤ k) × (k ≤ T.size)
 -- S.
 abbrev pub Closed : Table → (ℕ → Bool) → Type 0
 Closed T S =
-    (i : ℕ) → i < T.channelCount
+    (i : ℕ) → i < T.channel_count
     → cond (queuing (channel T i))
     (S (channel T i).source ≡ S (channel T i).destination)
     (S (channel T i).destination ≡ true → S (channel T i).source ≡ true)
@@ -77,10 +77,10 @@ pub record EqualIn (T : Table) (S : ℕ → Bool) (m n : Module) : Type 0 where
   pub time : m.t ≡ n.t
   pub owner : current m ≡ current n
   pub records : (k : ℕ) → S k ≡ true → part m (k - 1) ≡ part n (k - 1)
-  pub messages : (i : ℕ) → i < T.channelCount → S (channel T i).destination ≡ true → message m i ≡ message n i
-  pub queues : (i : ℕ) → i < T.channelCount → queuing (channel T i) ≡ true → S (channel T i).destination ≡ true → queue m i ≡ queue n i
-  pub senders : (i : ℕ) → i < T.channelCount → queuing (channel T i) ≡ true → S (channel T i).destination ≡ true → senders_at i m ≡ senders_at i n
-  pub receivers : (i : ℕ) → i < T.channelCount → queuing (channel T i) ≡ true → S (channel T i).destination ≡ true → receivers_at i m ≡ receivers_at i n
+  pub messages : (i : ℕ) → i < T.channel_count → S (channel T i).destination ≡ true → message m i ≡ message n i
+  pub queues : (i : ℕ) → i < T.channel_count → queuing (channel T i) ≡ true → S (channel T i).destination ≡ true → queue m i ≡ queue n i
+  pub senders : (i : ℕ) → i < T.channel_count → queuing (channel T i) ≡ true → S (channel T i).destination ≡ true → senders_at i m ≡ senders_at i n
+  pub receivers : (i : ℕ) → i < T.channel_count → queuing (channel T i) ≡ true → S (channel T i).destination ≡ true → receivers_at i m ≡ receivers_at i n
   pub process : S (current m) ≡ true → running_in (current m) m ≡ running_in (current n) n
 
 -- the claim for a record that both runs start from: without their free events both lists are equal; then the common answers are the

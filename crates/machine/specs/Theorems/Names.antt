@@ -13,11 +13,11 @@ Differ name_of count = (i j : ℕ) → Between 1 count i → Between 1 count j �
 
 -- names differ within the partition and the kind
 pub record NamesDiffer (p : Partition) : Type 0 where
-  pub processes : Differ (λ id. (process id p).given.name) p.processCount
-  pub semaphores : Differ (λ j. (semaphore j p).name) p.semaphoreCount
-  pub events : Differ (λ j. (event j p).name) p.eventCount
-  pub buffers : Differ (λ j. (buffer j p).name) p.bufferCount
-  pub blackboards : Differ (λ j. (blackboard j p).name) p.blackboardCount
+  pub processes : Differ (λ id. (process id p).given.name) p.process_count
+  pub semaphores : Differ (λ j. (semaphore j p).name) p.semaphore_count
+  pub events : Differ (λ j. (event j p).name) p.event_count
+  pub buffers : Differ (λ j. (buffer j p).name) p.buffer_count
+  pub blackboards : Differ (λ j. (blackboard j p).name) p.blackboard_count
 
 -- every partition of every reached record
 abbrev pub Names : Type 0

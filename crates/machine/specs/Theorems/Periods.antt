@@ -3,7 +3,7 @@
 use Rattle.std.specs.Prelude.{ℕ, ◌+◌, ◌*◌, ◌≡◌, Bool, true, cond, ◌&&◌, List, [], ◌∷◌, eqb}
 use Rattle.machine.specs.declared.Event.{Event as EventT}
 use Rattle.machine.specs.declared.Module.{Module}
-use Rattle.machine.specs.declared.Time.TheVariants.{Never, At}
+use Rattle.std.specs.Prelude.{None, Some}
 use Rattle.machine.specs.Partition.{process, running}
 use Rattle.machine.specs.Step.{step}
 use Rattle.machine.specs.Runs.{after}
@@ -31,8 +31,8 @@ NeverStopped k id m (e ∷ es) =
 pub record Periods : Type 0 where
   -- a started periodic process of a NORMAL partition has a release
   pub known : (m : Module) → Reached m → (k id n : ℕ) → let x = process id (own m k) in
-      Between 1 m.table.size k → (own m k).mode ≡ 3 → x.started ≡ true → x.given.period ≡ At n → x.times.release ≡ Never → ⊥
+      Between 1 m.table.size k → (own m k).mode ≡ 3 → x.started ≡ true → x.given.period ≡ Some n → x.times.release ≡ None → ⊥
   -- r after = r before + period × its PERIODIC_WAITs answered 7
   pub strict : (m : Module) → Reached m → (es : List EventT) (k id n r : ℕ) → let x = process id (own m k) in
-      Between 1 m.table.size k → (own m k).mode ≡ 3 → x.started ≡ true → x.given.period ≡ At n → x.times.release ≡ At r → NeverStopped k id m es
-      → (process id (own (after m es) k)).times.release ≡ At (r + n * period_waits k id m es)
+      Between 1 m.table.size k → (own m k).mode ≡ 3 → x.started ≡ true → x.given.period ≡ Some n → x.times.release ≡ Some r → NeverStopped k id m es
+      → (process id (own (after m es) k)).times.release ≡ Some (r + n * period_waits k id m es)

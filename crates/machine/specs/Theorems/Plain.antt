@@ -4,14 +4,14 @@
 -- a number past the greatest time is no number. Here the same is said without them, and what it means that none of them acts at an event:
 -- `no_bound_acts` proves it of every event at every record that a run reaches. Nothing of the machine rests on it.
 use Rattle.std.specs.Prelude.{ℕ, zero, suc, ◌+◌, ◌-◌, ◌%◌, ◌≤◌, ◌<◌, ◌≡◌, Bool, true, false, cond, ◌&&◌, ◌||◌, List, [], ◌∷◌, ◌++◌, map, ◌⊎◌, length, get_or, set, drop, eqb, leb, ltb, ℤ, pos, negsuc}
-use Rattle.machine.specs.declared.Time.{Time}
-use Rattle.machine.specs.declared.Time.TheVariants.{Never, At}
+use Rattle.machine.specs.Time.{Time}
+use Rattle.std.specs.Prelude.{None, Some}
 use Rattle.machine.specs.declared.Field.TheVariants.{Number, MinusOne}
 use Rattle.machine.specs.declared.Times.{Times}
 use Rattle.machine.specs.declared.Process.{Process}
 use Rattle.machine.specs.declared.Semaphore.{Semaphore as SemaphoreT}
 use Rattle.machine.specs.declared.EventState.{EventState}
-use Rattle.machine.specs.declared.Wait.TheVariants.{None}
+use Rattle.machine.specs.declared.Wait.TheVariants.{None as NoWait}
 use Rattle.machine.specs.declared.Transfer.{Transfer}
 use Rattle.machine.specs.declared.Transfer.TheVariants.{Put, HandedTo, Taken, LetIn}
 use Rattle.machine.specs.declared.Buffer.{Buffer}
@@ -70,7 +70,7 @@ changed_first (suc n) f (a ∷ l) = f a ∷ changed_first n f l
 -- ---------------------------------------------------------------- a process
 -- the wait ends (w −1) with this wake code, and this message is in the process record then; all else stays, the suspended mark too
 abbrev pub wait_over : ℕ → ℕ → Process → Process
-wait_over code m x = record { given = x.given; times = record { release = x.times.release; deadline = x.times.deadline; wake = Never; delay = x.times.delay }; current = x.current; suspended = x.suspended; missed = x.missed; code = code; message = m; started = x.started; wait = None }
+wait_over code m x = record { given = x.given; times = record { release = x.times.release; deadline = x.times.deadline; wake = None; delay = x.times.delay }; current = x.current; suspended = x.suspended; missed = x.missed; code = code; message = m; started = x.started; wait = NoWait }
 
 -- the same with wake code 0, and the message stays: SIGNAL, SET_EVENT, a sender whose message is let in
 abbrev pub let_go : Process → Process
@@ -78,8 +78,8 @@ let_go x = wait_over 0 x.message x
 
 -- it is not −1 and ≤ t
 abbrev pub come : ℕ → Time → Bool
-come t Never = false
-come t (At n) = leb n t
+come t None = false
+come t (Some n) = leb n t
 
 -- a tick at one process: where w has come, w −1 and no wait; wake code 6 for who waits on an object, or has no wait but the mark, which goes;
 -- else 0. Where d has come: missed mark 1, d −1. All else stays.
@@ -90,14 +90,14 @@ at_tick t x =
     let unmarked = over && (waits_for_nothing x.wait && x.suspended) in
     record {
       given = x.given;
-      times = record { release = x.times.release; deadline = cond late Never x.times.deadline; wake = cond over Never x.times.wake; delay = x.times.delay };
+      times = record { release = x.times.release; deadline = cond late None x.times.deadline; wake = cond over None x.times.wake; delay = x.times.delay };
       current = x.current;
       suspended = cond unmarked false x.suspended;
       missed = cond late true x.missed;
       code = cond over (cond (unmarked || on_object x) 6 0) x.code;
       message = x.message;
       started = x.started;
-      wait = cond over None x.wait;
+      wait = cond over NoWait x.wait;
     }
 
 -- ---------------------------------------------------------------- the changes
@@ -105,33 +105,33 @@ at_tick t x =
 unfoldable pub plain_stored : ℕ → Process → Partition → Partition
 plain_stored id x p =
     let old = plain_by_id blank_process id p.processes in
-    with_processes (set p.processes (id - 1) x) p.processCount
+    with_processes (set p.processes (id - 1) x) p.process_count
     (ids_of (followed (ready old) (ready x) id (members p.arrival)))
     (ids_of (followed (on_object old) (on_object x) id (members p.waiting))) p
 
 -- the next process
 unfoldable pub plain_created : ℕ → Process → Partition → Partition
-plain_created id x p = with_processes (set p.processes (id - 1) x) (p.processCount + 1) p.arrival p.waiting p
+plain_created id x p = with_processes (set p.processes (id - 1) x) (p.process_count + 1) p.arrival p.waiting p
 
 -- process id goes to the end of the arrival list
 unfoldable pub plain_last : ℕ → Partition → Partition
-plain_last id p = with_processes p.processes p.processCount (ids_of (kept (other id) (members p.arrival) ++ (id ∷ []))) p.waiting p
+plain_last id p = with_processes p.processes p.process_count (ids_of (kept (other id) (members p.arrival) ++ (id ∷ []))) p.waiting p
 
 -- how many there are after one has been stored: one more where it is the next
 abbrev pub count_with : ℕ → ℕ → ℕ
 count_with id count = cond (ltb count id) (count + 1) count
 
 unfoldable pub plain_semaphore : ℕ → SemaphoreT → Partition → Partition
-plain_semaphore k s p = with_semaphores (set p.semaphores (k - 1) s) (count_with k p.semaphoreCount) p
+plain_semaphore k s p = with_semaphores (set p.semaphores (k - 1) s) (count_with k p.semaphore_count) p
 
 unfoldable pub plain_event : ℕ → EventState → Partition → Partition
-plain_event k e p = with_events (set p.events (k - 1) e) (count_with k p.eventCount) p
+plain_event k e p = with_events (set p.events (k - 1) e) (count_with k p.event_count) p
 
 unfoldable pub plain_buffer : ℕ → Buffer → Partition → Partition
-plain_buffer k b p = with_buffers (set p.buffers (k - 1) b) (count_with k p.bufferCount) p
+plain_buffer k b p = with_buffers (set p.buffers (k - 1) b) (count_with k p.buffer_count) p
 
 unfoldable pub plain_blackboard : ℕ → BlackboardT → Partition → Partition
-plain_blackboard k b p = with_blackboards (set p.blackboards (k - 1) b) (count_with k p.blackboardCount) p
+plain_blackboard k b p = with_blackboards (set p.blackboards (k - 1) b) (count_with k p.blackboard_count) p
 
 -- a queue's messages after they moved
 abbrev pub plain_moved : Transfer → List ℕ → List ℕ
@@ -157,7 +157,7 @@ plain_all f (id ∷ l) p = plain_all f l (plain_stored id (f (plain_by_id blank_
 
 -- of every process, by ascending id
 abbrev pub plain_each : (Process → Process) → Partition → Partition
-plain_each f p = plain_all f (ids_from p.processCount 1) p
+plain_each f p = plain_all f (ids_from p.process_count 1) p
 
 abbrev pub plain_applied : Change → Partition → Partition
 plain_applied Nothing p = p
@@ -195,7 +195,7 @@ InPlace (StoredBlackboard k b) p = Between 1 (length p.blackboards) k
 InPlace (Ended o) p = Unit {0}
 InPlace (Handed o m) p = Unit {0}
 InPlace (LevelSet level holder) p = Unit {0}
-InPlace (Entered c) p = p.processCount ≤ length p.processes
+InPlace (Entered c) p = p.process_count ≤ length p.processes
 
 -- ---------------------------------------------------------------- an event
 abbrev pub plain_tick_partition : ℕ → Partition → Partition
@@ -241,7 +241,7 @@ plain_after m k (Unchanged value extra) = m
 plain_after m k Ticked = plain_ticked m
 plain_after m k (Blocked id x) = with_part (k - 1) (plain_stored id x (part m (k - 1))) m
 plain_after m k (Changed a b value) = with_part (k - 1) (plain_applied b (plain_applied a (part m (k - 1)))) m
-plain_after m k (Restarted mode) = plain_refilled_to k m.table.channelCount (with_part (k - 1) (nothing_created mode) (erased_to k channel_limit m))
+plain_after m k (Restarted mode) = plain_refilled_to k m.table.channel_count (with_part (k - 1) (nothing_created mode) (erased_to k channel_limit m))
 plain_after m k (Written i x) = with_message i x m
 plain_after m k (Passed i a value) = plain_passed k i a m
 
@@ -249,14 +249,14 @@ plain_after m k (Passed i a value) = plain_passed k i a m
 abbrev pub AllInPlace : Module → ℕ → Decision → Type 0
 AllInPlace m k (Refused code) = Unit {0}
 AllInPlace m k (Unchanged value extra) = Unit {0}
-AllInPlace m k Ticked = (i : ℕ) → i < m.table.size → (part m i).processCount ≤ length (part m i).processes
+AllInPlace m k Ticked = (i : ℕ) → i < m.table.size → (part m i).process_count ≤ length (part m i).processes
 AllInPlace m k (Blocked id x) = InPlace (Stored id x) (part m (k - 1))
 AllInPlace m k (Changed a b value) = InPlace a (part m (k - 1)) × InPlace b (plain_applied a (part m (k - 1)))
-AllInPlace m k (Restarted mode) = (i : ℕ) → i < m.table.channelCount → (i < length m.queues) × Between 1 m.table.size (channel m.table i).source
-AllInPlace m k (Written i x) = (i < m.table.channelCount) × (i < length m.messages)
+AllInPlace m k (Restarted mode) = (i : ℕ) → i < m.table.channel_count → (i < length m.queues) × Between 1 m.table.size (channel m.table i).source
+AllInPlace m k (Written i x) = (i < m.table.channel_count) × (i < length m.messages)
 AllInPlace m k (Passed i a value) =
     let e = other_end k (channel m.table i) in
-    (i < m.table.channelCount) × (i < length m.queues) × Between 1 m.table.size e × EndInPlace a (part m (e - 1))
+    (i < m.table.channel_count) × (i < length m.queues) × Between 1 m.table.size e × EndInPlace a (part m (e - 1))
 
 -- the decision, applied so, and the answer read off the record then
 abbrev pub plain_stepped : Module → Request → Decision → Stepped
@@ -267,8 +267,8 @@ plain_stepped m r d =
 -- ---------------------------------------------------------------- numbers
 -- a time that no cap has made
 abbrev pub Uncapped : Time → Type 0
-Uncapped Never = Unit {0}
-Uncapped (At n) = n < greatest_time
+Uncapped None = Unit {0}
+Uncapped (Some n) = n < greatest_time
 
 pub record UncappedTimes (s : Times) : Type 0 where
   pub release : Uncapped s.release
@@ -313,8 +313,8 @@ pub record PlainReads (p : Partition) : Type 0 where
 
 -- no number that the partition holds is one that a cap made, and a level is not above 16, so that LOCK_PREEMPTION answers 4 at 16 alone
 pub record PlainNumbers (p : Partition) : Type 0 where
-  pub times : (id : ℕ) → Between 1 p.processCount id → UncappedTimes (process id p).times
-  pub values : (k : ℕ) → Between 1 p.semaphoreCount k → (semaphore k p).value < greatest_value
+  pub times : (id : ℕ) → Between 1 p.process_count id → UncappedTimes (process id p).times
+  pub values : (k : ℕ) → Between 1 p.semaphore_count k → (semaphore k p).value < greatest_value
   pub level : leb level_limit p.level ≡ eqb p.level level_limit
 
 -- M is not 0: the window lookup and the next start of a window are the plain ones at every time; P is at most 8, there are at most 16 channels, and a
@@ -325,16 +325,16 @@ pub record PlainTable (T : Table) (t : ℕ) : Type 0 where
   pub starts : (t : ℕ) (f : Window → Bool) → let x = t % T.frame in
       next_start T t f ≡ ahead_of T.frame x (first_start (starts_from f (x + 1)) (windows T)) (first_start (starts_from f 0) (windows T))
   pub count : partition_count T ≡ T.size
-  pub queuing : (i : ℕ) → i < T.channelCount → queuing (channel T i) ≡ ltb 0 (channel T i).size
-  pub channels : T.channelCount ≤ channel_limit
+  pub queuing : (i : ℕ) → i < T.channel_count → queuing (channel T i) ≡ ltb 0 (channel T i).size
+  pub channels : T.channel_count ≤ channel_limit
   pub flagged : (k : ℕ) → Between 1 T.size k → has_flagged k (windows T) ≡ true
   pub release : (k : ℕ) → release_point T t k ≡ t + next_start T t (flagged_for k)
 
 -- a cap that acts is seen: a sum of times is the plain one or the greatest time, also where one more is added to it, and one more than a
 -- semaphore's value is the plain one or not below the greatest
 pub record CapsSeen : Type 0 where
-  pub sum : (a b : Time) → (later a b ≡ plain_later a b) ⊎ (later a b ≡ At greatest_time)
-  pub sums : (a b c : Time) → (later (later a b) c ≡ plain_later (plain_later a b) c) ⊎ (later (later a b) c ≡ At greatest_time)
+  pub sum : (a b : Time) → (later a b ≡ plain_later a b) ⊎ (later a b ≡ Some greatest_time)
+  pub sums : (a b c : Time) → (later (later a b) c ≡ plain_later (plain_later a b) c) ⊎ (later (later a b) c ≡ Some greatest_time)
   pub more : (n : ℕ) → (one_more n ≡ n + 1) ⊎ (greatest_value ≤ one_more n)
 
 -- at event e none of the bounds acts
@@ -358,4 +358,4 @@ pub record NoBoundActs (m : Module) (e : EventT) : Type 0 where
 -- the empty record apart: every event answers 13 and leaves it
 pub record EmptyStays (m : Module) (e : EventT) : Type 0 where
   pub empty : m ≡ empty_module
-  pub refused : step m e ≡ record { state = empty_module; answer = record { code = 13; value = 0; extra = At 0; t = 0; current = 0; running = 0 } }
+  pub refused : step m e ≡ record { state = empty_module; answer = record { code = 13; value = 0; extra = Some 0; t = 0; current = 0; running = 0 } }

@@ -6,8 +6,8 @@ use Rattle.machine.specs.declared.Partition.{Partition}
 use Rattle.machine.specs.declared.Event.{Event as EventT}
 use Rattle.machine.specs.declared.Module.{Module}
 use Rattle.machine.specs.declared.Wait.{Wait}
-use Rattle.machine.specs.declared.Wait.TheVariants.{None, Delay, Period}
-use Rattle.machine.specs.declared.Time.TheVariants.{Never}
+use Rattle.machine.specs.declared.Wait.TheVariants.{None as NoWait, Delay, Period}
+use Rattle.std.specs.Prelude.{None}
 use Rattle.machine.specs.Process.{ready}
 use Rattle.machine.specs.Partition.{process, waiters}
 use Rattle.machine.specs.Step.{step}
@@ -32,17 +32,17 @@ pub record StateChanges (m : Module) (e : EventT) (code k id : ℕ) (x y : Proce
   -- from DORMANT: a start of it
   pub starts : x.started ≡ false → y.started ≡ true → StartOf m e code k id
   -- into a wait: its start, or its own call
-  pub waits : x.wait ≡ None → (y.wait ≡ None → ⊥) → StartOf m e code k id ⊎ OwnWait m e code k id y.wait
+  pub waits : x.wait ≡ NoWait → (y.wait ≡ NoWait → ⊥) → StartOf m e code k id ⊎ OwnWait m e code k id y.wait
   -- out of a wait: a tick at which w has come, a stop of it, an erasure, a service, or entry into NORMAL
-  pub ends : (x.wait ≡ None → ⊥) → y.wait ≡ None
+  pub ends : (x.wait ≡ NoWait → ⊥) → y.wait ≡ NoWait
       → (Tick m e code k id × (come (m.t + 1) x.times.wake ≡ true)) ⊎ (StopOf m e code k id ⊎ (Erasure m e code k id ⊎ (Service m e code k id ⊎ Entry m e code k id)))
   -- from one wait to another: entry into NORMAL alone, to a delay or to the release
-  pub turns : (x.wait ≡ None → ⊥) → (y.wait ≡ None → ⊥) → (y.wait ≡ x.wait → ⊥) → Entry m e code k id × ((y.wait ≡ Delay) ⊎ (y.wait ≡ Period))
+  pub turns : (x.wait ≡ NoWait → ⊥) → (y.wait ≡ NoWait → ⊥) → (y.wait ≡ x.wait → ⊥) → Entry m e code k id × ((y.wait ≡ Delay) ⊎ (y.wait ≡ Period))
   -- the suspended mark is set: SUSPEND of it, or its SUSPEND_SELF
   pub marks : x.suspended ≡ false → y.suspended ≡ true → CallOf m e code k id 7 ⊎ CallBy m e code k id 8 7
   -- and cleared: RESUME of it, a tick at which w has come where it has no wait, a stop of it, or an erasure
   pub unmarks : x.suspended ≡ true → y.suspended ≡ false
-      → CallOf m e code k id 11 ⊎ ((Tick m e code k id × (come (m.t + 1) x.times.wake ≡ true) × (x.wait ≡ None)) ⊎ (StopOf m e code k id ⊎ Erasure m e code k id))
+      → CallOf m e code k id 11 ⊎ ((Tick m e code k id × (come (m.t + 1) x.times.wake ≡ true) × (x.wait ≡ NoWait)) ⊎ (StopOf m e code k id ⊎ Erasure m e code k id))
   -- the missed mark is set: a tick at which d has come
   pub misses : x.missed ≡ false → y.missed ≡ true → Tick m e code k id × (come (m.t + 1) x.times.deadline ≡ true)
 
@@ -56,7 +56,7 @@ pub record TickLeaves (m : Module) (e : EventT) (k : ℕ) : Type 0 where
 -- process x of partition p is y, and the partition is q: the wait, w where there is a wait, r and d stay, and so does every queue, with its place in it
 pub record WaitStays (p q : Partition) (x y : Process) : Type 0 where
   pub wait : y.wait ≡ x.wait
-  pub wake : (x.wait ≡ None → ⊥) → y.times.wake ≡ x.times.wake
+  pub wake : (x.wait ≡ NoWait → ⊥) → y.times.wake ≡ x.times.wake
   pub release : y.times.release ≡ x.times.release
   pub deadline : y.times.deadline ≡ x.times.deadline
   pub queues : (o : ℕ) → (o ≡ 0 → ⊥) → waiters o q ≡ waiters o p
@@ -73,7 +73,7 @@ pub record Suspensions (m : Module) (k id : ℕ) : Type 0 where
       let x = process id (own m k) in
       let y = process id q in
       (step m e).answer.code ≡ 0 → WaitStays (own m k) q x y × (y.suspended ≡ false)
-      × (x.wait ≡ None → (ready y ≡ true) × (y.times.wake ≡ Never)) × ((x.wait ≡ None → ⊥) → ready y ≡ false)
+      × (x.wait ≡ NoWait → (ready y ≡ true) × (y.times.wake ≡ None)) × ((x.wait ≡ NoWait → ⊥) → ready y ≡ false)
 
 -- ---------------------------------------------------------------- the whole
 pub record ProcessStates : Type 0 where

@@ -45,10 +45,10 @@ NotExchanged x y = (object x.wait ≡ 0) ⊎ KeepsOrEnds x y
 -- queue o of a partition p after each change
 pub record QueueChanges (o : ℕ) (p : Partition) : Type 0 where
   -- process id gets the record x: one that begins to wait on the object joins last, one that ceases leaves, the others stay in their order
-  pub stored : (id : ℕ) (x : Process) → Between 1 p.processCount id → NotExchanged (process id p) x
+  pub stored : (id : ℕ) (x : Process) → Between 1 p.process_count id → NotExchanged (process id p) x
       → waiters o (stored id x p) ≡ followed (waits_on o p id) (eqb (object x.wait) o) id (waiters o p)
   -- one created, one put last in the arrival list, an object stored: the queue stays
-  pub created : (x : Process) → object x.wait ≡ 0 → waiters o (created (p.processCount + 1) x p) ≡ waiters o p
+  pub created : (x : Process) → object x.wait ≡ 0 → waiters o (created (p.process_count + 1) x p) ≡ waiters o p
   pub arrived : (id : ℕ) → waiters o (arrived_last id p) ≡ waiters o p
   pub locked : (level holder : ℕ) → waiters o (with_lock level holder p) ≡ waiters o p
   pub semaphore : (k : ℕ) (s : SemaphoreT) → waiters o (stored_semaphore k s p) ≡ waiters o p
@@ -96,7 +96,7 @@ NoneWaits p = (kind k : ℕ) → available kind k p ≡ true → waiters (queue_
 -- ---------------------------------------------------------------- who waits at the ends of queuing channels
 -- channel number k is a queuing one of the table, and this is its end
 pub record EndOf (T : Table) (end : Channel → ℕ) (k i : ℕ) : Type 0 where
-  pub there : Between 1 T.channelCount k
+  pub there : Between 1 T.channel_count k
   pub queuing : (channel T (k - 1)).size ≡ 0 → ⊥
   pub here : end (channel T (k - 1)) ≡ i + 1
 
@@ -105,8 +105,8 @@ pub record EndOf (T : Table) (end : Channel → ℕ) (k i : ℕ) : Type 0 where
 pub record ChannelEnds (m : Module) : Type 0 where
   pub sources : (i id k n : ℕ) → i < m.table.size → (process id (part m i)).wait ≡ Source k n → EndOf m.table (λ c. c.source) k i
   pub destinations : (i id k : ℕ) → i < m.table.size → (process id (part m i)).wait ≡ Destination k → EndOf m.table (λ c. c.destination) k i
-  pub room : (i : ℕ) → i < m.table.channelCount → (queue m i).len < (channel m.table i).size → waiters (object (Source (i + 1) 0)) (own m (channel m.table i).source) ≡ []
-  pub message : (i : ℕ) → i < m.table.channelCount → 0 < (queue m i).len → waiters (object (Destination (i + 1))) (own m (channel m.table i).destination) ≡ []
+  pub room : (i : ℕ) → i < m.table.channel_count → (queue m i).len < (channel m.table i).size → waiters (object (Source (i + 1) 0)) (own m (channel m.table i).source) ≡ []
+  pub message : (i : ℕ) → i < m.table.channel_count → 0 < (queue m i).len → waiters (object (Destination (i + 1))) (own m (channel m.table i).destination) ≡ []
 
 -- ---------------------------------------------------------------- an event
 -- who joins queue o of partition number i + 1, whose record was p and is q, at an event of partition k that answers code: the process that ran,
@@ -154,40 +154,40 @@ pub record QueueCalls (m : Module) (k j : ℕ) : Type 0 where
   -- 16 SIGNAL below max: the first waiter's wait ends; none: value + 1
   pub signal_first : (id : ℕ) (rest : List ℕ) → let p = own m k in
       let e = call_by k 16 (pos j) (pos 0) (pos 0) (pos 0) in
-      Between 1 p.semaphoreCount j → ((semaphore j p).value ≡ (semaphore j p).max → ⊥) → waiters (object (Semaphore j)) p ≡ id ∷ rest
+      Between 1 p.semaphore_count j → ((semaphore j p).value ≡ (semaphore j p).max → ⊥) → waiters (object (Semaphore j)) p ≡ id ∷ rest
       → FirstServed m k e (object (Semaphore j)) id rest (has m k id) × SameObjects p (own (step m e).state k)
   pub signal_none : let p = own m k in
       let e = call_by k 16 (pos j) (pos 0) (pos 0) (pos 0) in
-      Between 1 p.semaphoreCount j → ((semaphore j p).value ≡ (semaphore j p).max → ⊥) → waiters (object (Semaphore j)) p ≡ []
+      Between 1 p.semaphore_count j → ((semaphore j p).value ≡ (semaphore j p).max → ⊥) → waiters (object (Semaphore j)) p ≡ []
       → NoneServed m k e (object (Semaphore j)) × ((semaphore j (own (step m e).state k)).value ≡ (semaphore j p).value + 1)
   -- 18 SET_EVENT: UP, all waiters' waits end in queue order
   pub set_event : let e = call_by k 18 (pos j) (pos 0) (pos 0) (pos 0) in
-      Between 1 (own m k).eventCount j → AllServed m k e (object (Event j)) (has m k) × ((event j (own (step m e).state k)).up ≡ true)
+      Between 1 (own m k).event_count j → AllServed m k e (object (Event j)) (has m k) × ((event j (own (step m e).state k)).up ≡ true)
 
 -- buffers and blackboards; b is a message
 pub record MessageCalls (m : Module) (k j : ℕ) : Type 0 where
   -- 24 SEND_BUFFER where receivers wait: the message goes straight into the first one's record, and no object changes
   pub send_first : (b id : ℕ) (rest : List ℕ) (a : ℤ) → let p = own m k in
       let e = call_by k 24 (pos j) (pos b) a (pos 0) in
-      p.mode ≡ 3 → Between 1 p.bufferCount j → waiters (object (Receiving j)) p ≡ id ∷ rest → b ≤ duration_limit → TimeOut a
+      p.mode ≡ 3 → Between 1 p.buffer_count j → waiters (object (Receiving j)) p ≡ id ∷ rest → b ≤ duration_limit → TimeOut a
       → FirstServed m k e (object (Receiving j)) id rest b × SameObjects p (own (step m e).state k)
   -- where none waits and there is room: it is the buffer's last message
   pub send_none : (b : ℕ) (a : ℤ) → let p = own m k in
       let e = call_by k 24 (pos j) (pos b) a (pos 0) in
-      p.mode ≡ 3 → Between 1 p.bufferCount j → waiters (object (Receiving j)) p ≡ [] → (buffer j p).queue.len < (buffer j p).limit → b ≤ duration_limit → TimeOut a
+      p.mode ≡ 3 → Between 1 p.buffer_count j → waiters (object (Receiving j)) p ≡ [] → (buffer j p).queue.len < (buffer j p).limit → b ≤ duration_limit → TimeOut a
       → NoneServed m k e (object (Receiving j)) × (held (buffer j (own (step m e).state k)).queue ≡ held (buffer j p).queue ++ (b ∷ []))
   -- 25 RECEIVE_BUFFER: the first message; the first waiting sender's message is let in at the end, none: the others move up
   pub receive_first : (b : ℕ) (l : List ℕ) (id : ℕ) (rest : List ℕ) (a : ℤ) → let p = own m k in
       let e = call_by k 25 (pos j) a (pos 0) (pos 0) in
-      p.mode ≡ 3 → Between 1 p.bufferCount j → held (buffer j p).queue ≡ b ∷ l → waiters (object (Sending j 0)) p ≡ id ∷ rest → TimeOut a
+      p.mode ≡ 3 → Between 1 p.buffer_count j → held (buffer j p).queue ≡ b ∷ l → waiters (object (Sending j 0)) p ≡ id ∷ rest → TimeOut a
       → FirstServed m k e (object (Sending j 0)) id rest (has m k id) × ((step m e).answer.value ≡ b) × (held (buffer j (own (step m e).state k)).queue ≡ l ++ (carried (process id p) ∷ []))
   pub receive_none : (b : ℕ) (l : List ℕ) (a : ℤ) → let p = own m k in
       let e = call_by k 25 (pos j) a (pos 0) (pos 0) in
-      p.mode ≡ 3 → Between 1 p.bufferCount j → held (buffer j p).queue ≡ b ∷ l → waiters (object (Sending j 0)) p ≡ [] → TimeOut a
+      p.mode ≡ 3 → Between 1 p.buffer_count j → held (buffer j p).queue ≡ b ∷ l → waiters (object (Sending j 0)) p ≡ [] → TimeOut a
       → NoneServed m k e (object (Sending j 0)) × ((step m e).answer.value ≡ b) × (held (buffer j (own (step m e).state k)).queue ≡ l)
   -- 27 SHOW: all waiters' waits end in queue order, and each has the message; it is shown
   pub show : (b : ℕ) → let e = call_by k 27 (pos j) (pos b) (pos 0) (pos 0) in
-      Between 1 (own m k).blackboardCount j → b ≤ duration_limit
+      Between 1 (own m k).blackboard_count j → b ≤ duration_limit
       → AllServed m k e (object (Blackboard j)) (λ _. b) × (blackboard j (own (step m e).state k) ≡ record { name = (blackboard j (own m k)).name; shown = true; message = b })
 
 -- queuing channels: channel number i + 1; b is a message

@@ -3,7 +3,7 @@
 use Rattle.std.specs.Prelude.{ℕ, ◌+◌, ◌*◌, ◌/◌, ◌%◌, ◌≤◌, ◌<◌, ◌≡◌, true, false, length, get_or, pos}
 use Rattle.machine.specs.declared.Module.{Module}
 use Rattle.machine.specs.declared.Table.{Table}
-use Rattle.machine.specs.declared.Time.TheVariants.{At}
+use Rattle.std.specs.Prelude.{Some}
 use Rattle.machine.specs.Partition.{process}
 use Rattle.machine.specs.Step.{step}
 use Rattle.machine.specs.Theorems.Valid.{Between}
@@ -49,6 +49,6 @@ pub record Releases (m : Module) (k : ℕ) : Type 0 where
   pub window : (id n r i : ℕ) → let T = m.table in
       let p = own m k in
       let e = call_by k 3 (pos id) (pos 0) (pos 0) (pos 0) in
-      p.mode ≡ 3 → Between 1 p.processCount id → (process id p).started ≡ false → (process id p).given.period ≡ At n
-      → (process id (own (step m e).state k)).times.release ≡ At r → i < length (windows T) → (get_or (windows T) i no_window).start ≡ r % T.frame
+      p.mode ≡ 3 → Between 1 p.process_count id → (process id p).started ≡ false → (process id p).given.period ≡ Some n
+      → (process id (own (step m e).state k)).times.release ≡ Some r → i < length (windows T) → (get_or (windows T) i no_window).start ≡ r % T.frame
       → ((get_or (windows T) i no_window).partition ≡ k) × ((get_or (windows T) i no_window).flag ≡ true)

@@ -70,5 +70,5 @@ pub record ServedBefore : Type 0 where
   pub board : (m : Module) → Reached m → (k : ℕ) → Between 1 m.table.size k → (j : ℕ) → Counts (of_board k j) m
   pub receivers : (m : Module) → Reached m → (k : ℕ) → Between 1 m.table.size k → (j : ℕ) → Counts (of_receivers k j) m
   pub senders : (m : Module) → Reached m → (k : ℕ) → Between 1 m.table.size k → (j : ℕ) → Counts (of_senders k j) m
-  pub destination : (m : Module) → Reached m → (i : ℕ) → i < m.table.channelCount → Counts (at_destination m.table i) m
-  pub source : (m : Module) → Reached m → (i : ℕ) → i < m.table.channelCount → ((channel m.table i).size ≡ 0 → ⊥) → Counts (at_source m.table i) m
+  pub destination : (m : Module) → Reached m → (i : ℕ) → i < m.table.channel_count → Counts (at_destination m.table i) m
+  pub source : (m : Module) → Reached m → (i : ℕ) → i < m.table.channel_count → ((channel m.table i).size ≡ 0 → ⊥) → Counts (at_source m.table i) m

@@ -8,9 +8,9 @@ use Rattle.machine.specs.declared.Process.{Process}
 use Rattle.machine.specs.declared.Partition.{Partition}
 use Rattle.machine.specs.declared.Event.{Event as EventT}
 use Rattle.machine.specs.declared.Module.{Module}
-use Rattle.machine.specs.declared.Wait.TheVariants.{None, Normal, Delay, Timed, Period, Semaphore, Event, Sending, Receiving, Blackboard, Source, Destination}
-use Rattle.machine.specs.declared.Time.{Time}
-use Rattle.machine.specs.declared.Time.TheVariants.{Never, At}
+use Rattle.machine.specs.declared.Wait.TheVariants.{None as NoWait, Normal, Delay, Timed, Period, Semaphore, Event, Sending, Receiving, Blackboard, Source, Destination}
+use Rattle.machine.specs.Time.{Time}
+use Rattle.std.specs.Prelude.{None, Some}
 use Rattle.machine.specs.Limits.{process_limit, semaphore_limit, event_limit, buffer_limit, message_limit, blackboard_limit, name_limit, priority_limit, value_limit, mode_limit, call_limit, level_limit, duration_limit, time_limit, frame_limit, partition_limit, window_limit, channel_limit, size_limit, number_limit, line_length}
 use Rattle.machine.specs.Ids.{members}
 use Rattle.machine.specs.Process.{object, carried, ready, with_current}
@@ -60,19 +60,19 @@ pub record Room (p : Partition) (count limit : ℕ) : Type 0 where
 
 -- no process, semaphore, event, buffer, blackboard of the partition has this name
 abbrev pub NewProcess : Partition → ℕ → Type 0
-NewProcess p name = (id : ℕ) → Between 1 p.processCount id → (process id p).given.name ≡ name → ⊥
+NewProcess p name = (id : ℕ) → Between 1 p.process_count id → (process id p).given.name ≡ name → ⊥
 
 abbrev pub NewSemaphore : Partition → ℕ → Type 0
-NewSemaphore p name = (j : ℕ) → Between 1 p.semaphoreCount j → (semaphore j p).name ≡ name → ⊥
+NewSemaphore p name = (j : ℕ) → Between 1 p.semaphore_count j → (semaphore j p).name ≡ name → ⊥
 
 abbrev pub NewEvent : Partition → ℕ → Type 0
-NewEvent p name = (j : ℕ) → Between 1 p.eventCount j → (event j p).name ≡ name → ⊥
+NewEvent p name = (j : ℕ) → Between 1 p.event_count j → (event j p).name ≡ name → ⊥
 
 abbrev pub NewBuffer : Partition → ℕ → Type 0
-NewBuffer p name = (j : ℕ) → Between 1 p.bufferCount j → (buffer j p).name ≡ name → ⊥
+NewBuffer p name = (j : ℕ) → Between 1 p.buffer_count j → (buffer j p).name ≡ name → ⊥
 
 abbrev pub NewBlackboard : Partition → ℕ → Type 0
-NewBlackboard p name = (j : ℕ) → Between 1 p.blackboardCount j → (blackboard j p).name ≡ name → ⊥
+NewBlackboard p name = (j : ℕ) → Between 1 p.blackboard_count j → (blackboard j p).name ≡ name → ⊥
 
 -- CREATE_PROCESS name, priority, period, capacity
 abbrev pub create_by : ℕ → ℕ → ℕ → Time → Time → EventT
@@ -86,7 +86,7 @@ given name base period capacity = record { name = name; base = base; period = pe
 abbrev pub awaits_release : ℕ → ℕ → ℕ → Bool → Bool → Process → Process
 awaits_release r delay n mark missed x = record {
   given = x.given;
-  times = record { release = At r; deadline = plain_later (At r) x.given.capacity; wake = At r; delay = delay };
+  times = record { release = Some r; deadline = plain_later (Some r) x.given.capacity; wake = Some r; delay = delay };
   current = n;
   suspended = mark;
   missed = missed;
@@ -100,7 +100,7 @@ awaits_release r delay n mark missed x = record {
 abbrev pub awaits_next : ℕ → Process → Process
 awaits_next r x = record {
   given = x.given;
-  times = record { release = At r; deadline = plain_later (At r) x.given.capacity; wake = At r; delay = x.times.delay };
+  times = record { release = Some r; deadline = plain_later (Some r) x.given.capacity; wake = Some r; delay = x.times.delay };
   current = x.current;
   suspended = x.suspended;
   missed = x.missed;
@@ -129,17 +129,17 @@ pub record ReleasesAt (m : Module) (k r : ℕ) : Type 0 where
   -- START and DELAYED_START in NORMAL
   pub start : (id n : ℕ) → let p = own m k in
       let x = process id p in
-      p.mode ≡ 3 → Between 1 p.processCount id → x.started ≡ false → x.given.period ≡ At n
+      p.mode ≡ 3 → Between 1 p.process_count id → x.started ≡ false → x.given.period ≡ Some n
       → Puts m (call_by k 3 (pos id) (pos 0) (pos 0) (pos 0)) 0 0 k (with_process id (awaits_release r x.times.delay x.given.base false false x) p.arrival p)
   pub delayed : (id n delay : ℕ) → let p = own m k in
       let x = process id p in
-      p.mode ≡ 3 → Between 1 p.processCount id → x.started ≡ false → x.given.period ≡ At n → delay < n
+      p.mode ≡ 3 → Between 1 p.process_count id → x.started ≡ false → x.given.period ≡ Some n → delay < n
       → Puts m (call_by k 4 (pos id) (pos delay) (pos 0) (pos 0)) 0 0 k (with_process id (awaits_release (r + delay) x.times.delay x.given.base false false x) p.arrival p)
   -- and on entering NORMAL
   pub entered : (id n : ℕ) → let p = own m k in
       let x = process id p in
       let e = call_by k 1 (pos 3) (pos 0) (pos 0) (pos 0) in
-      (p.mode ≡ 3 → ⊥) → Between 1 p.processCount id → x.wait ≡ Normal → x.given.period ≡ At n
+      (p.mode ≡ 3 → ⊥) → Between 1 p.process_count id → x.wait ≡ Normal → x.given.period ≡ Some n
       → ((step m e).answer.code ≡ 0) × ((own (step m e).state k).mode ≡ 3)
       × (process id (own (step m e).state k) ≡ awaits_release (r + x.times.delay) x.times.delay x.current x.suspended false x)
 
@@ -147,49 +147,49 @@ pub record ReleasesAt (m : Module) (k r : ℕ) : Type 0 where
 pub record Corners (m : Module) (k : ℕ) : Type 0 where
   -- priority 239/240, in CREATE_PROCESS and in SET_PRIORITY
   pub priority : (name : ℕ) (period capacity : Time) → let p = own m k in
-      Room p p.processCount process_limit → NewProcess p name → Between 1 name_limit name → SoundPeriod m.table.frame period → SoundCapacity period capacity
-      → Puts m (create_by k name priority_limit period capacity) 0 (p.processCount + 1) k (with_new (given name priority_limit period capacity) p)
+      Room p p.process_count process_limit → NewProcess p name → Between 1 name_limit name → SoundPeriod m.table.frame period → SoundCapacity period capacity
+      → Puts m (create_by k name priority_limit period capacity) 0 (p.process_count + 1) k (with_new (given name priority_limit period capacity) p)
       × Refuses m (create_by k name (priority_limit + 1) period capacity) 3
   pub set_priority : (id : ℕ) → let p = own m k in
-      Between 1 p.processCount id → (process id p).started ≡ true
+      Between 1 p.process_count id → (process id p).started ≡ true
       → Puts m (call_by k 12 (pos id) (pos priority_limit) (pos 0) (pos 0)) 0 0 k
       (with_process id (with_current priority_limit (process id p)) (cond (ready (process id p)) (at_end id p.arrival) p.arrival) p)
       × Refuses m (call_by k 12 (pos id) (pos (priority_limit + 1)) (pos 0) (pos 0)) 3
   -- name 255/256, of each kind
   pub process_name : (priority : ℕ) (period capacity : Time) → let p = own m k in
-      Room p p.processCount process_limit → NewProcess p name_limit → Between 1 priority_limit priority → SoundPeriod m.table.frame period → SoundCapacity period capacity
-      → Puts m (create_by k name_limit priority period capacity) 0 (p.processCount + 1) k (with_new (given name_limit priority period capacity) p)
+      Room p p.process_count process_limit → NewProcess p name_limit → Between 1 priority_limit priority → SoundPeriod m.table.frame period → SoundCapacity period capacity
+      → Puts m (create_by k name_limit priority period capacity) 0 (p.process_count + 1) k (with_new (given name_limit priority period capacity) p)
       × Refuses m (create_by k (name_limit + 1) priority period capacity) 3
   pub semaphore_name : (start max : ℕ) → let p = own m k in
-      Room p p.semaphoreCount semaphore_limit → NewSemaphore p name_limit → Between 1 value_limit max → start ≤ max
-      → Puts m (call_by k 14 (pos name_limit) (pos start) (pos max) (pos 0)) 0 (p.semaphoreCount + 1) k (with_new_semaphore name_limit start max p)
+      Room p p.semaphore_count semaphore_limit → NewSemaphore p name_limit → Between 1 value_limit max → start ≤ max
+      → Puts m (call_by k 14 (pos name_limit) (pos start) (pos max) (pos 0)) 0 (p.semaphore_count + 1) k (with_new_semaphore name_limit start max p)
       × Refuses m (call_by k 14 (pos (name_limit + 1)) (pos start) (pos max) (pos 0)) 3
   pub event_name : let p = own m k in
-      Room p p.eventCount event_limit → NewEvent p name_limit
-      → Puts m (call_by k 17 (pos name_limit) (pos 0) (pos 0) (pos 0)) 0 (p.eventCount + 1) k (with_new_event name_limit p)
+      Room p p.event_count event_limit → NewEvent p name_limit
+      → Puts m (call_by k 17 (pos name_limit) (pos 0) (pos 0) (pos 0)) 0 (p.event_count + 1) k (with_new_event name_limit p)
       × Refuses m (call_by k 17 (pos (name_limit + 1)) (pos 0) (pos 0) (pos 0)) 3
   pub buffer_name : (limit : ℕ) → let p = own m k in
-      Room p p.bufferCount buffer_limit → NewBuffer p name_limit → Between 1 message_limit limit
-      → Puts m (call_by k 23 (pos name_limit) (pos limit) (pos 0) (pos 0)) 0 (p.bufferCount + 1) k (with_new_buffer name_limit limit p)
+      Room p p.buffer_count buffer_limit → NewBuffer p name_limit → Between 1 message_limit limit
+      → Puts m (call_by k 23 (pos name_limit) (pos limit) (pos 0) (pos 0)) 0 (p.buffer_count + 1) k (with_new_buffer name_limit limit p)
       × Refuses m (call_by k 23 (pos (name_limit + 1)) (pos limit) (pos 0) (pos 0)) 3
   pub blackboard_name : let p = own m k in
-      Room p p.blackboardCount blackboard_limit → NewBlackboard p name_limit
-      → Puts m (call_by k 26 (pos name_limit) (pos 0) (pos 0) (pos 0)) 0 (p.blackboardCount + 1) k (with_new_blackboard name_limit p)
+      Room p p.blackboard_count blackboard_limit → NewBlackboard p name_limit
+      → Puts m (call_by k 26 (pos name_limit) (pos 0) (pos 0) (pos 0)) 0 (p.blackboard_count + 1) k (with_new_blackboard name_limit p)
       × Refuses m (call_by k 26 (pos (name_limit + 1)) (pos 0) (pos 0) (pos 0)) 3
   -- period M/M + 1 (M above 1), with every capacity that M admits, and M + 1 whatever the capacity
   pub period : (name priority : ℕ) (capacity : Time) (e : ℤ) → let p = own m k in
       let M = m.table.frame in
-      1 < M → Room p p.processCount process_limit → NewProcess p name → Between 1 name_limit name → Between 1 priority_limit priority → SoundCapacity (At M) capacity
-      → Puts m (create_by k name priority (At M) capacity) 0 (p.processCount + 1) k (with_new (given name priority (At M) capacity) p)
+      1 < M → Room p p.process_count process_limit → NewProcess p name → Between 1 name_limit name → Between 1 priority_limit priority → SoundCapacity (Some M) capacity
+      → Puts m (create_by k name priority (Some M) capacity) 0 (p.process_count + 1) k (with_new (given name priority (Some M) capacity) p)
       × Refuses m (call_by k 2 (pos name) (pos priority) (pos (M + 1)) e) 3
   -- delay period − 1/period: outside NORMAL, and in NORMAL
   pub delay_early : (id n : ℕ) → let p = own m k in
-      Between 1 p.processCount id → (process id p).started ≡ false → (process id p).given.period ≡ At n → (p.mode ≡ 3 → ⊥)
+      Between 1 p.process_count id → (process id p).started ≡ false → (process id p).given.period ≡ Some n → (p.mode ≡ 3 → ⊥)
       → Puts m (call_by k 4 (pos id) (pos (n - 1)) (pos 0) (pos 0)) 0 0 k (with_process id (awaits_normal (n - 1) (process id p)) p.arrival p)
       × Refuses m (call_by k 4 (pos id) (pos n) (pos 0) (pos 0)) 3
   pub delay_normal : (id n r : ℕ) → let p = own m k in
       let x = process id p in
-      Between 1 p.processCount id → x.started ≡ false → x.given.period ≡ At n → p.mode ≡ 3 → Release m.table k m.t r
+      Between 1 p.process_count id → x.started ≡ false → x.given.period ≡ Some n → p.mode ≡ 3 → Release m.table k m.t r
       → Puts m (call_by k 4 (pos id) (pos (n - 1)) (pos 0) (pos 0)) 0 0 k
       (with_process id (awaits_release (r + (n - 1)) x.times.delay x.given.base false false x) p.arrival p)
       × Refuses m (call_by k 4 (pos id) (pos n) (pos 0) (pos 0)) 3
@@ -199,50 +199,50 @@ pub record Corners (m : Module) (k : ℕ) : Type 0 where
   -- age refresh/refresh + 1, of a sampling channel
   pub age : (i : ℕ) → let x = message m (i - 1) in
       let refresh = (channel m.table (i - 1)).refresh in
-      Between 1 m.table.channelCount i → (channel m.table (i - 1)).size ≡ 0 → (channel m.table (i - 1)).destination ≡ k → x.present ≡ true
-      → (m.t ≡ x.written + refresh → Gives m (call_by k 22 (pos i) (pos 0) (pos 0) (pos 0)) 0 x.value (At 1) m)
-      × (m.t ≡ x.written + refresh + 1 → Gives m (call_by k 22 (pos i) (pos 0) (pos 0) (pos 0)) 0 x.value (At 0) m)
+      Between 1 m.table.channel_count i → (channel m.table (i - 1)).size ≡ 0 → (channel m.table (i - 1)).destination ≡ k → x.present ≡ true
+      → (m.t ≡ x.written + refresh → Gives m (call_by k 22 (pos i) (pos 0) (pos 0) (pos 0)) 0 x.value (Some 1) m)
+      × (m.t ≡ x.written + refresh + 1 → Gives m (call_by k 22 (pos i) (pos 0) (pos 0) (pos 0)) 0 x.value (Some 0) m)
   -- timeout 0: SUSPEND_SELF changes nothing and TIMED_WAIT puts the caller last (both at level 0 of the preemption lock), WAIT_SEMAPHORE and
   -- WAIT_EVENT answer 2 where they would wait, and succeed where they need not; the calls of document 02 that wait answer 2 too (30 and 31, and the three
   -- while preemption is locked: `EachCall`)
   pub suspend_self : let p = own m k in
-      p.mode ≡ 3 → p.level ≡ 0 → (process (running p) p).given.period ≡ Never
-      → Gives m (call_by k 8 (pos 0) (pos 0) (pos 0) (pos 0)) 0 0 (At 0) m
+      p.mode ≡ 3 → p.level ≡ 0 → (process (running p) p).given.period ≡ None
+      → Gives m (call_by k 8 (pos 0) (pos 0) (pos 0) (pos 0)) 0 0 (Some 0) m
   pub timed_wait : let p = own m k in
       p.mode ≡ 3 → p.level ≡ 0
-      → Puts m (call_by k 9 (pos 0) (pos 0) (pos 0) (pos 0)) 0 0 k (with_processes p.processes p.processCount (at_end (running p) p.arrival) p.waiting p)
+      → Puts m (call_by k 9 (pos 0) (pos 0) (pos 0) (pos 0)) 0 0 k (with_processes p.processes p.process_count (at_end (running p) p.arrival) p.waiting p)
   pub wait_semaphore : (j : ℕ) → let p = own m k in
-      p.mode ≡ 3 → Between 1 p.semaphoreCount j
+      p.mode ≡ 3 → Between 1 p.semaphore_count j
       → ((semaphore j p).value ≡ 0 → Refuses m (call_by k 15 (pos j) (pos 0) (pos 0) (pos 0)) 2)
       × ((n : ℕ) → (semaphore j p).value ≡ suc n → Puts m (call_by k 15 (pos j) (pos 0) (pos 0) (pos 0)) 0 0 k (with_semaphore_at j n p))
   pub wait_event : (j : ℕ) → let p = own m k in
-      p.mode ≡ 3 → Between 1 p.eventCount j
+      p.mode ≡ 3 → Between 1 p.event_count j
       → ((event j p).up ≡ false → Refuses m (call_by k 20 (pos j) (pos 0) (pos 0) (pos 0)) 2)
-      × ((event j p).up ≡ true → Gives m (call_by k 20 (pos j) (pos 0) (pos 0) (pos 0)) 0 0 (At 0) m)
+      × ((event j p).up ≡ true → Gives m (call_by k 20 (pos j) (pos 0) (pos 0) (pos 0)) 0 0 (Some 0) m)
   pub send_buffer : (j x : ℕ) → let p = own m k in
-      p.mode ≡ 3 → Between 1 p.bufferCount j → x ≤ duration_limit → (buffer j p).queue.len ≡ (buffer j p).limit → Refuses m (call_by k 24 (pos j) (pos x) (pos 0) (pos 0)) 2
+      p.mode ≡ 3 → Between 1 p.buffer_count j → x ≤ duration_limit → (buffer j p).queue.len ≡ (buffer j p).limit → Refuses m (call_by k 24 (pos j) (pos x) (pos 0) (pos 0)) 2
   pub receive_buffer : (j : ℕ) → let p = own m k in
-      p.mode ≡ 3 → Between 1 p.bufferCount j → (buffer j p).queue.len ≡ 0 → Refuses m (call_by k 25 (pos j) (pos 0) (pos 0) (pos 0)) 2
+      p.mode ≡ 3 → Between 1 p.buffer_count j → (buffer j p).queue.len ≡ 0 → Refuses m (call_by k 25 (pos j) (pos 0) (pos 0) (pos 0)) 2
   pub read_blackboard : (j : ℕ) → let p = own m k in
-      p.mode ≡ 3 → Between 1 p.blackboardCount j
+      p.mode ≡ 3 → Between 1 p.blackboard_count j
       → ((blackboard j p).shown ≡ false → Refuses m (call_by k 28 (pos j) (pos 0) (pos 0) (pos 0)) 2)
-      × ((blackboard j p).shown ≡ true → Gives m (call_by k 28 (pos j) (pos 0) (pos 0) (pos 0)) 0 (blackboard j p).message (At 0) m)
+      × ((blackboard j p).shown ≡ true → Gives m (call_by k 28 (pos j) (pos 0) (pos 0) (pos 0)) 0 (blackboard j p).message (Some 0) m)
   -- SIGNAL at max
   pub signal : (j : ℕ) → let p = own m k in
-      Between 1 p.semaphoreCount j → (semaphore j p).value ≡ (semaphore j p).max
+      Between 1 p.semaphore_count j → (semaphore j p).value ≡ (semaphore j p).max
       → Refuses m (call_by k 16 (pos j) (pos 0) (pos 0) (pos 0)) 1
   -- PERIODIC_WAIT, also with r ≤ t: r rises by the period; it waits all the same, w = r, d = r + capacity or −1
   pub periodic_wait : (r n : ℕ) → let p = own m k in
       let id = running p in
       let x = process id p in
-      p.mode ≡ 3 → p.level ≡ 0 → x.times.release ≡ At r → x.given.period ≡ At n
+      p.mode ≡ 3 → p.level ≡ 0 → x.times.release ≡ Some r → x.given.period ≡ Some n
       → Puts m (call_by k 10 (pos 0) (pos 0) (pos 0) (pos 0)) 7 0 k (with_process id (awaits_next (r + n) x) (without id p.arrival) p)
 
 -- ---------------------------------------------------------------- mistakes to shut out
 -- what a wake time that has come makes of x: a wait ends with w −1 and this wake code, and the mark stays
 pub record WaitEnded (code : ℕ) (x y : Process) : Type 0 where
-  pub wake : y.times.wake ≡ Never
-  pub wait : y.wait ≡ None
+  pub wake : y.times.wake ≡ None
+  pub wait : y.wait ≡ NoWait
   pub code_is : y.code ≡ code
   pub mark : y.suspended ≡ x.suspended
   pub started : y.started ≡ x.started
@@ -253,24 +253,24 @@ ReadyUnmarked x y = x.suspended ≡ true → ready y ≡ false
 
 -- what a tick makes of process x of a NORMAL partition, whatever window it falls into: y
 pub record Ticks (t : ℕ) (x y : Process) : Type 0 where
-  pub semaphore : (w j : ℕ) → x.times.wake ≡ At w → w ≤ t → x.wait ≡ Semaphore j → WaitEnded 6 x y
-  pub event : (w j : ℕ) → x.times.wake ≡ At w → w ≤ t → x.wait ≡ Event j → WaitEnded 6 x y
-  pub sending : (w j n : ℕ) → x.times.wake ≡ At w → w ≤ t → x.wait ≡ Sending j n → WaitEnded 6 x y
-  pub receiving : (w j : ℕ) → x.times.wake ≡ At w → w ≤ t → x.wait ≡ Receiving j → WaitEnded 6 x y
-  pub blackboard : (w j : ℕ) → x.times.wake ≡ At w → w ≤ t → x.wait ≡ Blackboard j → WaitEnded 6 x y
-  pub source : (w j n : ℕ) → x.times.wake ≡ At w → w ≤ t → x.wait ≡ Source j n → WaitEnded 6 x y
-  pub destination : (w j : ℕ) → x.times.wake ≡ At w → w ≤ t → x.wait ≡ Destination j → WaitEnded 6 x y
-  pub delay : (w : ℕ) → x.times.wake ≡ At w → w ≤ t → x.wait ≡ Delay → WaitEnded 0 x y
-  pub timed : (w : ℕ) → x.times.wake ≡ At w → w ≤ t → x.wait ≡ Timed → WaitEnded 0 x y
-  pub period : (w : ℕ) → x.times.wake ≡ At w → w ≤ t → x.wait ≡ Period → WaitEnded 0 x y
-  pub suspension : (w : ℕ) → x.times.wake ≡ At w → w ≤ t → x.wait ≡ None → x.suspended ≡ true → (y.suspended ≡ false) × (y.code ≡ 6) × (y.times.wake ≡ Never)
-  pub deadline : (d : ℕ) → x.times.deadline ≡ At d → d ≤ t → (y.missed ≡ true) × (y.times.deadline ≡ Never)
-  pub marked : (x.wait ≡ None → ⊥) → ReadyUnmarked x y
+  pub semaphore : (w j : ℕ) → x.times.wake ≡ Some w → w ≤ t → x.wait ≡ Semaphore j → WaitEnded 6 x y
+  pub event : (w j : ℕ) → x.times.wake ≡ Some w → w ≤ t → x.wait ≡ Event j → WaitEnded 6 x y
+  pub sending : (w j n : ℕ) → x.times.wake ≡ Some w → w ≤ t → x.wait ≡ Sending j n → WaitEnded 6 x y
+  pub receiving : (w j : ℕ) → x.times.wake ≡ Some w → w ≤ t → x.wait ≡ Receiving j → WaitEnded 6 x y
+  pub blackboard : (w j : ℕ) → x.times.wake ≡ Some w → w ≤ t → x.wait ≡ Blackboard j → WaitEnded 6 x y
+  pub source : (w j n : ℕ) → x.times.wake ≡ Some w → w ≤ t → x.wait ≡ Source j n → WaitEnded 6 x y
+  pub destination : (w j : ℕ) → x.times.wake ≡ Some w → w ≤ t → x.wait ≡ Destination j → WaitEnded 6 x y
+  pub delay : (w : ℕ) → x.times.wake ≡ Some w → w ≤ t → x.wait ≡ Delay → WaitEnded 0 x y
+  pub timed : (w : ℕ) → x.times.wake ≡ Some w → w ≤ t → x.wait ≡ Timed → WaitEnded 0 x y
+  pub period : (w : ℕ) → x.times.wake ≡ Some w → w ≤ t → x.wait ≡ Period → WaitEnded 0 x y
+  pub suspension : (w : ℕ) → x.times.wake ≡ Some w → w ≤ t → x.wait ≡ NoWait → x.suspended ≡ true → (y.suspended ≡ false) × (y.code ≡ 6) × (y.times.wake ≡ None)
+  pub deadline : (d : ℕ) → x.times.deadline ≡ Some d → d ≤ t → (y.missed ≡ true) × (y.times.deadline ≡ None)
+  pub marked : (x.wait ≡ NoWait → ⊥) → ReadyUnmarked x y
 
 pub record Mistakes : Type 0 where
   -- freezing timers outside a partition's window: a tick acts on every NORMAL partition. An ended wait making a suspended process READY:
   -- not by a tick
-  pub frozen : (m : Module) → Reached m → m.t < time_limit → (k id : ℕ) → Between 1 m.table.size k → (own m k).mode ≡ 3 → Between 1 (own m k).processCount id
+  pub frozen : (m : Module) → Reached m → m.t < time_limit → (k id : ℕ) → Between 1 m.table.size k → (own m k).mode ≡ 3 → Between 1 (own m k).process_count id
       → ((step m tick).answer.code ≡ 0) × Ticks (m.t + 1) (process id (own m k)) (process id (own (step m tick).state k))
   -- showing a neighbour's running process: whatever the code, it reads 0 where the event's partition is neither 0 nor current
   pub neighbour : (m : Module) (e : EventT) → (e.partition ≡ pos 0 → ⊥) → (e.partition ≡ pos (current (step m e).state) → ⊥) → (step m e).answer.running ≡ 0
@@ -280,14 +280,14 @@ pub record Mistakes : Type 0 where
   -- an ended wait making a suspended process READY: SIGNAL ends the first wait of the queue, w −1 and wake code 0, and the mark stays
   pub signalled : (m : Module) (k : ℕ) → Calling m k → (j id : ℕ) (before after : List ℕ) → let p = own m k in
       let e = call_by k 16 (pos j) (pos 0) (pos 0) (pos 0) in
-      Between 1 p.semaphoreCount j → ((semaphore j p).value ≡ (semaphore j p).max → ⊥)
+      Between 1 p.semaphore_count j → ((semaphore j p).value ≡ (semaphore j p).max → ⊥)
       → members p.waiting ≡ before ++ (id ∷ after) → (process id p).wait ≡ Semaphore j → ((y : ℕ) → contains y before ≡ true → (process y p).wait ≡ Semaphore j → ⊥)
       → let y = process id (own (step m e).state k) in
       ((step m e).answer.code ≡ 0) × (y ≡ let_go (process id p)) × ReadyUnmarked (process id p) y
   -- SET_EVENT ends every wait on the event the same way
   pub event_set : (m : Module) (k : ℕ) → Calling m k → (j id : ℕ) → let p = own m k in
       let e = call_by k 18 (pos j) (pos 0) (pos 0) (pos 0) in
-      Between 1 p.eventCount j → (process id p).wait ≡ Event j
+      Between 1 p.event_count j → (process id p).wait ≡ Event j
       → let y = process id (own (step m e).state k) in
       ((step m e).answer.code ≡ 0) × ((event j (own (step m e).state k)).up ≡ true) × (y ≡ let_go (process id p)) × ReadyUnmarked (process id p) y
   -- a source's restart erasing a message: an event that is no WRITE leaves the message of each channel into another partition
@@ -302,14 +302,14 @@ pub record Mistakes : Type 0 where
   pub restarted : (m : Module) (k : ℕ) → Calling m k → (mode : ℕ) → mode ≤ 2 → (mode ≡ 2 → (own m k).mode ≡ 1 → ⊥)
       → let e = call_by k 1 (pos mode) (pos 0) (pos 0) (pos 0) in
       ((step m e).answer.code ≡ 0) × (own (step m e).state k ≡ nothing_created mode)
-      × ((i : ℕ) → i < m.table.channelCount → (channel m.table i).destination ≡ k → (message (step m e).state i).present ≡ false)
+      × ((i : ℕ) → i < m.table.channel_count → (channel m.table i).destination ≡ k → (message (step m e).state i).present ≡ false)
       × ((i : ℕ) → ((channel m.table i).destination ≡ k → ⊥) → message (step m e).state i ≡ message m i)
-      × ((i : ℕ) → i < m.table.channelCount → ((channel m.table i).size ≡ 0 → ⊥) → (channel m.table i).destination ≡ k
+      × ((i : ℕ) → i < m.table.channel_count → ((channel m.table i).size ≡ 0 → ⊥) → (channel m.table i).destination ≡ k
       → let c = channel m.table i in
       let p = own m c.source in
       held (queue (step m e).state i) ≡ map (λ id. carried (process id p)) (take c.size (waiters (object (Source (i + 1) 0)) p)))
       × ((i : ℕ) → ((channel m.table i).destination ≡ k → ⊥) → queue (step m e).state i ≡ queue m i)
-      × ((i id : ℕ) → i < m.table.channelCount → ((channel m.table i).size ≡ 0 → ⊥) → (channel m.table i).destination ≡ k
+      × ((i id : ℕ) → i < m.table.channel_count → ((channel m.table i).size ≡ 0 → ⊥) → (channel m.table i).destination ≡ k
       → let c = channel m.table i in
       let p = own m c.source in
       contains id (take c.size (waiters (object (Source (i + 1) 0)) p)) ≡ true → process id (own (step m e).state c.source) ≡ let_go (process id p))

@@ -40,7 +40,7 @@ no_table code line = record { state = empty_module; code = code; value = line; l
 -- what line 1 settles, a window and a channel
 abbrev pub first_draft : Numbers → Draft
 first_draft x = record {
-  table = record { frame = id_of x.n1; size = id_of x.n2; windows = replicate 32 no_window; windowCount = 0; channels = replicate 16 no_channel; channelCount = 0 };
+  table = record { frame = id_of x.n1; size = id_of x.n2; windows = replicate 32 no_window; window_count = 0; channels = replicate 16 no_channel; channel_count = 0 };
   previous = 0;
   windows = id_of x.n3;
   channels = id_of x.n4;
@@ -51,7 +51,7 @@ window_draft d x =
     let T = d.table in
     let w : Window = record { start = id_of x.n1; duration = id_of x.n2; partition = id_of x.n3; flag = plain_number 1 x.n4 } in
     record {
-      table = record { frame = T.frame; size = T.size; windows = set T.windows T.windowCount w; windowCount = T.windowCount + 1; channels = T.channels; channelCount = T.channelCount };
+      table = record { frame = T.frame; size = T.size; windows = set T.windows T.window_count w; window_count = T.window_count + 1; channels = T.channels; channel_count = T.channel_count };
       previous = id_of x.n1 + id_of x.n2;
       windows = d.windows;
       channels = d.channels;
@@ -62,7 +62,7 @@ channel_draft d x =
     let T = d.table in
     let c : Channel = record { source = id_of x.n1; destination = id_of x.n2; refresh = id_of x.n3; size = id_of x.n5 } in
     record {
-      table = record { frame = T.frame; size = T.size; windows = T.windows; windowCount = T.windowCount; channels = set T.channels T.channelCount c; channelCount = T.channelCount + 1 };
+      table = record { frame = T.frame; size = T.size; windows = T.windows; window_count = T.window_count; channels = set T.channels T.channel_count c; channel_count = T.channel_count + 1 };
       previous = d.previous;
       windows = d.windows;
       channels = d.channels;
@@ -87,7 +87,7 @@ pub record TableLines : Type 0 where
   pub next : (n line : ℕ) (d : Draft) (x : Numbers) (ls : List Line) → let M = d.table.frame in
       let P = d.table.size in
       M ≤ 10000 → P ≤ 8
-      → table_from (suc n) line d (Six x ∷ ls) ≡ cond (ltb d.table.windowCount d.windows)
+      → table_from (suc n) line d (Six x ∷ ls) ≡ cond (ltb d.table.window_count d.windows)
       (cond (window_line M P d.previous x) (table_from n (line + 1) (window_draft d x) ls) (no_table 12 (line + 1)))
       (cond (channel_line P x) (table_from n (line + 1) (channel_draft d x) ls) (no_table 12 (line + 1)))
   -- last, every partition has a window with flag 1

@@ -10,8 +10,8 @@ use Rattle.machine.specs.declared.Ids.{Ids}
 use Rattle.machine.specs.declared.Queue.{Queue}
 use Rattle.machine.specs.declared.Module.{Module}
 use Rattle.machine.specs.declared.Wait.{Wait}
-use Rattle.machine.specs.declared.Wait.TheVariants.{None, Normal, Semaphore, Event, Sending, Receiving, Blackboard, Source, Destination}
-use Rattle.machine.specs.declared.Time.TheVariants.{Never}
+use Rattle.machine.specs.declared.Wait.TheVariants.{None as NoWait, Normal, Semaphore, Event, Sending, Receiving, Blackboard, Source, Destination}
+use Rattle.std.specs.Prelude.{None}
 use Rattle.machine.specs.Process.{object, carried, ready, waits_for_normal}
 use Rattle.machine.specs.Partition.{process, waiters, nothing_created}
 use Rattle.machine.specs.Module.{part}
@@ -42,15 +42,15 @@ pub record Carries : Type 0 where
 -- ---------------------------------------------------------------- nothing created
 abbrev pub nobody : Process
 nobody = record {
-  given = record { name = 0; base = 0; period = Never; capacity = Never };
-  times = record { release = Never; deadline = Never; wake = Never; delay = 0 };
+  given = record { name = 0; base = 0; period = None; capacity = None };
+  times = record { release = None; deadline = None; wake = None; delay = 0 };
   current = 0;
   suspended = false;
   missed = false;
   code = 0;
   message = 0;
   started = false;
-  wait = None;
+  wait = NoWait;
 }
 
 abbrev pub no_ids : Ids
@@ -69,15 +69,15 @@ blank_partition mode =
       level = 0;
       holder = 0;
       processes = replicate 16 nobody;
-      processCount = 0;
+      process_count = 0;
       semaphores = replicate 8 s;
-      semaphoreCount = 0;
+      semaphore_count = 0;
       events = replicate 8 e;
-      eventCount = 0;
+      event_count = 0;
       buffers = replicate 8 b;
-      bufferCount = 0;
+      buffer_count = 0;
       blackboards = replicate 8 w;
-      blackboardCount = 0;
+      blackboard_count = 0;
       arrival = no_ids;
       waiting = no_ids;
     }
@@ -85,8 +85,8 @@ blank_partition mode =
 -- ---------------------------------------------------------------- the whole
 pub record Terms : Type 0 where
   -- It is READY if started, waiting for nothing and not suspended.
-  pub ready_is : (x : Process) → ready x ≡ true → (x.started ≡ true) × (x.suspended ≡ false) × (x.wait ≡ None)
-  pub ready_if : (x : Process) → x.started ≡ true → x.suspended ≡ false → x.wait ≡ None → ready x ≡ true
+  pub ready_is : (x : Process) → ready x ≡ true → (x.started ≡ true) × (x.suspended ≡ false) × (x.wait ≡ NoWait)
+  pub ready_if : (x : Process) → x.started ≡ true → x.suspended ≡ false → x.wait ≡ NoWait → ready x ≡ true
   -- it waits for NORMAL
   pub normal : (w : Wait) → waits_for_normal w ≡ true → w ≡ Normal
   pub normal_if : waits_for_normal Normal ≡ true

@@ -1,10 +1,10 @@
 -- What holds of every record that a run reaches, said once, and the plain definitions that such records meet. Nothing of the machine
 -- rests on it.
 use Rattle.std.specs.Prelude.{ℕ, ◌+◌, ◌-◌, ◌%◌, ◌≤◌, ◌<◌, ◌≡◌, Bool, true, false, cond, ◌&&◌, ◌||◌, List, [], ◌∷◌, ◌++◌, ◌⊎◌, length, eqb}
-use Rattle.machine.specs.declared.Time.{Time}
-use Rattle.machine.specs.declared.Time.TheVariants.{Never, At}
+use Rattle.machine.specs.Time.{Time}
+use Rattle.std.specs.Prelude.{None, Some}
 use Rattle.machine.specs.declared.Wait.{Wait}
-use Rattle.machine.specs.declared.Wait.TheVariants.{None, Normal}
+use Rattle.machine.specs.declared.Wait.TheVariants.{None as NoWait, Normal}
 use Rattle.machine.specs.declared.Ids.{Ids}
 use Rattle.machine.specs.declared.Given.{Given}
 use Rattle.machine.specs.declared.Times.{Times}
@@ -76,49 +76,49 @@ latest_deadline = latest_wake + duration_limit
 
 -- it is not −1 and ≤ n
 abbrev pub AtMost : ℕ → Time → Type 0
-AtMost n Never = ⊥
-AtMost n (At m) = m ≤ n
+AtMost n None = ⊥
+AtMost n (Some m) = m ≤ n
 
 -- it is −1 or ≤ n
 abbrev pub NotAfter : ℕ → Time → Type 0
-NotAfter n Never = Unit {0}
-NotAfter n (At m) = m ≤ n
+NotAfter n None = Unit {0}
+NotAfter n (Some m) = m ≤ n
 
 -- after t, by a number of D
 abbrev pub Ahead : ℕ → Time → Type 0
-Ahead t Never = ⊥
-Ahead t (At n) = (t < n) × (n ≤ t + duration_limit)
+Ahead t None = ⊥
+Ahead t (Some n) = (t < n) × (n ≤ t + duration_limit)
 
 -- −1, or after t by a number of D
 abbrev pub Timeout : ℕ → Time → Type 0
-Timeout t Never = Unit {0}
-Timeout t (At n) = (t < n) × (n ≤ t + duration_limit)
+Timeout t None = Unit {0}
+Timeout t (Some n) = (t < n) × (n ≤ t + duration_limit)
 
 -- a time after another with no bound: −1 where one of them is −1
 abbrev pub plain_later : Time → Time → Time
-plain_later Never b = Never
-plain_later (At m) Never = Never
-plain_later (At m) (At n) = At (m + n)
+plain_later None b = None
+plain_later (Some m) None = None
+plain_later (Some m) (Some n) = Some (m + n)
 
 -- ---------------------------------------------------------------- a process by itself
 -- −1 or a multiple of M in 1..9,999,999
 abbrev pub SoundPeriod : ℕ → Time → Type 0
-SoundPeriod frame Never = Unit {0}
-SoundPeriod frame (At n) = Between 1 duration_limit n × (n % frame ≡ 0)
+SoundPeriod frame None = Unit {0}
+SoundPeriod frame (Some n) = Between 1 duration_limit n × (n % frame ≡ 0)
 
 -- a number is not above a period that isn't −1, or it is below it
 abbrev pub NotAbove : Time → ℕ → Type 0
-NotAbove Never n = Unit {0}
-NotAbove (At period) n = n ≤ period
+NotAbove None n = Unit {0}
+NotAbove (Some period) n = n ≤ period
 
 abbrev pub Below : Time → ℕ → Type 0
-Below Never n = Unit {0}
-Below (At period) n = n < period
+Below None n = Unit {0}
+Below (Some period) n = n < period
 
 -- −1 or 1..9,999,999, and not above a period that isn't −1
 abbrev pub SoundCapacity : Time → Time → Type 0
-SoundCapacity period Never = Unit {0}
-SoundCapacity period (At n) = Between 1 duration_limit n × NotAbove period n
+SoundCapacity period None = Unit {0}
+SoundCapacity period (Some n) = Between 1 duration_limit n × NotAbove period n
 
 -- what CREATE_PROCESS admits
 pub record SoundGiven (frame : ℕ) (g : Given) : Type 0 where
@@ -129,9 +129,9 @@ pub record SoundGiven (frame : ℕ) (g : Given) : Type 0 where
 
 -- no r, d, w
 pub record Timeless (s : Times) : Type 0 where
-  pub release : s.release ≡ Never
-  pub deadline : s.deadline ≡ Never
-  pub wake : s.wake ≡ Never
+  pub release : s.release ≡ None
+  pub deadline : s.deadline ≡ None
+  pub wake : s.wake ≡ None
 
 -- no time comes after the latest
 pub record Bounded (s : Times) : Type 0 where
@@ -141,7 +141,7 @@ pub record Bounded (s : Times) : Type 0 where
 
 -- DORMANT
 pub record Dormant (v : Wait) (mark : Bool) (s : Times) : Type 0 where
-  pub wait : v ≡ None
+  pub wait : v ≡ NoWait
   pub unmarked : mark ≡ false
   pub times : Timeless s
 
@@ -160,7 +160,7 @@ KnownWait counts (Class.onto kind k m) = Between 1 (counts kind) k × (m ≤ dur
 
 -- w, by the wait, in NORMAL at t: a wake time with no wait stands only where the suspended mark does
 abbrev pub SoundWake : ℕ → Bool → Time → Class → Time → Type 0
-SoundWake t mark r Class.nothing w = cond mark (Timeout t w) (w ≡ Never)
+SoundWake t mark r Class.nothing w = cond mark (Timeout t w) (w ≡ None)
 SoundWake t mark r Class.normal w = ⊥
 SoundWake t mark r Class.timer w = Ahead t w
 SoundWake t mark r Class.release w = w ≡ r
@@ -168,8 +168,8 @@ SoundWake t mark r (Class.onto kind k m) w = Timeout t w
 
 -- r of a process that does not wait for its period: −1 for an aperiodic one, at most t for a periodic one
 abbrev pub Released : ℕ → Time → Time → Type 0
-Released t Never r = r ≡ Never
-Released t (At period) r = AtMost t r
+Released t None r = r ≡ None
+Released t (Some period) r = AtMost t r
 
 -- r, by the wait, in NORMAL at t
 abbrev pub SoundRelease : ℕ → Time → Class → Time → Type 0
@@ -262,7 +262,7 @@ pub record Listed (l : List Process) (n : ℕ) (arrival waiting : Ids) : Type 0 
   pub waitings : Tracks (λ id. on_object (by_id process_limit blank_process id l)) waiting
 
 abbrev pub ListedIn : Partition → Type 0
-ListedIn p = Listed p.processes p.processCount p.arrival p.waiting
+ListedIn p = Listed p.processes p.process_count p.arrival p.waiting
 
 -- the objects of one kind: a numbered list, and each that has been created is sound
 pub record Family {A : Type 0} (limit : ℕ) (d : A) (Sound : A → Type 0) (l : List A) (n : ℕ) : Type 0 where
@@ -276,14 +276,14 @@ pub record Objects (s : List SemaphoreT) (n : ℕ) (e : List EventState) (n' : �
   pub blackboards : Family blackboard_limit no_blackboard SoundBlackboard w n'''
 
 abbrev pub ObjectsIn : Partition → Type 0
-ObjectsIn p = Objects p.semaphores p.semaphoreCount p.events p.eventCount p.buffers p.bufferCount p.blackboards p.blackboardCount
+ObjectsIn p = Objects p.semaphores p.semaphore_count p.events p.event_count p.buffers p.buffer_count p.blackboards p.blackboard_count
 
 -- how many objects of a kind there are, by the kinds of class_of; as many ends of channels as a table can have
 abbrev pub counted : ℕ → ℕ → ℕ → ℕ → ℕ → ℕ
 counted s e b w kind = cond (eqb kind 1) s (cond (eqb kind 2) e (cond (eqb kind 3) b (cond (eqb kind 4) b (cond (eqb kind 5) w (cond (eqb kind 6) channel_limit (cond (eqb kind 7) channel_limit 0))))))
 
 abbrev pub setting_of : ℕ → ℕ → Partition → Setting
-setting_of frame t p = setting frame t (normal_mode p) (counted p.semaphoreCount p.eventCount p.bufferCount p.blackboardCount)
+setting_of frame t p = setting frame t (normal_mode p) (counted p.semaphore_count p.event_count p.buffer_count p.blackboard_count)
 
 -- the preemption lock: a level of 0..16; above 0 the mode is NORMAL and the holder is READY, at 0 there is no holder
 pub record SoundLock (level holder : ℕ) (inNormal is_ready : Bool) : Type 0 where
@@ -300,7 +300,7 @@ pub record Valid (frame t : ℕ) (p : Partition) : Type 0 where
   pub lock : LockIn p
   pub lists : ListedIn p
   pub objects : ObjectsIn p
-  pub each_process : (id : ℕ) → Between 1 p.processCount id → SoundProcess (setting_of frame t p) (process id p)
+  pub each_process : (id : ℕ) → Between 1 p.process_count id → SoundProcess (setting_of frame t p) (process id p)
 
 -- what a call sees of a partition that it may be made by: it is current, neither IDLE nor NORMAL with nothing running
 pub record SoundContext (c : Context) (p : Partition) : Type 0 where
@@ -319,8 +319,8 @@ pub record SoundMessage (t : ℕ) (x : Message) : Type 0 where
 -- ---------------------------------------------------------------- decisions
 -- the next process, DORMANT
 pub record SoundCreated (frame : ℕ) (p : Partition) (id : ℕ) (x : Process) : Type 0 where
-  pub room : p.processCount < process_limit
-  pub next : id ≡ p.processCount + 1
+  pub room : p.process_count < process_limit
+  pub next : id ≡ p.process_count + 1
   pub given : SoundGiven frame x.given
   pub dormant : x ≡ created_process x.given
 
@@ -338,9 +338,9 @@ SoundMove limit q (LetIn id m) = (1 ≤ q.len) × (m ≤ duration_limit)
 -- a process whose wait may end: it has been created, and waits on an object
 abbrev pub SoundEnd : Partition → Transfer → Type 0
 SoundEnd p (Put m) = Unit {0}
-SoundEnd p (HandedTo id m) = Between 1 p.processCount id × (on_object (process id p) ≡ true)
+SoundEnd p (HandedTo id m) = Between 1 p.process_count id × (on_object (process id p) ≡ true)
 SoundEnd p Taken = Unit {0}
-SoundEnd p (LetIn id m) = Between 1 p.processCount id × (on_object (process id p) ≡ true)
+SoundEnd p (LetIn id m) = Between 1 p.process_count id × (on_object (process id p) ≡ true)
 
 -- where process id holds the preemption lock it is READY with the record x
 abbrev pub HolderReady : Partition → ℕ → Process → Type 0
@@ -353,14 +353,14 @@ SameHolder p level holder = 0 < p.level → 0 < level → holder ≡ p.holder
 -- a change that keeps a valid partition valid
 abbrev pub SoundChange : Context → Partition → Change → Type 0
 SoundChange c p Nothing = Unit {0}
-SoundChange c p (Stored id x) = Between 1 p.processCount id × SoundProcess (setting_of c.frame c.time p) x × HolderReady p id x
+SoundChange c p (Stored id x) = Between 1 p.process_count id × SoundProcess (setting_of c.frame c.time p) x × HolderReady p id x
 SoundChange c p (Created id x) = SoundCreated c.frame p id x
 SoundChange c p (Last id) = ready (process id p) ≡ true
-SoundChange c p (StoredSemaphore k s) = KnownOrNext semaphore_limit p.semaphoreCount k × SoundSemaphore s
-SoundChange c p (StoredEvent k e) = KnownOrNext event_limit p.eventCount k × SoundEvent e
-SoundChange c p (CreatedBuffer k name limit) = KnownOrNext buffer_limit p.bufferCount k × SoundBuffer (empty_buffer name limit)
-SoundChange c p (Moved k a) = Between 1 p.bufferCount k × SoundMove (buffer k p).limit (buffer k p).queue a × SoundEnd p a
-SoundChange c p (StoredBlackboard k b) = KnownOrNext blackboard_limit p.blackboardCount k × SoundBlackboard b
+SoundChange c p (StoredSemaphore k s) = KnownOrNext semaphore_limit p.semaphore_count k × SoundSemaphore s
+SoundChange c p (StoredEvent k e) = KnownOrNext event_limit p.event_count k × SoundEvent e
+SoundChange c p (CreatedBuffer k name limit) = KnownOrNext buffer_limit p.buffer_count k × SoundBuffer (empty_buffer name limit)
+SoundChange c p (Moved k a) = Between 1 p.buffer_count k × SoundMove (buffer k p).limit (buffer k p).queue a × SoundEnd p a
+SoundChange c p (StoredBlackboard k b) = KnownOrNext blackboard_limit p.blackboard_count k × SoundBlackboard b
 SoundChange c p (Ended o) = Unit {0}
 SoundChange c p (Handed o m) = m ≤ duration_limit
 SoundChange c p (LevelSet level holder) = SoundLock level holder (normal_mode p) (ready (process holder p)) × SameHolder p level holder
@@ -414,12 +414,12 @@ pub record SoundTable (T : Table) : Type 0 where
   pub frame : Between 1 frame_limit T.frame
   pub size : Between 1 partition_limit T.size
   pub windows_size : length T.windows ≡ window_limit
-  pub windowCount : Between 1 window_limit T.windowCount
+  pub window_count : Between 1 window_limit T.window_count
   pub channels_size : length T.channels ≡ channel_limit
-  pub channelCount : T.channelCount ≤ channel_limit
+  pub channel_count : T.channel_count ≤ channel_limit
   pub each_window : SoundWindows 0 T.frame T.size (windows T)
   pub flagged : (k : ℕ) → Between 1 T.size k → has_flagged k (windows T) ≡ true
-  pub each_channel : (i : ℕ) → i < T.channelCount → SoundChannel T.size (channel T i)
+  pub each_channel : (i : ℕ) → i < T.channel_count → SoundChannel T.size (channel T i)
 
 -- ---------------------------------------------------------------- the module
 pub record SoundModule (m : Module) : Type 0 where

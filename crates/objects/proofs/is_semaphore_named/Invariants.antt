@@ -5,7 +5,7 @@ use Rattle.decisions.proofs.Names.{NotBefore}
 use Rattle.objects.proofs.is_semaphore_named.Given as goal
 
 abbrev pub invariant-loop-i : goal.invariant-loop-i
-invariant-loop-i l = NotBefore (λ (x : Semaphore). x.name) l.name l.p.semaphores l.p.semaphoreCount l.i
+invariant-loop-i l = NotBefore (λ (x : Semaphore). x.name) l.name l.p.semaphores l.p.semaphore_count l.i
 
 abbrev pub decreases-loop-i : goal.decreases-loop-i
 decreases-loop-i l = semaphore_limit - l.i

@@ -13,4 +13,4 @@ returns c p s =
     let a = c.args in
     c.awaited.ensures p _ s
     ∙ by_code _ c.wait_code-code.result _ _ (rw (c.is_unknown-unknown.ensures, c.is_timeout.ensures, s.events, s.mode) at c.wait_code-code.ensures) refl
-    (λ h. rw (short_known a.k _ p.eventCount c.short_id.ensures (omega (arith, c.well_formed, s.events)) h.0, c.event_in-e.ensures ∙ s.event))
+    (λ h. rw (short_known a.k _ p.event_count c.short_id.ensures (omega (arith, c.well_formed, s.events)) h.0, c.event_in-e.ensures ∙ s.event))

@@ -13,4 +13,4 @@ returns c p s =
     let a = c.args in
     c.awaited.ensures p _ s
     ∙ by_code _ c.wait_code-code.result _ _ (rw (c.is_unknown-unknown.ensures, c.is_timeout.ensures, s.semaphores, s.mode) at c.wait_code-code.ensures) refl
-    (λ h. rw (short_known a.k _ p.semaphoreCount c.short_id.ensures (omega (arith, c.well_formed, s.semaphores)) h.0, c.changed-success.ensures, c.with_value.ensures, c.one_less.ensures, c.semaphore_in-s.ensures ∙ s.semaphore))
+    (λ h. rw (short_known a.k _ p.semaphore_count c.short_id.ensures (omega (arith, c.well_formed, s.semaphores)) h.0, c.changed-success.ensures, c.with_value.ensures, c.one_less.ensures, c.semaphore_in-s.ensures ∙ s.semaphore))

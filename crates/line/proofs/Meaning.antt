@@ -1,7 +1,7 @@
 -- What was read, and the number and values that its bytes have: each settles the other. Assumes nothing.
 use mathlib.Core.Path.{◌≡◌, refl, sym, ap, ◌∙◌}
 use mathlib.Core.List.{List}
-use mathlib.Core.Option.{Option, none, some}
+use Rattle.std.specs.Prelude.{Option, None, Some}
 use Prim.Native.Nat.{ℕ}
 use native.Mathlib.Omega.{arith}
 use lib.IntN.{ℤ}
@@ -15,11 +15,11 @@ unfolding read_line line_meaning
 meant bs = go (read_numbers field_count bs) refl
   where
     go : (r : Option (List ℤ)) → read_numbers field_count bs ≡ r → meaning (read_line bs) ≡ line_meaning bs
-    go none e = rw e
-    go (some zs) e =
+    go None e = rw e
+    go (Some zs) e =
         let t = read_six bs (numbers_of zs) (rw e) in
-        let again : read_numbers field_count bs ≡ some (number_list (numbers_of zs)) = rw t.0 (line_read (number_list (numbers_of zs)) t.1) in
-        let same : some zs ≡ some (number_list (numbers_of zs)) = sym e ∙ again in
+        let again : read_numbers field_count bs ≡ Some (number_list (numbers_of zs)) = rw t.0 (line_read (number_list (numbers_of zs)) t.1) in
+        let same : Some zs ≡ Some (number_list (numbers_of zs)) = sym e ∙ again in
         let own : zs ≡ number_list (numbers_of zs) = cc in
         rw (e, ← own)
 

@@ -10,7 +10,7 @@ use lib.ListN.{length, get_or, take, drop, set, drop_of_length-le}
 use lib.Seq.{take-suc-set, take_all, drop-cons, drop-drop}
 use lib.Dec.{eqb, leb}
 use borrow.Author.Tests.{eq-eqb, ne_eqb, le-leb, leb-true}
-use mathlib.Core.Option.{Option, none, some}
+use Rattle.std.specs.Prelude.{Option, None, Some}
 use lib.IntN.{ℤ, pos}
 use mir.Syntax.{w64}
 use mir.Val.{to_z, of_z}
@@ -46,29 +46,29 @@ module _ (l : List ℕ) (i r : ℕ) (e : line_end l i ≡ r) where
       (λ t. let q : i + 0 ≡ r = rw (t, drop_of_length-le l {i = i} h) at e in omega (arith, leb-true i (length l) t))
       (λ t. rw t at e)
 
-found_number : (r : Option ℤ) (x : ℤ) → found_of r ≡ Number x → r ≡ some x
-found_number none x e = absurd (let q : ◌≡◌ {A = ℕ} 0 1 = cc in omega arith)
-found_number (some z) x e = cc
+found_number : (r : Option ℤ) (x : ℤ) → found_of r ≡ Number x → r ≡ Some x
+found_number None x e = absurd (let q : ◌≡◌ {A = ℕ} 0 1 = cc in omega arith)
+found_number (Some z) x e = cc
 
-found_nothing : (r : Option ℤ) → found_of r ≡ Nothing → r ≡ none
-found_nothing none e = refl
-found_nothing (some z) e = absurd (let q : ◌≡◌ {A = ℕ} 0 1 = cc in omega arith)
+found_nothing : (r : Option ℤ) → found_of r ≡ Nothing → r ≡ None
+found_nothing None e = refl
+found_nothing (Some z) e = absurd (let q : ◌≡◌ {A = ℕ} 0 1 = cc in omega arith)
 
 -- ---------------------------------------------------------------- the numbers read so far
 -- numbers in front of what is read after them
 abbrev pub ahead : List ℤ → Option (List ℤ) → Option (List ℤ)
-ahead zs none = none
-ahead zs (some ns) = some (zs ++ ns)
+ahead zs None = None
+ahead zs (Some ns) = Some (zs ++ ns)
 
 pub ahead_nil : (r : Option (List ℤ)) → ahead [] r ≡ r
-ahead_nil none = refl
-ahead_nil (some ns) = refl
+ahead_nil None = refl
+ahead_nil (Some ns) = refl
 
-ahead_joined : (zs : List ℤ) (x : ℤ) (r : Option (List ℤ)) → ahead zs (joined (some x) r) ≡ ahead (zs ++ (x ∷ [])) r
-ahead_joined zs x none = refl
-ahead_joined zs x (some ns) = ap some (sym (append_assoc zs (x ∷ []) ns))
+ahead_joined : (zs : List ℤ) (x : ℤ) (r : Option (List ℤ)) → ahead zs (joined (Some x) r) ≡ ahead (zs ++ (x ∷ [])) r
+ahead_joined zs x None = refl
+ahead_joined zs x (Some ns) = ap Some (sym (append_assoc zs (x ∷ []) ns))
 
-bad_line : (s : List ℕ) → read_numbers field_count s ≡ none → Bad ≡ read_line s
+bad_line : (s : List ℕ) → read_numbers field_count s ≡ None → Bad ≡ read_line s
 unfolding read_line
 bad_line s e = rw e
 
@@ -85,17 +85,17 @@ module _ (s : List ℕ) (ns : List ℤ) (i : ℕ) (l : length ns ≡ field_count
     pub number_more : (x : ℤ) → f ≡ Number x
         → ahead (take (i + 1) (set ns i (to_z w64 (of_z w64 x)))) (read_numbers (field_count - (i + 1)) (drop ((i + 1) * field_width) s)) ≡ read_numbers field_count s
     number_more x g =
-        let r : read_field (take field_width (drop (i * field_width) s)) ≡ some x = found_number _ x (sym e ∙ g) in
+        let r : read_field (take field_width (drop (i * field_width) s)) ≡ Some x = found_number _ x (sym e ∙ g) in
         let t : take (i + 1) (set ns i (to_z w64 (of_z w64 x))) ≡ take i ns ++ (x ∷ []) =
         rw (range_back x (read_field_holds (take field_width (drop (i * field_width) s)) x r).1, add-one, take-suc-set ns i x (omega arith))
         in
-        rw t (sym (ahead_joined (take i ns) x (read_numbers (field_count - (i + 1)) (drop ((i + 1) * field_width) s))) ∙ opened (some x) r)
+        rw t (sym (ahead_joined (take i ns) x (read_numbers (field_count - (i + 1)) (drop ((i + 1) * field_width) s))) ∙ opened (Some x) r)
 
     pub number_none : f ≡ Nothing → Bad ≡ read_line s
-    number_none g = bad_line s (sym (opened none (found_nothing _ (sym e ∙ g))))
+    number_none g = bad_line s (sym (opened None (found_nothing _ (sym e ∙ g))))
 
   module _ (h : field_count ≤ i) (k : i ≤ field_count) (w : length s ≡ line_length) where
-    closed : (b : Bool) → eqb (get_or s (line_length - 1) 0) line_feed ≡ b → ahead ns (cond b (some []) none) ≡ read_numbers field_count s
+    closed : (b : Bool) → eqb (get_or s (line_length - 1) 0) line_feed ≡ b → ahead ns (cond b (Some []) None) ≡ read_numbers field_count s
     unfolding same_bytes
     closed b g =
         let n : i ≡ field_count = omega arith in
@@ -119,7 +119,7 @@ module _ (s : List ℕ) (ns : List ℤ) (i : ℕ) (l : length ns ≡ field_count
         }) ≡ read_line s
     unfolding read_line
     feed_found g =
-        let r : read_numbers field_count s ≡ some ns =
+        let r : read_numbers field_count s ≡ Some ns =
         sym (closed true (eq-eqb (get_or s (line_length - 1) 0) line_feed g)) ∙ rw append-nil
         in
         rw r (simp (ranges_back ns (read_line_holds field_count s ns r).range))

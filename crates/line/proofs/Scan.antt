@@ -4,7 +4,7 @@ use Prim.Native.Nat.{ℕ, zero, suc, ◌+◌, ◌-◌, ◌*◌, ◌/◌, ◌^◌
 use mathlib.Core.Path.{◌≡◌, refl, sym, ◌∙◌, ap}
 use mathlib.Core.Bool.{true, cond, ◌&&◌, and-eq-true_iff, and-true}
 use mathlib.Core.List.{List, [], ◌∷◌, ◌++◌}
-use mathlib.Core.Option.{Option, none, some}
+use Rattle.std.specs.Prelude.{Option, None, Some}
 use native.Mathlib.Omega.{arith}
 use native.Mathlib.Nat.{pow-suc, pow-succ', pow-le-pow_right, div-one, div-eq_of_lt, div-lt_iff_lt-mul, div-div-eq-div-mul, one-le-pow, pos_of_div-pos}
 use native.Mathlib.Numerals.{add-one}
@@ -237,13 +237,13 @@ pub scanned_field : (bs : List ℕ) → length bs ≡ field_width → scanned bs
 scanned_field bs h = go (scanned bs) refl (read_field bs) refl
   where
     go : (f : Found) → scanned bs ≡ f → (r : Option ℤ) → read_field bs ≡ r → scanned bs ≡ found_of (read_field bs)
-    go f e (some z) q =
+    go f e (Some z) q =
         let p = read_field_holds bs z q in
         rw q (ap scanned p.0 ∙ scanned_text z p.1)
-    go Nothing e none q = rw q e
-    go (Number z) e none q =
+    go Nothing e None q = rw q e
+    go (Number z) e None q =
         let p = scanned_back bs z h e in
-        absurd (let s : none ≡ some z = sym q ∙ ap read_field p.0 ∙ field_read z p.1 in let t : ◌≡◌ {A = ℕ} 0 1 = cc in omega arith)
+        absurd (let s : None ≡ Some z = sym q ∙ ap read_field p.0 ∙ field_read z p.1 in let t : ◌≡◌ {A = ℕ} 0 1 = cc in omega arith)
 
 -- ---------------------------------------------------------------- what the code's tests say
 module _ (l : List ℕ) (h : length l ≡ field_width) where

@@ -2,7 +2,7 @@
 use Prim.Native.Nat.{ℕ, ◌-◌}
 use mathlib.Core.Path.{◌≡◌, refl}
 use mathlib.Core.List.{List, [], ◌∷◌, ◌++◌, map}
-use mathlib.Core.Option.{none, some}
+use Rattle.std.specs.Prelude.{None, Some}
 use lib.ListN.{length, replicate}
 use lib.IntN.{pos, negsuc}
 use Rattle.machine.specs.Line.{line_feed, space, minus, field_width, in_range, column, mark_after, columns, number_text, field_text, same_bytes, spelled, candidate, read_field, lines}
@@ -15,7 +15,7 @@ right bs = replicate (field_width - length bs) space ++ bs
 pub fields : List (List ℕ)
 fields = right (56 ∷ []) ∷ right (48 ∷ []) ∷ right (minus ∷ 49 ∷ []) ∷ right (replicate 9 57) ∷ []
 
-pub good_fields : map read_field fields ≡ some (pos 8) ∷ some (pos 0) ∷ some (negsuc 0) ∷ some (pos 999999999) ∷ []
+pub good_fields : map read_field fields ≡ Some (pos 8) ∷ Some (pos 0) ∷ Some (negsuc 0) ∷ Some (pos 999999999) ∷ []
 unfolding fields read_field candidate in_range same_bytes spelled field_text number_text columns column mark_after
 good_fields = refl
 
@@ -38,7 +38,7 @@ refused =
     ∷ right (200 ∷ [])
     ∷ []
 
-pub refused_fields : map read_field refused ≡ replicate (length refused) none
+pub refused_fields : map read_field refused ≡ replicate (length refused) None
 unfolding refused read_field candidate in_range same_bytes spelled field_text number_text columns column mark_after
 refused_fields = refl
 

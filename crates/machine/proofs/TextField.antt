@@ -4,7 +4,7 @@ use Prim.Native.Nat.{ℕ, zero, suc, ◌+◌, ◌-◌, ◌*◌, ◌/◌, ◌%◌
 use mathlib.Core.Path.{◌≡◌, refl, sym, ◌∙◌, ap}
 use mathlib.Core.Bool.{true, ◌&&◌, and-eq-true_iff}
 use mathlib.Core.List.{List, [], ◌∷◌, ◌++◌}
-use mathlib.Core.Option.{none, some}
+use Rattle.std.specs.Prelude.{None, Some}
 use native.Mathlib.Omega.{arith}
 use native.Mathlib.Nat.{pow-succ'}
 use native.Mathlib.Numerals.{add-one}
@@ -113,18 +113,18 @@ candidate_text (pos n) r =
 candidate_text (negsuc n) r = rw (eqb-true n 0 r, same_refl (field_text (negsuc 0)))
 
 -- the text of a number in range reads as the number
-pub field_read : (z : ℤ) → in_range z ≡ true → read_field (field_text z) ≡ some z
+pub field_read : (z : ℤ) → in_range z ≡ true → read_field (field_text z) ≡ Some z
 unfolding read_field
 field_read z r = rw (candidate_text z r, r, same_refl (field_text z))
 
 -- columns that read as a number are its text, and it is in range
-pub read_field_holds : (bs : List ℕ) (z : ℤ) → read_field bs ≡ some z → (bs ≡ field_text z) × (in_range z ≡ true)
+pub read_field_holds : (bs : List ℕ) (z : ℤ) → read_field bs ≡ Some z → (bs ≡ field_text z) × (in_range z ≡ true)
 unfolding read_field
 read_field_holds bs z h =
     either (in_range (candidate bs) && same_bytes bs (field_text (candidate bs)))
     (λ t.
     let p = (and-eq-true_iff (in_range (candidate bs)) (same_bytes bs (field_text (candidate bs)))).0 t in
-    let s : some (candidate bs) ≡ some z = rw t at h in
+    let s : Some (candidate bs) ≡ Some z = rw t at h in
     let e : candidate bs ≡ z = cc in
     (rw (← e) (same_true bs (field_text (candidate bs)) p.1), rw (← e) p.0))
-    (λ t. absurd (let s : none ≡ some z = rw t at h in let q : ◌≡◌ {A = ℕ} 0 1 = cc in omega arith))
+    (λ t. absurd (let s : None ≡ Some z = rw t at h in let q : ◌≡◌ {A = ℕ} 0 1 = cc in omega arith))

@@ -4,7 +4,7 @@ use Prim.Native.Nat.{ℕ, zero, suc, ◌+◌, ◌-◌, ◌*◌, ◌≤◌, ◌<�
 use mathlib.Core.Path.{◌≡◌, refl, sym, ◌∙◌, ap}
 use mathlib.Core.Bool.{true, cond, and-eq-true_iff}
 use mathlib.Core.List.{List, [], ◌∷◌}
-use mathlib.Core.Option.{Option, none, some}
+use Rattle.std.specs.Prelude.{Option, None, Some}
 use native.Mathlib.Omega.{arith}
 use lib.ListN.{length, take, drop, length-append, length-drop, take-append-drop}
 use lib.Seq.{take_at, drop_at}
@@ -32,13 +32,13 @@ reads_more (suc n) bs h =
     let e : suc n - 1 ≡ n = omega arith in
     rw e
 
-pub reads_none : (n : ℕ) (bs : List ℕ) → n ≤ 0 → read_numbers n bs ≡ cond (same_bytes bs (line_feed ∷ [])) (some []) none
+pub reads_none : (n : ℕ) (bs : List ℕ) → n ≤ 0 → read_numbers n bs ≡ cond (same_bytes bs (line_feed ∷ [])) (Some []) None
 unfolding read_numbers
 reads_none zero bs h = refl
 reads_none (suc n) bs h = absurd (omega arith)
 
 -- the line of numbers in range reads as them
-pub line_read : (ns : List ℤ) → all_in_range ns ≡ true → read_numbers (length ns) (line_text ns) ≡ some ns
+pub line_read : (ns : List ℤ) → all_in_range ns ≡ true → read_numbers (length ns) (line_text ns) ≡ Some ns
 unfolding all_in_range line_text read_numbers
 line_read [] r = rw (same_refl (line_feed ∷ []))
 line_read (z ∷ ns) r =
@@ -53,13 +53,13 @@ pub record IsText (n : ℕ) (bs : List ℕ) (ns : List ℤ) : Type 0 where
 
 -- what two parts give together
 joined_text : (n : ℕ) (bs : List ℕ) (a : Option ℤ) (b : Option (List ℤ)) (ns : List ℤ)
-    → ((z : ℤ) → a ≡ some z → (take field_width bs ≡ field_text z) × (in_range z ≡ true))
-    → ((zs : List ℤ) → b ≡ some zs → IsText n (drop field_width bs) zs)
-    → joined a b ≡ some ns → IsText (suc n) bs ns
+    → ((z : ℤ) → a ≡ Some z → (take field_width bs ≡ field_text z) × (in_range z ≡ true))
+    → ((zs : List ℤ) → b ≡ Some zs → IsText n (drop field_width bs) zs)
+    → joined a b ≡ Some ns → IsText (suc n) bs ns
 unfolding line_text all_in_range
-joined_text n bs none b ns f g h = absurd (let q : ◌≡◌ {A = ℕ} 0 1 = cc in omega arith)
-joined_text n bs (some z) none ns f g h = absurd (let q : ◌≡◌ {A = ℕ} 0 1 = cc in omega arith)
-joined_text n bs (some z) (some zs) ns f g h =
+joined_text n bs None b ns f g h = absurd (let q : ◌≡◌ {A = ℕ} 0 1 = cc in omega arith)
+joined_text n bs (Some z) None ns f g h = absurd (let q : ◌≡◌ {A = ℕ} 0 1 = cc in omega arith)
+joined_text n bs (Some z) (Some zs) ns f g h =
     let e : z ∷ zs ≡ ns = cc in
     let front = f z refl in
     let rest = g zs refl in
@@ -71,14 +71,14 @@ joined_text n bs (some z) (some zs) ns f g h =
     })
 
 -- a line that reads as numbers is their text, and they are in range
-pub read_line_holds : (n : ℕ) (bs : List ℕ) (ns : List ℤ) → read_numbers n bs ≡ some ns → IsText n bs ns
+pub read_line_holds : (n : ℕ) (bs : List ℕ) (ns : List ℤ) → read_numbers n bs ≡ Some ns → IsText n bs ns
 unfolding read_numbers line_text all_in_range
 read_line_holds zero bs ns h =
     either (same_bytes bs (line_feed ∷ []))
     (λ t.
-    let e : [] ≡ ns = let s : some [] ≡ some ns = rw t at h in cc in
+    let e : [] ≡ ns = let s : Some [] ≡ Some ns = rw t at h in cc in
     rw (← e) (record { text = same_true bs (line_feed ∷ []) t; range = refl; count = refl }))
-    (λ t. absurd (let s : none ≡ some ns = rw t at h in let q : ◌≡◌ {A = ℕ} 0 1 = cc in omega arith))
+    (λ t. absurd (let s : None ≡ Some ns = rw t at h in let q : ◌≡◌ {A = ℕ} 0 1 = cc in omega arith))
 read_line_holds (suc n) bs ns h =
     joined_text n bs (read_field (take field_width bs)) (read_numbers n (drop field_width bs)) ns
     (read_field_holds (take field_width bs))
@@ -108,8 +108,8 @@ unfolding read_line
 read_six bs n h = go (read_numbers field_count bs) refl
   where
     go : (r : Option (List ℤ)) → read_numbers field_count bs ≡ r → (bs ≡ line_text (number_list n)) × (all_in_range (number_list n) ≡ true)
-    go none e = absurd (let s : Bad ≡ Six n = rw e at h in let q : ◌≡◌ {A = ℕ} 0 1 = cc in omega arith)
-    go (some zs) e =
+    go None e = absurd (let s : Bad ≡ Six n = rw e at h in let q : ◌≡◌ {A = ℕ} 0 1 = cc in omega arith)
+    go (Some zs) e =
         let t = read_line_holds field_count bs zs e in
         let s : Six (numbers_of zs) ≡ Six n = rw e at h in
         let m : numbers_of zs ≡ n = cc in

@@ -1,5 +1,6 @@
 pub mod Limits
 pub mod Time
+pub mod Refusals
 pub mod Fields
 pub mod Ids
 pub mod Messages

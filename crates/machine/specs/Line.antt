@@ -1,6 +1,6 @@
 -- Text lines: the text of a line, reading a line, writing one, and the lines of an input.
 use Rattle.std.specs.Prelude.{ℕ, zero, suc, ◌+◌, ◌-◌, ◌*◌, ◌/◌, ◌%◌, Bool, true, false, cond, ◌&&◌, List, [], ◌∷◌, ◌++◌, length, get_or, take, drop, leb, eqb, ℤ, pos, negsuc}
-use Rattle.std.proofs.Math.Option.{Option, none, some}
+use Rattle.std.specs.Prelude.{Option, None, Some}
 use Rattle.machine.specs.declared.Numbers.{Numbers}
 use Rattle.machine.specs.declared.Line.{Line}
 use Rattle.machine.specs.declared.Line.TheVariants.{Six, Bad}
@@ -86,16 +86,16 @@ candidate bs = cond (same_bytes bs (field_text (negsuc 0))) (negsuc 0) (pos (spe
 
 -- right-justified with spaces, no +, no leading zero, no -0, −1..999,999,999: the columns are the text of a number in range
 unfoldable pub read_field : List ℕ → Option ℤ
-read_field bs = let z = candidate bs in cond (in_range z && same_bytes bs (field_text z)) (some z) none
+read_field bs = let z = candidate bs in cond (in_range z && same_bytes bs (field_text z)) (Some z) None
 
 abbrev pub joined : Option ℤ → Option (List ℤ) → Option (List ℤ)
-joined none zs = none
-joined (some z) none = none
-joined (some z) (some zs) = some (z ∷ zs)
+joined None zs = None
+joined (Some z) None = None
+joined (Some z) (Some zs) = Some (z ∷ zs)
 
 -- so many fields of ten columns, then LF
 unfoldable pub read_numbers : ℕ → List ℕ → Option (List ℤ)
-read_numbers zero bs = cond (same_bytes bs (line_feed ∷ [])) (some []) none
+read_numbers zero bs = cond (same_bytes bs (line_feed ∷ [])) (Some []) None
 read_numbers (suc n) bs = joined (read_field (take field_width bs)) (read_numbers n (drop field_width bs))
 
 abbrev pub number_list : Numbers → List ℤ
@@ -112,8 +112,8 @@ numbers_of zs = record {
 }
 
 abbrev pub line_of : Option (List ℤ) → Line
-line_of none = Bad
-line_of (some zs) = Six (numbers_of zs)
+line_of None = Bad
+line_of (Some zs) = Six (numbers_of zs)
 
 -- reading: not 61 bytes: six fields of ten columns, .., then LF
 unfoldable pub read_line : List ℕ → Line
@@ -133,8 +133,8 @@ line_code l = (meaning l).0
 
 -- the number and the values of a line's text: 0 and the numbers that its columns spell, or 11
 abbrev pub meaning_of : Option (List ℤ) → ℕ × List ℤ
-meaning_of none = (line_refusal, [])
-meaning_of (some zs) = (0, zs)
+meaning_of None = (line_refusal, [])
+meaning_of (Some zs) = (0, zs)
 
 unfoldable pub line_meaning : List ℕ → ℕ × List ℤ
 line_meaning bs = meaning_of (read_numbers field_count bs)

@@ -2,6 +2,7 @@
 #![tactic(auto)]
 
 ghost use Rattle.std.specs.Prelude.{◌≡◌};
+ghost use Rattle.machine.specs.Refusals.{code};
 ghost use Rattle.machine.specs.Messages.{no_queue};
 ghost use Rattle.machine.specs.Process.{blank_process};
 ghost use Rattle.machine.specs.Partition.{no_buffer, fresh_partition, empty_partition};
@@ -225,6 +226,43 @@ pub struct Request {
     pub b: Field,
     pub c: Field,
     pub e: Field,
+}
+
+// Why an event, a line or a table is refused. An answer has the number of it.
+#[derive(Clone, Copy, Debug, PartialEq, Eq)]
+pub enum Refusal {
+    NoAction,
+    NotAvailable,
+    InvalidParameter,
+    NoRoom,
+    InvalidMode,
+    NotCurrent,
+    NoCaller,
+    TimeEnded,
+    BadLine,
+    BadTable,
+    Malformed,
+}
+
+impl Refusal {
+    // The number that document 01 gives it.
+    pub fn code(self) -> u8
+        ensures { result ≡ code self }
+    {
+        match self {
+            Refusal::NoAction => 1,
+            Refusal::NotAvailable => 2,
+            Refusal::InvalidParameter => 3,
+            Refusal::NoRoom => 4,
+            Refusal::InvalidMode => 5,
+            Refusal::NotCurrent => 8,
+            Refusal::NoCaller => 9,
+            Refusal::TimeEnded => 10,
+            Refusal::BadLine => 11,
+            Refusal::BadTable => 12,
+            Refusal::Malformed => 13,
+        }
+    }
 }
 
 // The first three numbers of an answer.

@@ -137,8 +137,7 @@ impl Executive {
         let mut objects = [0u16; Module::PROCESSES];
         let mut run: u8 = 0;
         let mut soon = [0u32; Module::PARTITIONS];
-        let mut i: usize = 0;
-        while i < n {
+        for i in 0..n {
             let at = i * SIX;
             let asked = fields::request_of(event_at(list, at));
             let first = places::place_event(table.size, m.t, asked);
@@ -148,8 +147,7 @@ impl Executive {
             let x = events::plan_of(table.size, asked, first, window);
             m.t = x.time;
             let mut stale = false;
-            let mut j: usize = 0;
-            while j < x.ticks {
+            for j in 0..x.ticks {
                 if soon[j] <= m.t {
                     if j == spot {
                         here = partition::ticked(here, m.t);
@@ -162,7 +160,6 @@ impl Executive {
                         soon[j] = partition::soonest_of(q);
                     }
                 }
-                j += 1;
             }
             if x.spot != spot {
                 if spot < Module::PARTITIONS {
@@ -421,7 +418,6 @@ impl Executive {
             }
             last = events::answer_of(reply, m.t, x.current, running);
             put_answer(list, at, last);
-            i += 1;
         }
         if spot < Module::PARTITIONS {
             m.partitions[spot] = here;

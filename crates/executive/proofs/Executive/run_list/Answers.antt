@@ -97,9 +97,9 @@ near : (c : Then-seen-lt-PARTITIONS) → c.plan_of-x.result.place < channel_limi
 near c = seen_place c.args.self.inner.table c.loop-i.invariant.1 c.plan_of-x.result.own c.plan_of-x.result.place (c.seen_slot-seen.ensures c.args.self.inner.table refl (line c.before.before.before)) c.if-seen-lt-PARTITIONS.true
 
 -- what is decided
-decided : (c : Joined-slot-lt-PARTITIONS) → Decides (planned c.before.before.before.before.before.before.before) c.if-slot-lt-PARTITIONS.d
+decided : (c : Joined-slot-lt-PARTITIONS) → Decides (planned c.before.before.before.before.before.before) c.if-slot-lt-PARTITIONS.d
 decided c =
-    let f = planned c.before.before.before.before.before.before.before in
+    let f = planned c.before.before.before.before.before.before in
     let a = arrived c.before.before in
     let bs = beside c.before in
     let T = c.args.self.inner.table in
@@ -180,7 +180,7 @@ pub loop-turn-preserved : goal.loop-turn-preserved
 loop-turn-preserved c = (two_more c.loop-turn.turn c.loop-turn-test.true, left_more c.loop-turn.turn c.loop-turn.change c.second_change-second.result c.loop-turn.here c.match-change.here _ c.loop-turn-test.true (made (goal.at.loop-turn-preserved c).Joined-change).0 c.loop-turn.invariant.1, (made (goal.at.loop-turn-preserved c).Joined-change).1, (made (goal.at.loop-turn-preserved c).Joined-change).2)
 
 -- all that is known before something is done
-ready : (c : After-is_restart) → Ready (planned c.before.before.before.before.before.before.before.before.before.before.before) c.if-x-spot.spot c.if-x-spot.here c.if-x-spot.m c.if-stale.currents c.if-stale.objects c.if-stale.run c.loop-j.soon c.if-slot-lt-PARTITIONS.d c.reply_of-reply.result
+ready : (c : After-is_restart) → Ready (planned c.before.before.before.before.before.before.before.before.before.before) c.if-x-spot.spot c.if-x-spot.here c.if-x-spot.m c.if-stale.currents c.if-stale.objects c.if-stale.run c.loop-j.soon c.if-slot-lt-PARTITIONS.d c.reply_of-reply.result
 ready c =
     let a = arrived c.before.before.before.before.before.before in
     record { ticked = ticked c.before.before.before.before.before.before; long = a.0.long; here = a.1; beside = beside c.before.before.before.before.before; early = a.0.early; decides = decided c.before.before.before.before; says = c.reply_of-reply.ensures }
@@ -217,7 +217,7 @@ left_beside c =
 -- the running process shown
 shown : (c : Joined-x-lt-PARTITIONS) → c.if-x-lt-PARTITIONS.running ≡ cond (sees c.plan_of-x.result.request c.plan_of-x.result.current) (running_in c.plan_of-x.result.current (settled c.if-x-spot.spot c.if-is_restart.here c.if-is_restart.m)) 0
 shown c =
-    let f = planned c.before.before.before.before.before.before.before.before.before.before.before.before.before.before.before.before in
+    let f = planned c.before.before.before.before.before.before.before.before.before.before.before.before.before.before.before in
     let b = did c.before.before.before.before in
     let size : length c.if-is_restart.m.partitions ≡ partition_limit = sym (length-set c.if-is_restart.m.partitions c.if-x-spot.spot c.if-is_restart.here) ∙ b.after.long in
     elim c.if-x-lt-PARTITIONS.branch [ then-x-lt-PARTITIONS w ↦ (let e = shown_spot f w.if-x-lt-PARTITIONS.true in runs_shown f b.after w.if-x-lt-PARTITIONS.true (w.running-is ∙ running_at c.if-is_restart.m c.if-x-spot.spot c.if-is_restart.here c.plan_of-x.result.spot (arrived c.before.before.before.before.before.before.before.before.before.before.before).1 (rw e at w.if-x-lt-PARTITIONS.true) size (left_beside c.before.before).runs)) | else-x-lt-PARTITIONS w ↦ (w.running-is ∙ none_shown f b.after w.if-x-lt-PARTITIONS.false) ]
@@ -252,12 +252,6 @@ event_at-requires c = fits c.loop-i.invariant.0 c.loop-i-test.true
 pub put_answer-requires : goal.put_answer-requires
 put_answer-requires c = fits c.loop-i.invariant.0 c.loop-i-test.true
 
-pub overflow_add-i : goal.overflow_add-i
-overflow_add-i c =
-    let h = fits c.loop-i.invariant.0 c.loop-i-test.true in
-    let g : length c.args.list.now < 18446744073709551616 = omega (arith, c.well_formed) in
-    record { fits = omega (arith, h, g, c.loop-i.invariant.0.size) }
-
 pub loop-i-smaller : goal.loop-i-smaller
 loop-i-smaller c = omega (arith, c.loop-i-test.true)
 
@@ -280,10 +274,10 @@ pub returns-else-spot-lt-PARTITIONS-3 : goal.returns-else-spot-lt-PARTITIONS-3
 returns-else-spot-lt-PARTITIONS-3 c = let e = ends c.loop-i.invariant.0 c.loop-i-test.false in (sym (settled_past c.loop-i.spot c.loop-i.here c.loop-i.m (omega (arith, c.if-spot-lt-PARTITIONS-3.false, c.loop-i.invariant.5))) ∙ e.0, e.1, e.2)
 
 restart_in : (c : Then-is_restart) → c.plan_of-x.result.slot < partition_limit
-restart_in c = let g = ready c.before in restarts_in (planned c.before.before.before.before.before.before.before.before.before.before.before.before) c.if-x-spot.spot c.if-x-spot.here c.if-x-spot.m g.ticked g.long g.here c.if-slot-lt-PARTITIONS.d g.decides (sym c.is_restart.ensures ∙ c.if-is_restart.true)
+restart_in c = let g = ready c.before in restarts_in (planned c.before.before.before.before.before.before.before.before.before.before.before) c.if-x-spot.spot c.if-x-spot.here c.if-x-spot.m g.ticked g.long g.here c.if-slot-lt-PARTITIONS.d g.decides (sym c.is_restart.ensures ∙ c.if-is_restart.true)
 
 change_in : (c : Then-does_change) → c.plan_of-x.result.slot < partition_limit
-change_in c = let g = ready c.before.before.before in changes_in (planned c.before.before.before.before.before.before.before.before.before.before.before.before.before.before) c.if-x-spot.spot c.if-x-spot.here c.if-x-spot.m g.ticked g.long g.here c.if-slot-lt-PARTITIONS.d g.decides (sym c.does_change.ensures ∙ (search (rules, c.if-does_change.true)))
+change_in c = let g = ready c.before.before.before in changes_in (planned c.before.before.before.before.before.before.before.before.before.before.before.before.before) c.if-x-spot.spot c.if-x-spot.here c.if-x-spot.m g.ticked g.long g.here c.if-slot-lt-PARTITIONS.d g.decides (sym c.does_change.ensures ∙ (search (rules, c.if-does_change.true)))
 
 pub offset_bounds-m-place-then-seen-lt-PARTITIONS : goal.offset_bounds-m-place-then-seen-lt-PARTITIONS
 offset_bounds-m-place-then-seen-lt-PARTITIONS c = search (rules, near (goal.at.offset_bounds-m-place-then-seen-lt-PARTITIONS c).Then-seen-lt-PARTITIONS)
@@ -371,9 +365,6 @@ offset_bounds-soon-j-else-j-spot c = search rules
 
 pub bounds-soon-j-else-j-spot : goal.bounds-soon-j-else-j-spot
 bounds-soon-j-else-j-spot c = search rules
-
-pub overflow_add-j : goal.overflow_add-j
-overflow_add-j c = search rules
 
 pub bounds-m-spot : goal.bounds-m-spot
 bounds-m-spot c = search rules

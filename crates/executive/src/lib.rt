@@ -1,14 +1,16 @@
 // The executive: a module that comes only from table reading and from events.
 #![tactic(auto)]
 
-ghost use Rattle.std.specs.Prelude.{◌≡◌, ◌+◌, ◌-◌, ◌≤◌, length};
+ghost use Rattle.std.specs.Prelude.{◌≡◌, ◌+◌, ◌-◌, ◌≤◌, length, false};
 ghost use Rattle.std.proofs.lemmas.List.Edits.{sets};
-ghost use Rattle.machine.specs.Partition.{nothing_created};
+ghost use Rattle.machine.specs.Limits.{process_limit};
+ghost use Rattle.machine.specs.Partition.{nothing_created, applied, stored};
 ghost use Rattle.machine.specs.Step.{restarted, step};
 ghost use Rattle.machine.specs.Replay.{time_number, answer_numbers, unread};
 ghost use Rattle.machine.specs.Table.{read_table};
 ghost use Rattle.machine.specs.Windows.{waiting_of};
 ghost use Rattle.events.specs.Plans.{no_answer};
+ghost use Rattle.resident.specs.Mirrors.{Mirrors};
 ghost use Rattle.executive.specs.Executive.{turned, opened};
 ghost use Rattle.executive.specs.Lists.{six, event_at, after_list, answered_list, last_answer, events_in};
 
@@ -104,6 +106,121 @@ fn put_answer(list: &mut [i64], at: usize, a: Answer)
     list[at + 3] = a.t as i64;
     list[at + 4] = a.current as i64;
     list[at + 5] = a.running as i64;
+}
+
+// Stores a process's record in the partition that lies in place: both lists and the numbers beside it follow.
+fn store(
+    here: &mut Partition,
+    currents: &mut [u8; Module::PROCESSES],
+    objects: &mut [u16; Module::PROCESSES],
+    id: u32,
+    x: Process,
+)
+    ensures stored { here.new ≡ stored id x here.old }
+    ensures beside { Mirrors here.old currents.old objects.old → Mirrors here.new currents.new objects.new }
+{
+    let k = partition::slot(id, Module::PROCESSES);
+    if k < Module::PROCESSES {
+        let old = here.processes[k];
+        here.processes[k] = x;
+        here.arrival = partition::arrival_with(here.arrival, old, x, id);
+        here.waiting = partition::waiting_with(here.waiting, old, x, id);
+        currents[k] = x.current;
+        objects[k] = resident::object_of(x);
+    }
+}
+
+// One change of the partition that lies in place. The numbers beside it follow where one process is stored; they have to be filled anew where the
+// result is true.
+fn make_change(
+    here: &mut Partition,
+    currents: &mut [u8; Module::PROCESSES],
+    objects: &mut [u16; Module::PROCESSES],
+    change: Change,
+) -> bool
+    ensures made { here.new ≡ applied change here.old }
+    ensures beside { result ≡ false → Mirrors here.old currents.old objects.old → Mirrors here.new currents.new objects.new }
+{
+    match change {
+        Change::Nothing => {}
+        Change::Stored(id, y) => store(here, currents, objects, id, y),
+        Change::Created(id, y) => {
+            *here = partition::create(*here, id, y);
+            return true;
+        }
+        Change::Last(id) => here.arrival = partition::last_in(here.arrival, id),
+        Change::StoredSemaphore(id, y) => {
+            let k = partition::slot(id, Module::SEMAPHORES);
+            if k < Module::SEMAPHORES {
+                here.semaphores[k] = y;
+                here.semaphore_count = partition::counted(here.semaphore_count, id);
+            }
+        }
+        Change::StoredEvent(id, y) => {
+            let k = partition::slot(id, Module::EVENTS);
+            if k < Module::EVENTS {
+                here.events[k] = y;
+                here.event_count = partition::counted(here.event_count, id);
+            }
+        }
+        Change::CreatedBuffer(id, name, limit) => {
+            *here = partition::create_buffer(*here, id, name, limit);
+        }
+        Change::Moved(id, y) => {
+            let k = partition::slot(id, Module::BUFFERS);
+            if k < Module::BUFFERS {
+                let mut v = here.buffers[k];
+                v.queue = messages::change(v.queue, y);
+                here.buffers[k] = v;
+                here.buffer_count = partition::counted(here.buffer_count, id);
+            }
+            let other = partition::ended_id(y);
+            let ended = partition::ended_as(partition::process_at(*here, other), y);
+            store(here, currents, objects, other, ended);
+        }
+        Change::StoredBlackboard(id, y) => {
+            let k = partition::slot(id, Module::BLACKBOARDS);
+            if k < Module::BLACKBOARDS {
+                here.blackboards[k] = y;
+                here.blackboard_count = partition::counted(here.blackboard_count, id);
+            }
+        }
+        Change::Ended(o) => {
+            *here = partition::end_queue(*here, o, false, 0);
+            return true;
+        }
+        Change::Handed(o, y) => {
+            *here = partition::end_queue(*here, o, true, y);
+            return true;
+        }
+        Change::LevelSet(level, holder) => {
+            here.level = level;
+            here.holder = holder;
+        }
+        Change::Entered(y) => {
+            *here = partition::enter_normal(*here, y);
+            return true;
+        }
+    }
+    false
+}
+
+// Two changes, one after the other.
+fn make_changes(
+    here: &mut Partition,
+    currents: &mut [u8; Module::PROCESSES],
+    objects: &mut [u16; Module::PROCESSES],
+    first: Change,
+    second: Change,
+) -> bool
+    ensures made { here.new ≡ applied second (applied first here.old) }
+    ensures beside { result ≡ false → Mirrors here.old currents.old objects.old → Mirrors here.new currents.new objects.new }
+{
+    if make_change(here, currents, objects, first) {
+        make_change(here, currents, objects, second);
+        return true;
+    }
+    make_change(here, currents, objects, second)
 }
 
 impl Executive {
@@ -286,102 +403,9 @@ impl Executive {
                 stale = true;
                 changed = true;
             } else if decisions::does_change(d) {
-                let mut change = decisions::first_change(d);
+                let first = decisions::first_change(d);
                 let second = decisions::second_change(d);
-                let mut turn: u8 = 0;
-                while turn < 2 {
-                    match change {
-                        Change::Nothing => {}
-                        Change::Stored(id, y) => {
-                            let k = partition::slot(id, Module::PROCESSES);
-                            if k < Module::PROCESSES {
-                                let old = here.processes[k];
-                                here.processes[k] = y;
-                                here.arrival = partition::arrival_with(here.arrival, old, y, id);
-                                here.waiting = partition::waiting_with(here.waiting, old, y, id);
-                                currents[k] = y.current;
-                                objects[k] = resident::object_of(y);
-                            }
-                        }
-                        Change::Created(id, y) => {
-                            here = partition::create(here, id, y);
-                            stale = true;
-                        }
-                        Change::Last(id) => here.arrival = partition::last_in(here.arrival, id),
-                        Change::StoredSemaphore(id, y) => {
-                            let k = partition::slot(id, Module::SEMAPHORES);
-                            if k < Module::SEMAPHORES {
-                                here.semaphores[k] = y;
-                                here.semaphore_count = partition::counted(here.semaphore_count, id);
-                            }
-                        }
-                        Change::StoredEvent(id, y) => {
-                            let k = partition::slot(id, Module::EVENTS);
-                            if k < Module::EVENTS {
-                                here.events[k] = y;
-                                here.event_count = partition::counted(here.event_count, id);
-                            }
-                        }
-                        Change::CreatedBuffer(id, name, limit) => here = partition::create_buffer(
-                            here, id, name, limit,
-                        ),
-                        Change::Moved(id, y) => {
-                            let k = partition::slot(id, Module::BUFFERS);
-                            if k < Module::BUFFERS {
-                                let mut v = here.buffers[k];
-                                v.queue = messages::change(v.queue, y);
-                                here.buffers[k] = v;
-                                here.buffer_count = partition::counted(here.buffer_count, id);
-                            }
-                            let other = partition::ended_id(y);
-                            let l = partition::slot(other, Module::PROCESSES);
-                            if l < Module::PROCESSES {
-                                let old = here.processes[l];
-                                let ended = partition::ended_as(old, y);
-                                here.processes[l] = ended;
-                                here.arrival = partition::arrival_with(
-                                    here.arrival,
-                                    old,
-                                    ended,
-                                    other,
-                                );
-                                here.waiting = partition::waiting_with(
-                                    here.waiting,
-                                    old,
-                                    ended,
-                                    other,
-                                );
-                                currents[l] = ended.current;
-                                objects[l] = resident::object_of(ended);
-                            }
-                        }
-                        Change::StoredBlackboard(id, y) => {
-                            let k = partition::slot(id, Module::BLACKBOARDS);
-                            if k < Module::BLACKBOARDS {
-                                here.blackboards[k] = y;
-                                here.blackboard_count = partition::counted(here.blackboard_count, id);
-                            }
-                        }
-                        Change::Ended(o) => {
-                            here = partition::end_queue(here, o, false, 0);
-                            stale = true;
-                        }
-                        Change::Handed(o, y) => {
-                            here = partition::end_queue(here, o, true, y);
-                            stale = true;
-                        }
-                        Change::LevelSet(level, holder) => {
-                            here.level = level;
-                            here.holder = holder;
-                        }
-                        Change::Entered(y) => {
-                            here = partition::enter_normal(here, y);
-                            stale = true;
-                        }
-                    }
-                    change = second;
-                    turn += 1;
-                }
+                stale = make_changes(&mut here, &mut currents, &mut objects, first, second);
                 soon[slot] = 0;
                 changed = true;
             } else if put < Module::CHANNELS {

@@ -38,7 +38,7 @@ use Rattle.executive.proofs.Laws.{past_queue, Planned, Decides, plan_made, place
 use Rattle.executive.proofs.Lists.{begins_early, early_same, Running, begins, fits, ends, goes_on}
 use Rattle.executive.proofs.Residents.{Beside, beside_looked, kept_fresh, none_beside, two_less, two_more, two_fits, set_size, ticks_here, ticks_there, ticks_none, Current, current_same, current_moved, not_stored, restart_changes, one_of, not_far, not_near, Ready, Done, done_as_holds, done_same, done_written, done_changed, done_restarted, done_moved, done_here, done_there, restarts_in, changes_in, buffer_keeps, number_at, number_past, waiter_read, waiter_none, running_at}
 use Rattle.executive.proofs.Executive.run_list.Goals as goal
-use Rattle.executive.proofs.Executive.run_list.Goals.{After-is_restart, After-plan_of-x, Joined-change, Joined-changed, Joined-first-m, Joined-is_restart, Joined-place-lt-CHANNELS, Joined-slot-lt-PARTITIONS, Joined-stale, Joined-x-lt-PARTITIONS, Joined-x-spot, Start, Then-does_change, Then-is_restart, Then-seen-lt-PARTITIONS, else-calling_at-lt-PROCESSES, else-changed, else-does_create, else-first-m, else-is_restart+else-does_change+else-put-lt-CHANNELS+else-pass-lt-CHANNELS, else-is_restart+else-does_change+else-put-lt-CHANNELS+then-pass-lt-CHANNELS+else-end-lt-PARTITIONS, else-is_restart+else-does_change+else-put-lt-CHANNELS+then-pass-lt-CHANNELS+then-end-lt-PARTITIONS+else-end-spot, else-is_restart+else-does_change+else-put-lt-CHANNELS+then-pass-lt-CHANNELS+then-end-lt-PARTITIONS+then-end-spot, else-is_restart+else-does_change+then-put-lt-CHANNELS, else-is_restart+then-does_change+else-loop-turn-test, else-k-lt-BUFFERS, else-named_at-lt-PROCESSES, else-object-ne0, else-object_at-lt-SEMAPHORES, else-place-lt-CHANNELS, else-seen-lt-PARTITIONS, else-served_at-lt-PROCESSES, else-slot-lt-PARTITIONS, else-soon-j, else-spot-lt-PARTITIONS, else-stale, else-stale-2, else-x-lt-PARTITIONS, else-x-spot, in-Created, in-CreatedBuffer, in-Ended, in-Entered, in-Handed, in-Last, in-LevelSet, in-Moved+else-l-lt-PROCESSES, in-Moved+then-l-lt-PROCESSES, in-Nothing, in-Stored+else-k-lt-PROCESSES, in-Stored+then-k-lt-PROCESSES, in-StoredBlackboard+else-k-lt-BLACKBOARDS, in-StoredBlackboard+then-k-lt-BLACKBOARDS, in-StoredEvent+else-k-lt-EVENTS, in-StoredEvent+then-k-lt-EVENTS, in-StoredSemaphore+else-k-lt-SEMAPHORES, in-StoredSemaphore+then-k-lt-SEMAPHORES, then-calling_at-lt-PROCESSES, then-changed, then-does_create, then-first-m, then-is_restart, then-k-lt-BUFFERS, then-named_at-lt-PROCESSES, then-object-ne0, then-object_at-lt-SEMAPHORES, then-place-lt-CHANNELS, then-seen-lt-PARTITIONS+else-seen-spot, then-seen-lt-PARTITIONS+then-seen-spot, then-served_at-lt-PROCESSES, then-slot-lt-PARTITIONS, then-soon-j+else-j-spot, then-soon-j+then-j-spot, then-spot-lt-PARTITIONS, then-stale, then-stale-2, then-x-lt-PARTITIONS, then-x-spot+else-spot-lt-PARTITIONS-2, then-x-spot+then-spot-lt-PARTITIONS-2}
+use Rattle.executive.proofs.Executive.run_list.Goals.{After-is_restart, After-plan_of-x, Joined-changed, Joined-first-m, Joined-is_restart, Joined-place-lt-CHANNELS, Joined-slot-lt-PARTITIONS, Joined-stale, Joined-x-lt-PARTITIONS, Joined-x-spot, Start, Then-does_change, Then-is_restart, Then-seen-lt-PARTITIONS, else-calling_at-lt-PROCESSES, else-changed, else-does_create, else-first-m, else-is_restart+else-does_change+else-put-lt-CHANNELS+else-pass-lt-CHANNELS, else-is_restart+else-does_change+else-put-lt-CHANNELS+then-pass-lt-CHANNELS+else-end-lt-PARTITIONS, else-is_restart+else-does_change+else-put-lt-CHANNELS+then-pass-lt-CHANNELS+then-end-lt-PARTITIONS+else-end-spot, else-is_restart+else-does_change+else-put-lt-CHANNELS+then-pass-lt-CHANNELS+then-end-lt-PARTITIONS+then-end-spot, else-is_restart+else-does_change+then-put-lt-CHANNELS, else-is_restart+then-does_change, else-named_at-lt-PROCESSES, else-object-ne0, else-object_at-lt-SEMAPHORES, else-place-lt-CHANNELS, else-seen-lt-PARTITIONS, else-served_at-lt-PROCESSES, else-slot-lt-PARTITIONS, else-soon-j, else-spot-lt-PARTITIONS, else-stale, else-stale-2, else-x-lt-PARTITIONS, else-x-spot, then-calling_at-lt-PROCESSES, then-changed, then-does_create, then-first-m, then-is_restart, then-named_at-lt-PROCESSES, then-object-ne0, then-object_at-lt-SEMAPHORES, then-place-lt-CHANNELS, then-seen-lt-PARTITIONS+else-seen-spot, then-seen-lt-PARTITIONS+then-seen-spot, then-served_at-lt-PROCESSES, then-slot-lt-PARTITIONS, then-soon-j+else-j-spot, then-soon-j+then-j-spot, then-spot-lt-PARTITIONS, then-stale, then-stale-2, then-x-lt-PARTITIONS, then-x-spot+else-spot-lt-PARTITIONS-2, then-x-spot+then-spot-lt-PARTITIONS-2}
 
 -- the window at the time after the event
 window : (c : Joined-first-m) → c.if-first-m.window ≡ lookup c.args.self.inner.table c.place_event-first.result.time
@@ -138,47 +138,6 @@ decided c =
       | else-slot-lt-PARTITIONS w ↦ (record { call = λ near. absurd (omega (arith, w.if-slot-lt-PARTITIONS.false, near)); none = λ _. w.d-is })
     ]
 
-pub loop-turn-init : goal.loop-turn-init
-loop-turn-init c = (omega arith, refl, mirrors_lengths (beside (goal.at.loop-turn-init c).Joined-stale).mirrors, λ _. (beside (goal.at.loop-turn-init c).Joined-stale).mirrors)
-
-pub loop-turn-smaller : goal.loop-turn-smaller
-loop-turn-smaller c = two_less c.loop-turn.turn c.loop-turn-test.true
-
--- a change made where it lies
-made : (c : Joined-change) → (c.match-change.here ≡ applied c.loop-turn.change c.loop-turn.here) × ((length c.match-change.currents ≡ process_limit) × (length c.match-change.objects ≡ process_limit)) × (c.match-change.stale ≡ false → Mirrors c.match-change.here c.match-change.currents c.match-change.objects)
-unfolding arrived_last
-made c =
-    let p = c.loop-turn.here in
-    let sz = c.loop-turn.invariant.2 in
-    let mir = c.loop-turn.invariant.3 in
-    elim c.match-change.branch [
-      | in-Nothing w ↦ ((rw (w.here-is, w.in-Nothing.is), rw (w.currents-is, w.objects-is) sz, λ z. rw (w.currents-is, w.objects-is) (mirrors_same (mir (sym w.stale-is ∙ z)) (ap processes_of w.here-is))))
-      | in-Stored+then-k-lt-PROCESSES w ↦ ((rw (w.here-is, w.in-Stored.is) (stored_at _ _ p _ w.slot-k.ensures _ _ w.if-k-lt-PROCESSES.true w.arrival_with-here.ensures w.waiting_with-here.ensures), (rw w.currents-is (set_size c.loop-turn.currents w.slot-k.result _ sz.0), rw w.objects-is (set_size c.loop-turn.objects w.slot-k.result _ sz.1)), λ z. rw (w.currents-is, w.objects-is) (mirrors_set (mir (sym w.stale-is ∙ z)) w.slot-k.result _ (ap processes_of w.here-is) refl w.object_of.ensures)))
-      | in-Stored+else-k-lt-PROCESSES w ↦ ((rw (w.here-is, w.in-Stored.is) (sym (stored_out _ _ p (slot_out process_limit w.in-Stored.id _ w.slot-k.ensures w.if-k-lt-PROCESSES.false))), rw (w.currents-is, w.objects-is) sz, λ z. rw (w.currents-is, w.objects-is) (mirrors_same (mir (sym w.stale-is ∙ z)) (ap processes_of w.here-is))))
-      | in-Created w ↦ ((rw (w.here-is, w.in-Created.is) w.create-here.ensures, rw (w.currents-is, w.objects-is) sz, λ z. absurd (true≢false (sym w.stale-is ∙ z))))
-      | in-Last w ↦ ((rw (w.here-is, w.in-Last.is, w.last_in-here.ensures), rw (w.currents-is, w.objects-is) sz, λ z. rw (w.currents-is, w.objects-is) (mirrors_same (mir (sym w.stale-is ∙ z)) (ap processes_of w.here-is))))
-      | in-StoredSemaphore+then-k-lt-SEMAPHORES w ↦ ((rw (w.here-is, w.in-StoredSemaphore.is) (semaphore_at _ _ p _ _ w.slot-k-in-StoredSemaphore.ensures w.if-k-lt-SEMAPHORES.true w.counted.ensures), rw (w.currents-is, w.objects-is) sz, λ z. rw (w.currents-is, w.objects-is) (mirrors_same (mir (sym w.stale-is ∙ z)) (ap processes_of w.here-is))))
-      | in-StoredSemaphore+else-k-lt-SEMAPHORES w ↦ ((rw (w.here-is, w.in-StoredSemaphore.is) (sym (semaphore_out _ _ p (slot_out semaphore_limit w.in-StoredSemaphore.id _ w.slot-k-in-StoredSemaphore.ensures w.if-k-lt-SEMAPHORES.false))), rw (w.currents-is, w.objects-is) sz, λ z. rw (w.currents-is, w.objects-is) (mirrors_same (mir (sym w.stale-is ∙ z)) (ap processes_of w.here-is))))
-      | in-StoredEvent+then-k-lt-EVENTS w ↦ ((rw (w.here-is, w.in-StoredEvent.is) (event_at_holds _ _ p _ _ w.slot-k-in-StoredEvent.ensures w.if-k-lt-EVENTS.true w.counted-then-k-lt-EVENTS.ensures), rw (w.currents-is, w.objects-is) sz, λ z. rw (w.currents-is, w.objects-is) (mirrors_same (mir (sym w.stale-is ∙ z)) (ap processes_of w.here-is))))
-      | in-StoredEvent+else-k-lt-EVENTS w ↦ ((rw (w.here-is, w.in-StoredEvent.is) (sym (event_out _ _ p (slot_out event_limit w.in-StoredEvent.id _ w.slot-k-in-StoredEvent.ensures w.if-k-lt-EVENTS.false))), rw (w.currents-is, w.objects-is) sz, λ z. rw (w.currents-is, w.objects-is) (mirrors_same (mir (sym w.stale-is ∙ z)) (ap processes_of w.here-is))))
-      | in-CreatedBuffer w ↦ ((rw (w.here-is, w.in-CreatedBuffer.is) w.create_buffer-here.ensures, rw (w.currents-is, w.objects-is) sz, λ z. rw (w.currents-is, w.objects-is) (mirrors_same (mir (sym w.stale-is ∙ z)) (ap processes_of (w.here-is ∙ w.create_buffer-here.ensures) ∙ buffer_keeps _ _ p))))
-      | in-Moved+then-l-lt-PROCESSES w ↦ (let a = w.in-Moved.y in
-          let mv : w.if-k-lt-BUFFERS.here ≡ stored_buffer w.in-Moved.id (moved_in a (buffer w.in-Moved.id p)) p = elim w.if-k-lt-BUFFERS.branch [ then-k-lt-BUFFERS v ↦ (rw (v.here-is, v.change-v.ensures) (moved_at_holds _ _ p a _ _ w.slot-k-in-Moved.ensures v.if-k-lt-BUFFERS.true v.counted-then-k-lt-BUFFERS.ensures)) | else-k-lt-BUFFERS v ↦ (v.here-is ∙ sym (buffer_out _ _ p (slot_out buffer_limit w.in-Moved.id _ w.slot-k-in-Moved.ensures v.if-k-lt-BUFFERS.false))) ] in
-          (rw w.in-Moved.is (w.here-is ∙ stored_at _ _ w.if-k-lt-BUFFERS.here _ w.slot-l.ensures _ _ w.if-l-lt-PROCESSES.true w.arrival_with-here-then-l-lt-PROCESSES.ensures w.waiting_with-here-then-l-lt-PROCESSES.ensures ∙ ended_at_holds a _ w.if-k-lt-BUFFERS.here w.ended_id-other.ensures _ w.slot-l.ensures _ w.if-l-lt-PROCESSES.true w.ended_as-ended.ensures ∙ ap (ended_by a) mv), (rw w.currents-is (set_size c.loop-turn.currents w.slot-l.result _ sz.0), rw w.objects-is (set_size c.loop-turn.objects w.slot-l.result _ sz.1)), λ z. let m4 : Mirrors w.if-k-lt-BUFFERS.here c.loop-turn.currents c.loop-turn.objects = mirrors_same (mir (sym w.stale-is ∙ z)) (ap processes_of mv ∙ buffer_keeps _ _ p) in rw (w.currents-is, w.objects-is) (mirrors_set m4 w.slot-l.result _ (ap processes_of w.here-is) refl w.object_of-then-l-lt-PROCESSES.ensures)))
-      | in-Moved+else-l-lt-PROCESSES w ↦ (let a = w.in-Moved.y in
-          let mv : w.if-k-lt-BUFFERS.here ≡ stored_buffer w.in-Moved.id (moved_in a (buffer w.in-Moved.id p)) p = elim w.if-k-lt-BUFFERS.branch [ then-k-lt-BUFFERS v ↦ (rw (v.here-is, v.change-v.ensures) (moved_at_holds _ _ p a _ _ w.slot-k-in-Moved.ensures v.if-k-lt-BUFFERS.true v.counted-then-k-lt-BUFFERS.ensures)) | else-k-lt-BUFFERS v ↦ (v.here-is ∙ sym (buffer_out _ _ p (slot_out buffer_limit w.in-Moved.id _ w.slot-k-in-Moved.ensures v.if-k-lt-BUFFERS.false))) ] in
-          (rw w.in-Moved.is (w.here-is ∙ none_ended a _ w.if-k-lt-BUFFERS.here w.ended_id-other.ensures _ w.slot-l.ensures w.if-l-lt-PROCESSES.false ∙ ap (ended_by a) mv), rw (w.currents-is, w.objects-is) sz, λ z. rw (w.currents-is, w.objects-is) (mirrors_same (mir (sym w.stale-is ∙ z)) (ap processes_of (w.here-is ∙ mv) ∙ buffer_keeps _ _ p))))
-      | in-StoredBlackboard+then-k-lt-BLACKBOARDS w ↦ ((rw (w.here-is, w.in-StoredBlackboard.is) (blackboard_at _ _ p _ _ w.slot-k-in-StoredBlackboard.ensures w.if-k-lt-BLACKBOARDS.true w.counted-then-k-lt-BLACKBOARDS.ensures), rw (w.currents-is, w.objects-is) sz, λ z. rw (w.currents-is, w.objects-is) (mirrors_same (mir (sym w.stale-is ∙ z)) (ap processes_of w.here-is))))
-      | in-StoredBlackboard+else-k-lt-BLACKBOARDS w ↦ ((rw (w.here-is, w.in-StoredBlackboard.is) (sym (blackboard_out _ _ p (slot_out blackboard_limit w.in-StoredBlackboard.id _ w.slot-k-in-StoredBlackboard.ensures w.if-k-lt-BLACKBOARDS.false))), rw (w.currents-is, w.objects-is) sz, λ z. rw (w.currents-is, w.objects-is) (mirrors_same (mir (sym w.stale-is ∙ z)) (ap processes_of w.here-is))))
-      | in-Ended w ↦ ((rw (w.here-is, w.in-Ended.is) w.end_queue-here.ensures, rw (w.currents-is, w.objects-is) sz, λ z. absurd (true≢false (sym w.stale-is ∙ z))))
-      | in-Handed w ↦ ((rw (w.here-is, w.in-Handed.is) w.end_queue-here-in-Handed.ensures, rw (w.currents-is, w.objects-is) sz, λ z. absurd (true≢false (sym w.stale-is ∙ z))))
-      | in-LevelSet w ↦ ((rw (w.here-is, w.in-LevelSet.is), rw (w.currents-is, w.objects-is) sz, λ z. rw (w.currents-is, w.objects-is) (mirrors_same (mir (sym w.stale-is ∙ z)) (ap processes_of w.here-is))))
-      | in-Entered w ↦ ((rw (w.here-is, w.in-Entered.is) w.enter_normal-here.ensures, rw (w.currents-is, w.objects-is) sz, λ z. absurd (true≢false (sym w.stale-is ∙ z))))
-    ]
-
-pub loop-turn-preserved : goal.loop-turn-preserved
-loop-turn-preserved c = (two_more c.loop-turn.turn c.loop-turn-test.true, left_more c.loop-turn.turn c.loop-turn.change c.second_change-second.result c.loop-turn.here c.match-change.here _ c.loop-turn-test.true (made (goal.at.loop-turn-preserved c).Joined-change).0 c.loop-turn.invariant.1, (made (goal.at.loop-turn-preserved c).Joined-change).1, (made (goal.at.loop-turn-preserved c).Joined-change).2)
-
 -- all that is known before something is done
 ready : (c : After-is_restart) → Ready (planned c.before.before.before.before.before.before.before.before.before.before) c.if-x-spot.spot c.if-x-spot.here c.if-x-spot.m c.if-stale.currents c.if-stale.objects c.if-stale.run c.loop-j.soon c.if-slot-lt-PARTITIONS.d c.reply_of-reply.result
 ready c =
@@ -189,19 +148,19 @@ ready c =
 did_change : (c : Joined-is_restart) → changes c.if-slot-lt-PARTITIONS.d ≡ true → Done (settled c.loop-i.spot c.loop-i.here c.loop-i.m) c.plan_of-x.result c.reply_of-reply.result c.if-x-spot.spot c.if-is_restart.m c.if-is_restart.here c.if-is_restart.currents c.if-is_restart.objects c.if-stale.run c.if-is_restart.soon c.if-is_restart.stale c.if-is_restart.changed
 did_change c = λ h.
     let g = ready c.before in
-    elim c.if-is_restart.branch [ then-is_restart w ↦ (done_as_holds w.m-is w.here-is w.currents-is w.objects-is w.soon-is w.stale-is w.changed-is (done_restarted g (sym c.is_restart.ensures ∙ w.if-is_restart.true) w.mode_of.ensures w.restart-m.result w.restart-m.ensures _ refl)) | else-is_restart+then-does_change+else-loop-turn-test w ↦ (done_as_holds w.m-is w.here-is w.currents-is w.objects-is w.soon-is w.stale-is w.changed-is (done_changed g (sym w.does_change.ensures ∙ (search (rules, w.if-does_change.true))) (sym c.is_restart.ensures ∙ w.if-is_restart.false) w.loop-turn.here (rw (← w.first_change-change.ensures, ← w.second_change-second.ensures) (left_done w.loop-turn.turn w.loop-turn.change w.second_change-second.result w.loop-turn.here _ w.loop-turn-test.false w.loop-turn.invariant.1)) w.loop-turn.invariant.2 w.loop-turn.invariant.3)) | else-is_restart+else-does_change+then-put-lt-CHANNELS w ↦ (absurd (true≢false (sym h ∙ sym w.does_change.ensures ∙ (search (rules, w.if-does_change.false))))) | else-is_restart+else-does_change+else-put-lt-CHANNELS+then-pass-lt-CHANNELS+then-end-lt-PARTITIONS+then-end-spot w ↦ (absurd (true≢false (sym h ∙ sym w.does_change.ensures ∙ (search (rules, w.if-does_change.false))))) | else-is_restart+else-does_change+else-put-lt-CHANNELS+then-pass-lt-CHANNELS+then-end-lt-PARTITIONS+else-end-spot w ↦ (absurd (true≢false (sym h ∙ sym w.does_change.ensures ∙ (search (rules, w.if-does_change.false))))) | else-is_restart+else-does_change+else-put-lt-CHANNELS+then-pass-lt-CHANNELS+else-end-lt-PARTITIONS w ↦ (absurd (true≢false (sym h ∙ sym w.does_change.ensures ∙ (search (rules, w.if-does_change.false))))) | else-is_restart+else-does_change+else-put-lt-CHANNELS+else-pass-lt-CHANNELS w ↦ (absurd (true≢false (sym h ∙ sym w.does_change.ensures ∙ (search (rules, w.if-does_change.false))))) ]
+    elim c.if-is_restart.branch [ then-is_restart w ↦ (done_as_holds w.m-is w.here-is w.currents-is w.objects-is w.soon-is w.stale-is w.changed-is (done_restarted g (sym c.is_restart.ensures ∙ w.if-is_restart.true) w.mode_of.ensures w.restart-m.result w.restart-m.ensures _ refl)) | else-is_restart+then-does_change w ↦ (done_as_holds w.m-is w.here-is w.currents-is w.objects-is w.soon-is w.stale-is w.changed-is (done_changed g (sym w.does_change.ensures ∙ (search (rules, w.if-does_change.true))) (sym c.is_restart.ensures ∙ w.if-is_restart.false) w.make_changes-stale.new.here (rw (← w.first_change-first.ensures, ← w.second_change-second.ensures) w.make_changes-stale.ensures.made) (w.make_changes-stale.array_long, w.make_changes-stale.array_long2) (λ z. w.make_changes-stale.ensures.beside z (beside c.before.before.before.before.before.before).mirrors))) | else-is_restart+else-does_change+then-put-lt-CHANNELS w ↦ (absurd (true≢false (sym h ∙ sym w.does_change.ensures ∙ (search (rules, w.if-does_change.false))))) | else-is_restart+else-does_change+else-put-lt-CHANNELS+then-pass-lt-CHANNELS+then-end-lt-PARTITIONS+then-end-spot w ↦ (absurd (true≢false (sym h ∙ sym w.does_change.ensures ∙ (search (rules, w.if-does_change.false))))) | else-is_restart+else-does_change+else-put-lt-CHANNELS+then-pass-lt-CHANNELS+then-end-lt-PARTITIONS+else-end-spot w ↦ (absurd (true≢false (sym h ∙ sym w.does_change.ensures ∙ (search (rules, w.if-does_change.false))))) | else-is_restart+else-does_change+else-put-lt-CHANNELS+then-pass-lt-CHANNELS+else-end-lt-PARTITIONS w ↦ (absurd (true≢false (sym h ∙ sym w.does_change.ensures ∙ (search (rules, w.if-does_change.false))))) | else-is_restart+else-does_change+else-put-lt-CHANNELS+else-pass-lt-CHANNELS w ↦ (absurd (true≢false (sym h ∙ sym w.does_change.ensures ∙ (search (rules, w.if-does_change.false))))) ]
 
 -- a transfer
 did_pass : (c : Joined-is_restart) → changes c.if-slot-lt-PARTITIONS.d ≡ false → transfer_at c.if-slot-lt-PARTITIONS.d < channel_limit → Done (settled c.loop-i.spot c.loop-i.here c.loop-i.m) c.plan_of-x.result c.reply_of-reply.result c.if-x-spot.spot c.if-is_restart.m c.if-is_restart.here c.if-is_restart.currents c.if-is_restart.objects c.if-stale.run c.if-is_restart.soon c.if-is_restart.stale c.if-is_restart.changed
 did_pass c = λ h n.
     let g = ready c.before in
-    elim c.if-is_restart.branch [ then-is_restart w ↦ (absurd (true≢false (sym (restart_changes c.if-slot-lt-PARTITIONS.d (sym c.is_restart.ensures ∙ w.if-is_restart.true)) ∙ h))) | else-is_restart+then-does_change+else-loop-turn-test w ↦ (absurd (true≢false (sym (sym w.does_change.ensures ∙ (search (rules, w.if-does_change.true))) ∙ h))) | else-is_restart+else-does_change+then-put-lt-CHANNELS w ↦ (absurd (one_of c.if-slot-lt-PARTITIONS.d c.message_at-put.ensures w.if-put-lt-CHANNELS.true n)) | else-is_restart+else-does_change+else-put-lt-CHANNELS+then-pass-lt-CHANNELS+then-end-lt-PARTITIONS+then-end-spot w ↦ (done_as_holds refl w.here-is w.currents-is w.objects-is w.soon-is w.stale-is w.changed-is (done_here g _ c.transfer_at-pass.ensures w.if-pass-lt-CHANNELS.true w.transfer_of-transfer.ensures _ w.change.ensures _ w.ended_slot-end.ensures w.if-end-lt-PARTITIONS.true w.if-end-spot.true w.after_transfer-here.result w.after_transfer-here.ensures _ w.m-is)) | else-is_restart+else-does_change+else-put-lt-CHANNELS+then-pass-lt-CHANNELS+then-end-lt-PARTITIONS+else-end-spot w ↦ (done_as_holds refl w.here-is w.currents-is w.objects-is w.soon-is w.stale-is w.changed-is (done_there g _ c.transfer_at-pass.ensures w.if-pass-lt-CHANNELS.true w.transfer_of-transfer.ensures _ w.change.ensures _ w.ended_slot-end.ensures w.if-end-lt-PARTITIONS.true w.if-end-spot.false w.after_transfer-q.result w.after_transfer-q.ensures _ w.m-is)) | else-is_restart+else-does_change+else-put-lt-CHANNELS+then-pass-lt-CHANNELS+else-end-lt-PARTITIONS w ↦ (done_as_holds refl w.here-is w.currents-is w.objects-is w.soon-is w.stale-is w.changed-is (done_moved g _ c.transfer_at-pass.ensures w.if-pass-lt-CHANNELS.true w.transfer_of-transfer.ensures _ w.change.ensures _ w.ended_slot-end.ensures w.if-end-lt-PARTITIONS.false _ w.m-is)) | else-is_restart+else-does_change+else-put-lt-CHANNELS+else-pass-lt-CHANNELS w ↦ (absurd (not_far c.transfer_at-pass.ensures w.if-pass-lt-CHANNELS.false n)) ]
+    elim c.if-is_restart.branch [ then-is_restart w ↦ (absurd (true≢false (sym (restart_changes c.if-slot-lt-PARTITIONS.d (sym c.is_restart.ensures ∙ w.if-is_restart.true)) ∙ h))) | else-is_restart+then-does_change w ↦ (absurd (true≢false (sym (sym w.does_change.ensures ∙ (search (rules, w.if-does_change.true))) ∙ h))) | else-is_restart+else-does_change+then-put-lt-CHANNELS w ↦ (absurd (one_of c.if-slot-lt-PARTITIONS.d c.message_at-put.ensures w.if-put-lt-CHANNELS.true n)) | else-is_restart+else-does_change+else-put-lt-CHANNELS+then-pass-lt-CHANNELS+then-end-lt-PARTITIONS+then-end-spot w ↦ (done_as_holds refl w.here-is w.currents-is w.objects-is w.soon-is w.stale-is w.changed-is (done_here g _ c.transfer_at-pass.ensures w.if-pass-lt-CHANNELS.true w.transfer_of-transfer.ensures _ w.change.ensures _ w.ended_slot-end.ensures w.if-end-lt-PARTITIONS.true w.if-end-spot.true w.after_transfer-here.result w.after_transfer-here.ensures _ w.m-is)) | else-is_restart+else-does_change+else-put-lt-CHANNELS+then-pass-lt-CHANNELS+then-end-lt-PARTITIONS+else-end-spot w ↦ (done_as_holds refl w.here-is w.currents-is w.objects-is w.soon-is w.stale-is w.changed-is (done_there g _ c.transfer_at-pass.ensures w.if-pass-lt-CHANNELS.true w.transfer_of-transfer.ensures _ w.change.ensures _ w.ended_slot-end.ensures w.if-end-lt-PARTITIONS.true w.if-end-spot.false w.after_transfer-q.result w.after_transfer-q.ensures _ w.m-is)) | else-is_restart+else-does_change+else-put-lt-CHANNELS+then-pass-lt-CHANNELS+else-end-lt-PARTITIONS w ↦ (done_as_holds refl w.here-is w.currents-is w.objects-is w.soon-is w.stale-is w.changed-is (done_moved g _ c.transfer_at-pass.ensures w.if-pass-lt-CHANNELS.true w.transfer_of-transfer.ensures _ w.change.ensures _ w.ended_slot-end.ensures w.if-end-lt-PARTITIONS.false _ w.m-is)) | else-is_restart+else-does_change+else-put-lt-CHANNELS+else-pass-lt-CHANNELS w ↦ (absurd (not_far c.transfer_at-pass.ensures w.if-pass-lt-CHANNELS.false n)) ]
 
 -- a message on a channel, or nothing
 did_else : (c : Joined-is_restart) → changes c.if-slot-lt-PARTITIONS.d ≡ false → channel_limit ≤ transfer_at c.if-slot-lt-PARTITIONS.d → Done (settled c.loop-i.spot c.loop-i.here c.loop-i.m) c.plan_of-x.result c.reply_of-reply.result c.if-x-spot.spot c.if-is_restart.m c.if-is_restart.here c.if-is_restart.currents c.if-is_restart.objects c.if-stale.run c.if-is_restart.soon c.if-is_restart.stale c.if-is_restart.changed
 did_else c = λ h n.
     let g = ready c.before in
-    elim c.if-is_restart.branch [ then-is_restart w ↦ (absurd (true≢false (sym (restart_changes c.if-slot-lt-PARTITIONS.d (sym c.is_restart.ensures ∙ w.if-is_restart.true)) ∙ h))) | else-is_restart+then-does_change+else-loop-turn-test w ↦ (absurd (true≢false (sym (sym w.does_change.ensures ∙ (search (rules, w.if-does_change.true))) ∙ h))) | else-is_restart+else-does_change+then-put-lt-CHANNELS w ↦ (done_as_holds refl w.here-is w.currents-is w.objects-is w.soon-is w.stale-is w.changed-is (done_written g _ c.message_at-put.ensures w.if-put-lt-CHANNELS.true w.message_of-message.ensures _ w.m-is)) | else-is_restart+else-does_change+else-put-lt-CHANNELS+then-pass-lt-CHANNELS+then-end-lt-PARTITIONS+then-end-spot w ↦ (absurd (not_near c.transfer_at-pass.ensures w.if-pass-lt-CHANNELS.true n)) | else-is_restart+else-does_change+else-put-lt-CHANNELS+then-pass-lt-CHANNELS+then-end-lt-PARTITIONS+else-end-spot w ↦ (absurd (not_near c.transfer_at-pass.ensures w.if-pass-lt-CHANNELS.true n)) | else-is_restart+else-does_change+else-put-lt-CHANNELS+then-pass-lt-CHANNELS+else-end-lt-PARTITIONS w ↦ (absurd (not_near c.transfer_at-pass.ensures w.if-pass-lt-CHANNELS.true n)) | else-is_restart+else-does_change+else-put-lt-CHANNELS+else-pass-lt-CHANNELS w ↦ (done_as_holds w.m-is w.here-is w.currents-is w.objects-is w.soon-is w.stale-is w.changed-is (done_same g (sym w.does_change.ensures ∙ (search (rules, w.if-does_change.false))) _ _ c.message_at-put.ensures w.if-put-lt-CHANNELS.false c.transfer_at-pass.ensures w.if-pass-lt-CHANNELS.false)) ]
+    elim c.if-is_restart.branch [ then-is_restart w ↦ (absurd (true≢false (sym (restart_changes c.if-slot-lt-PARTITIONS.d (sym c.is_restart.ensures ∙ w.if-is_restart.true)) ∙ h))) | else-is_restart+then-does_change w ↦ (absurd (true≢false (sym (sym w.does_change.ensures ∙ (search (rules, w.if-does_change.true))) ∙ h))) | else-is_restart+else-does_change+then-put-lt-CHANNELS w ↦ (done_as_holds refl w.here-is w.currents-is w.objects-is w.soon-is w.stale-is w.changed-is (done_written g _ c.message_at-put.ensures w.if-put-lt-CHANNELS.true w.message_of-message.ensures _ w.m-is)) | else-is_restart+else-does_change+else-put-lt-CHANNELS+then-pass-lt-CHANNELS+then-end-lt-PARTITIONS+then-end-spot w ↦ (absurd (not_near c.transfer_at-pass.ensures w.if-pass-lt-CHANNELS.true n)) | else-is_restart+else-does_change+else-put-lt-CHANNELS+then-pass-lt-CHANNELS+then-end-lt-PARTITIONS+else-end-spot w ↦ (absurd (not_near c.transfer_at-pass.ensures w.if-pass-lt-CHANNELS.true n)) | else-is_restart+else-does_change+else-put-lt-CHANNELS+then-pass-lt-CHANNELS+else-end-lt-PARTITIONS w ↦ (absurd (not_near c.transfer_at-pass.ensures w.if-pass-lt-CHANNELS.true n)) | else-is_restart+else-does_change+else-put-lt-CHANNELS+else-pass-lt-CHANNELS w ↦ (done_as_holds w.m-is w.here-is w.currents-is w.objects-is w.soon-is w.stale-is w.changed-is (done_same g (sym w.does_change.ensures ∙ (search (rules, w.if-does_change.false))) _ _ c.message_at-put.ensures w.if-put-lt-CHANNELS.false c.transfer_at-pass.ensures w.if-pass-lt-CHANNELS.false)) ]
 
 -- each way through the event
 did : (c : Joined-is_restart) → Done (settled c.loop-i.spot c.loop-i.here c.loop-i.m) c.plan_of-x.result c.reply_of-reply.result c.if-x-spot.spot c.if-is_restart.m c.if-is_restart.here c.if-is_restart.currents c.if-is_restart.objects c.if-stale.run c.if-is_restart.soon c.if-is_restart.stale c.if-is_restart.changed
@@ -290,30 +249,6 @@ offset_bounds-m-slot c = search (rules, restart_in (goal.at.offset_bounds-m-slot
 
 pub bounds-m-slot : goal.bounds-m-slot
 bounds-m-slot c = search (rules, restart_in (goal.at.bounds-m-slot c).Then-is_restart)
-
-pub offset_bounds-here-k : goal.offset_bounds-here-k
-offset_bounds-here-k c = omega (arith, c.if-k-lt-PROCESSES.true)
-
-pub offset_bounds-here-k-then-k-lt-SEMAPHORES : goal.offset_bounds-here-k-then-k-lt-SEMAPHORES
-offset_bounds-here-k-then-k-lt-SEMAPHORES c = omega (arith, c.if-k-lt-SEMAPHORES.true)
-
-pub offset_bounds-here-k-then-k-lt-EVENTS : goal.offset_bounds-here-k-then-k-lt-EVENTS
-offset_bounds-here-k-then-k-lt-EVENTS c = omega (arith, c.if-k-lt-EVENTS.true)
-
-pub offset_bounds-here-k-then-k-lt-BUFFERS : goal.offset_bounds-here-k-then-k-lt-BUFFERS
-offset_bounds-here-k-then-k-lt-BUFFERS c = omega (arith, c.if-k-lt-BUFFERS.true)
-
-pub offset_bounds-here-k-then-k-lt-BUFFERS-2 : goal.offset_bounds-here-k-then-k-lt-BUFFERS-2
-offset_bounds-here-k-then-k-lt-BUFFERS-2 c = search (rules, c.if-k-lt-BUFFERS.true)
-
-pub offset_bounds-here-l : goal.offset_bounds-here-l
-offset_bounds-here-l c = omega (arith, c.if-l-lt-PROCESSES.true)
-
-pub offset_bounds-here-k-then-k-lt-BLACKBOARDS : goal.offset_bounds-here-k-then-k-lt-BLACKBOARDS
-offset_bounds-here-k-then-k-lt-BLACKBOARDS c = omega (arith, c.if-k-lt-BLACKBOARDS.true)
-
-pub overflow_add-turn : goal.overflow_add-turn
-overflow_add-turn c = record { fits = two_fits c.loop-turn.turn c.loop-turn-test.true }
 
 pub offset_bounds-soon-slot : goal.offset_bounds-soon-slot
 offset_bounds-soon-slot c = search (rules, change_in (goal.at.offset_bounds-soon-slot c).Then-does_change)
@@ -434,57 +369,6 @@ offset_bounds-here-served_at c = search rules
 
 pub bounds-here-served_at : goal.bounds-here-served_at
 bounds-here-served_at c = search rules
-
-pub bounds-here-k : goal.bounds-here-k
-bounds-here-k c = search rules
-
-pub offset_bounds-here-k-then-k-lt-PROCESSES : goal.offset_bounds-here-k-then-k-lt-PROCESSES
-offset_bounds-here-k-then-k-lt-PROCESSES c = search rules
-
-pub bounds-here-k-then-k-lt-PROCESSES : goal.bounds-here-k-then-k-lt-PROCESSES
-bounds-here-k-then-k-lt-PROCESSES c = search rules
-
-pub bounds-currents-k : goal.bounds-currents-k
-bounds-currents-k c = search rules
-
-pub offset_bounds-objects-k : goal.offset_bounds-objects-k
-offset_bounds-objects-k c = search rules
-
-pub bounds-objects-k : goal.bounds-objects-k
-bounds-objects-k c = search rules
-
-pub bounds-here-k-then-k-lt-SEMAPHORES : goal.bounds-here-k-then-k-lt-SEMAPHORES
-bounds-here-k-then-k-lt-SEMAPHORES c = search rules
-
-pub bounds-here-k-then-k-lt-EVENTS : goal.bounds-here-k-then-k-lt-EVENTS
-bounds-here-k-then-k-lt-EVENTS c = search rules
-
-pub bounds-here-k-then-k-lt-BUFFERS : goal.bounds-here-k-then-k-lt-BUFFERS
-bounds-here-k-then-k-lt-BUFFERS c = search rules
-
-pub bounds-here-k-then-k-lt-BUFFERS-2 : goal.bounds-here-k-then-k-lt-BUFFERS-2
-bounds-here-k-then-k-lt-BUFFERS-2 c = search rules
-
-pub bounds-here-l : goal.bounds-here-l
-bounds-here-l c = search rules
-
-pub offset_bounds-here-l-then-l-lt-PROCESSES : goal.offset_bounds-here-l-then-l-lt-PROCESSES
-offset_bounds-here-l-then-l-lt-PROCESSES c = search rules
-
-pub bounds-here-l-then-l-lt-PROCESSES : goal.bounds-here-l-then-l-lt-PROCESSES
-bounds-here-l-then-l-lt-PROCESSES c = search rules
-
-pub bounds-currents-l : goal.bounds-currents-l
-bounds-currents-l c = search rules
-
-pub offset_bounds-objects-l : goal.offset_bounds-objects-l
-offset_bounds-objects-l c = search rules
-
-pub bounds-objects-l : goal.bounds-objects-l
-bounds-objects-l c = search rules
-
-pub bounds-here-k-then-k-lt-BLACKBOARDS : goal.bounds-here-k-then-k-lt-BLACKBOARDS
-bounds-here-k-then-k-lt-BLACKBOARDS c = search rules
 
 pub bounds-m-put : goal.bounds-m-put
 bounds-m-put c = search rules

@@ -16,11 +16,5 @@ use Rattle.executive.proofs.Executive.run_list.Given as goal
 abbrev pub invariant-loop-j : goal.invariant-loop-j
 invariant-loop-j l = (l.j ≤ l.x.ticks) × (l.x.ticks ≤ partition_limit) × Ticking (settled l.spot l.initial.here l.initial.m) l.spot l.j l.m l.here l.currents l.objects l.run l.soon l.stale
 
-abbrev pub invariant-loop-turn : goal.invariant-loop-turn
-invariant-loop-turn l = (l.turn ≤ 2) × (left l.turn l.change l.second l.here ≡ applied l.second (applied l.initial.change l.initial.here)) × ((length l.currents ≡ process_limit) × (length l.objects ≡ process_limit)) × (l.stale ≡ false → Mirrors l.here l.currents l.objects)
-
-abbrev pub decreases-loop-turn : goal.decreases-loop-turn
-decreases-loop-turn l = 2 - l.turn
-
 abbrev pub invariant-loop-i : goal.invariant-loop-i
 invariant-loop-i l = Running l.initial.m l.initial.list l.n l.i (settled l.spot l.here l.m) l.list l.last × (length l.table.channels ≡ channel_limit) × (l.window ≡ lookup l.table l.m.t) × Beside l.here l.currents l.objects l.run × Early (settled l.spot l.here l.m) l.soon × (length l.m.partitions ≡ partition_limit)

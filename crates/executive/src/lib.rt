@@ -1,7 +1,7 @@
 // The executive: a module that comes only from table reading and from events.
 #![tactic(auto)]
 
-ghost use Rattle.std.specs.Prelude.{◌≡◌, ◌+◌, ◌-◌, ◌≤◌, length, false};
+ghost use Rattle.std.specs.Prelude.{◌≡◌, ◌+◌, ◌-◌, ◌≤◌, length, false, List, ℕ};
 ghost use Rattle.std.proofs.lemmas.List.Edits.{sets};
 ghost use Rattle.machine.specs.Limits.{process_limit};
 ghost use Rattle.machine.specs.Partition.{nothing_created, applied, stored};
@@ -11,13 +11,17 @@ ghost use Rattle.machine.specs.Table.{read_table};
 ghost use Rattle.machine.specs.Windows.{waiting_of};
 ghost use Rattle.events.specs.Plans.{no_answer};
 ghost use Rattle.resident.specs.Mirrors.{Mirrors};
+ghost use Rattle.machine.specs.declared.Context.{Context as ContextT};
+ghost use Rattle.machine.specs.Fields.{number_of};
+ghost use Rattle.decisions.specs.Views.{Shows};
+ghost use Rattle.services.specs.Looked.{taken_for, waiter_for};
 ghost use Rattle.executive.specs.Executive.{turned, opened};
 ghost use Rattle.executive.specs.Lists.{six, event_at, after_list, answered_list, last_answer, events_in};
 
 use channels::Messages;
 use decisions::View;
 use machine::{
-    Answer, Change, Context, Decision, Event, Module, Partition, Process, Time, Waiting,
+    Answer, Change, Context, Decision, Event, Field, Module, Partition, Process, Time, Waiting,
 };
 
 #[derive(Clone, Copy)]
@@ -223,6 +227,84 @@ fn make_changes(
     make_change(here, currents, objects, second)
 }
 
+// What a call sees of the partition that lies in place, by its number and its field a.
+fn view_of(
+    here: &Partition,
+    objects: &[u16; Module::PROCESSES],
+    run: u8,
+    call: u32,
+    a: Field,
+) -> View
+    ensures shows { (c : ContextT) → c.caller ≡ run → Shows result c (number_of a) here.now }
+    ensures taken { result.taken ≡ taken_for call a here.now }
+    ensures waiter { (currents : List ℕ) → Mirrors here.now currents objects.now → result.waiter ≡ waiter_for call (number_of a) here.now }
+{
+    let id = fields::number_of(a);
+    let mut named = Process::blank();
+    let named_at = partition::slot(id, Module::PROCESSES);
+    if named_at < Module::PROCESSES {
+        named = here.processes[named_at];
+    }
+    let mut calling = Process::blank();
+    let calling_at = partition::slot(run as u32, Module::PROCESSES);
+    if calling_at < Module::PROCESSES {
+        calling = here.processes[calling_at];
+    }
+    let mut semaphore = objects::no_semaphore();
+    let mut event = objects::no_event();
+    let mut limit: u8 = 0;
+    let mut len: u8 = 0;
+    let mut first_held: u32 = 0;
+    let mut blackboard = blackboards::empty_blackboard(0);
+    let object_at = partition::slot(id, Module::SEMAPHORES);
+    if object_at < Module::SEMAPHORES {
+        semaphore = here.semaphores[object_at];
+        event = here.events[object_at];
+        let buffer = here.buffers[object_at];
+        let queue = buffer.queue;
+        limit = buffer.limit;
+        len = queue.len;
+        first_held = messages::first_of(queue);
+        blackboard = here.blackboards[object_at];
+    }
+    let mut waiter: u8 = 0;
+    let object = services::object_for(call, id);
+    if object != 0 {
+        let waiting = here.waiting;
+        waiter = resident::first_on(waiting, objects, object);
+    }
+    let mut served = Process::blank();
+    let served_at = partition::slot(waiter as u32, Module::PROCESSES);
+    if served_at < Module::PROCESSES {
+        served = here.processes[served_at];
+    }
+    let mut taken = false;
+    if services::does_create(call) {
+        taken = services::is_taken(*here, call, a);
+    }
+    View {
+        mode: here.mode,
+        level: here.level,
+        holder: here.holder,
+        count: here.process_count,
+        semaphores: here.semaphore_count,
+        events: here.event_count,
+        buffers: here.buffer_count,
+        blackboards: here.blackboard_count,
+        taken,
+        named,
+        calling,
+        semaphore,
+        event,
+        limit,
+        len,
+        first: first_held,
+        blackboard,
+        waiter,
+        served,
+    }
+}
+
 impl Executive {
     // Reads a table at the front of an input.
     pub fn open(input: &[u8]) -> Opening
@@ -325,70 +407,7 @@ impl Executive {
                     caller: run,
                 };
                 let port = channels::port_at(table.channel_count, channel, x.own, a, held, traffic);
-                let id = fields::number_of(a);
-                let mut named = Process::blank();
-                let named_at = partition::slot(id, Module::PROCESSES);
-                if named_at < Module::PROCESSES {
-                    named = here.processes[named_at];
-                }
-                let mut calling = Process::blank();
-                let calling_at = partition::slot(run as u32, Module::PROCESSES);
-                if calling_at < Module::PROCESSES {
-                    calling = here.processes[calling_at];
-                }
-                let mut semaphore = objects::no_semaphore();
-                let mut event = objects::no_event();
-                let mut limit: u8 = 0;
-                let mut len: u8 = 0;
-                let mut first_held: u32 = 0;
-                let mut blackboard = blackboards::empty_blackboard(0);
-                let object_at = partition::slot(id, Module::SEMAPHORES);
-                if object_at < Module::SEMAPHORES {
-                    semaphore = here.semaphores[object_at];
-                    event = here.events[object_at];
-                    let buffer = here.buffers[object_at];
-                    let queue = buffer.queue;
-                    limit = buffer.limit;
-                    len = queue.len;
-                    first_held = messages::first_of(queue);
-                    blackboard = here.blackboards[object_at];
-                }
-                let mut waiter: u8 = 0;
-                let object = services::object_for(x.call, id);
-                if object != 0 {
-                    let waiting = here.waiting;
-                    waiter = resident::first_on(waiting, &objects, object);
-                }
-                let mut served = Process::blank();
-                let served_at = partition::slot(waiter as u32, Module::PROCESSES);
-                if served_at < Module::PROCESSES {
-                    served = here.processes[served_at];
-                }
-                let mut taken = false;
-                if services::does_create(x.call) {
-                    taken = services::is_taken(here, x.call, a);
-                }
-                let view = View {
-                    mode: here.mode,
-                    level: here.level,
-                    holder: here.holder,
-                    count: here.process_count,
-                    semaphores: here.semaphore_count,
-                    events: here.event_count,
-                    buffers: here.buffer_count,
-                    blackboards: here.blackboard_count,
-                    taken,
-                    named,
-                    calling,
-                    semaphore,
-                    event,
-                    limit,
-                    len,
-                    first: first_held,
-                    blackboard,
-                    waiter,
-                    served,
-                };
+                let view = view_of(&here, &objects, run, x.call, a);
                 d = services::call(view, context, port, x.call, request);
             }
             let reply = decisions::reply_of(d);

@@ -18,11 +18,7 @@ use machine::{Buffer, Change, Context, Decision, Field, Module, Partition, Wait}
 pub fn buffer_at(p: Partition, k: u32) -> Buffer
     ensures { result ≡ buffer k p }
 {
-    let i = partition::slot(k, Module::BUFFERS);
-    if Module::BUFFERS <= i {
-        return Buffer::blank();
-    }
-    p.buffers[i]
+    partition::by_id(&p.buffers, k, Buffer::blank())
 }
 
 pub fn is_buffer_named(p: Partition, name: Field) -> bool

@@ -21,7 +21,8 @@ ghost use Rattle.executive.specs.Lists.{six, event_at, after_list, answered_list
 use channels::Messages;
 use decisions::View;
 use machine::{
-    Answer, Change, Context, Decision, Event, Field, Module, Partition, Process, Time, Waiting,
+    Answer, Buffer, Change, Context, Decision, Event, Field, Module, Partition, Process, Time,
+    Waiting,
 };
 
 #[derive(Clone, Copy)]
@@ -240,48 +241,13 @@ fn view_of(
     ensures waiter { (currents : List ℕ) → Mirrors here.now currents objects.now → result.waiter ≡ waiter_for call (number_of a) here.now }
 {
     let id = fields::number_of(a);
-    let mut named = Process::blank();
-    let named_at = partition::slot(id, Module::PROCESSES);
-    if named_at < Module::PROCESSES {
-        named = here.processes[named_at];
-    }
-    let mut calling = Process::blank();
-    let calling_at = partition::slot(run as u32, Module::PROCESSES);
-    if calling_at < Module::PROCESSES {
-        calling = here.processes[calling_at];
-    }
-    let mut semaphore = objects::no_semaphore();
-    let mut event = objects::no_event();
-    let mut limit: u8 = 0;
-    let mut len: u8 = 0;
-    let mut first_held: u32 = 0;
-    let mut blackboard = blackboards::empty_blackboard(0);
-    let object_at = partition::slot(id, Module::SEMAPHORES);
-    if object_at < Module::SEMAPHORES {
-        semaphore = here.semaphores[object_at];
-        event = here.events[object_at];
-        let buffer = here.buffers[object_at];
-        let queue = buffer.queue;
-        limit = buffer.limit;
-        len = queue.len;
-        first_held = messages::first_of(queue);
-        blackboard = here.blackboards[object_at];
-    }
-    let mut waiter: u8 = 0;
     let object = services::object_for(call, id);
-    if object != 0 {
-        let waiting = here.waiting;
-        waiter = resident::first_on(waiting, objects, object);
-    }
-    let mut served = Process::blank();
-    let served_at = partition::slot(waiter as u32, Module::PROCESSES);
-    if served_at < Module::PROCESSES {
-        served = here.processes[served_at];
-    }
-    let mut taken = false;
-    if services::does_create(call) {
-        taken = services::is_taken(*here, call, a);
-    }
+    let waiter = if object == 0 {
+        0
+    } else {
+        resident::first_on(here.waiting, objects, object)
+    };
+    let buffer = partition::by_id(&here.buffers, id, Buffer::blank());
     View {
         mode: here.mode,
         level: here.level,
@@ -291,17 +257,17 @@ fn view_of(
         events: here.event_count,
         buffers: here.buffer_count,
         blackboards: here.blackboard_count,
-        taken,
-        named,
-        calling,
-        semaphore,
-        event,
-        limit,
-        len,
-        first: first_held,
-        blackboard,
+        taken: services::does_create(call) && services::is_taken(*here, call, a),
+        named: partition::by_id(&here.processes, id, Process::blank()),
+        calling: partition::by_id(&here.processes, run as u32, Process::blank()),
+        semaphore: partition::by_id(&here.semaphores, id, objects::no_semaphore()),
+        event: partition::by_id(&here.events, id, objects::no_event()),
+        limit: buffer.limit,
+        len: buffer.queue.len,
+        first: messages::first_of(buffer.queue),
+        blackboard: partition::by_id(&here.blackboards, id, blackboards::empty_blackboard(0)),
         waiter,
-        served,
+        served: partition::by_id(&here.processes, waiter as u32, Process::blank()),
     }
 }
 

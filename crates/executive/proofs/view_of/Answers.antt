@@ -1,25 +1,14 @@
-use Rattle.std.proofs.Common.{rules, ◌≡◌, ◌+◌, ◌-◌, ◌≤◌, length, false, List, ℕ, ◌*◌, ◌<◌, ◌/◌, ◌%◌, Bool, true, nat_eq, nat_lt, [], ◌∷◌, ◌++◌, slice_index_or, slice_set, bit_and, bit_or, Fits, w8, w32, w64, Bor, MutBor}
-use Rattle.std.proofs.lemmas.List.Edits.{sets}
-use Rattle.machine.specs.Limits.{process_limit}
-use Rattle.machine.specs.Partition.{nothing_created, applied, stored}
-use Rattle.machine.specs.Step.{restarted, step}
-use Rattle.machine.specs.Replay.{time_number, answer_numbers, unread}
-use Rattle.machine.specs.Table.{read_table}
-use Rattle.machine.specs.Windows.{waiting_of}
-use Rattle.events.specs.Plans.{no_answer}
-use Rattle.resident.specs.Mirrors.{Mirrors}
-use Rattle.machine.specs.declared.Context.{Context as ContextT}
-use Rattle.machine.specs.Fields.{number_of}
-use Rattle.decisions.specs.Views.{Shows}
-use Rattle.services.specs.Looked.{taken_for, waiter_for}
-use Rattle.executive.specs.Executive.{turned, opened}
-use Rattle.executive.specs.Lists.{six, event_at, after_list, answered_list, last_answer, events_in}
+use Rattle.std.proofs.Common.{ap, ◌∙◌}
+use Rattle.services.specs.Looked.{object_for}
+use Rattle.executive.proofs.Residents.{waiter_read, waiter_none}
 use Rattle.executive.proofs.view_of.Goals as goal
+use Rattle.executive.proofs.view_of.Goals.{then-object-eq0, else-object-eq0}
 
--- src/lib.rt:231:1
-pub returns-clause-shows : goal.returns-clause-shows
-returns-clause-shows c = ?
-
--- src/lib.rt:231:1
+-- who waits first for what the call looks at
 pub returns-clause-waiter : goal.returns-clause-waiter
-returns-clause-waiter c = ?
+returns-clause-waiter c currents mirrors =
+    let is = c.object_for-object.ensures ∙ ap (object_for c.args.call) c.number_of-id.ensures in
+    elim c.if-object-eq0.branch [
+      | then-object-eq0 w ↦ (waiter_none c.args.call _ _ _ is w.if-object-eq0.true w.waiter-is)
+      | else-object-eq0 w ↦ (waiter_read mirrors c.args.call _ _ is w.if-object-eq0.false (w.waiter-is ∙ w.first_on-waiter.ensures))
+    ]

@@ -38,7 +38,7 @@ use Rattle.executive.proofs.Laws.{past_queue, Planned, Decides, plan_made, place
 use Rattle.executive.proofs.Lists.{begins_early, early_same, Running, begins, fits, ends, goes_on}
 use Rattle.executive.proofs.Residents.{Beside, beside_looked, kept_fresh, none_beside, two_less, two_more, two_fits, set_size, ticks_here, ticks_there, ticks_none, Current, current_same, current_moved, not_stored, restart_changes, one_of, not_far, not_near, Ready, Done, done_as_holds, done_same, done_written, done_changed, done_restarted, done_moved, done_here, done_there, restarts_in, changes_in, buffer_keeps, number_at, number_past, waiter_read, waiter_none, running_at}
 use Rattle.executive.proofs.Executive.run_list.Goals as goal
-use Rattle.executive.proofs.Executive.run_list.Goals.{After-is_restart, After-plan_of-x, Joined-changed, Joined-first-m, Joined-is_restart, Joined-place-lt-CHANNELS, Joined-slot-lt-PARTITIONS, Joined-stale, Joined-x-lt-PARTITIONS, Joined-x-spot, Start, Then-does_change, Then-is_restart, Then-seen-lt-PARTITIONS, else-calling_at-lt-PROCESSES, else-changed, else-does_create, else-first-m, else-is_restart+else-does_change+else-put-lt-CHANNELS+else-pass-lt-CHANNELS, else-is_restart+else-does_change+else-put-lt-CHANNELS+then-pass-lt-CHANNELS+else-end-lt-PARTITIONS, else-is_restart+else-does_change+else-put-lt-CHANNELS+then-pass-lt-CHANNELS+then-end-lt-PARTITIONS+else-end-spot, else-is_restart+else-does_change+else-put-lt-CHANNELS+then-pass-lt-CHANNELS+then-end-lt-PARTITIONS+then-end-spot, else-is_restart+else-does_change+then-put-lt-CHANNELS, else-is_restart+then-does_change, else-named_at-lt-PROCESSES, else-object-ne0, else-object_at-lt-SEMAPHORES, else-place-lt-CHANNELS, else-seen-lt-PARTITIONS, else-served_at-lt-PROCESSES, else-slot-lt-PARTITIONS, else-soon-j, else-spot-lt-PARTITIONS, else-stale, else-stale-2, else-x-lt-PARTITIONS, else-x-spot, then-calling_at-lt-PROCESSES, then-changed, then-does_create, then-first-m, then-is_restart, then-named_at-lt-PROCESSES, then-object-ne0, then-object_at-lt-SEMAPHORES, then-place-lt-CHANNELS, then-seen-lt-PARTITIONS+else-seen-spot, then-seen-lt-PARTITIONS+then-seen-spot, then-served_at-lt-PROCESSES, then-slot-lt-PARTITIONS, then-soon-j+else-j-spot, then-soon-j+then-j-spot, then-spot-lt-PARTITIONS, then-stale, then-stale-2, then-x-lt-PARTITIONS, then-x-spot+else-spot-lt-PARTITIONS-2, then-x-spot+then-spot-lt-PARTITIONS-2}
+use Rattle.executive.proofs.Executive.run_list.Goals.{After-is_restart, After-plan_of-x, Joined-changed, Joined-first-m, Joined-is_restart, Joined-place-lt-CHANNELS, Joined-slot-lt-PARTITIONS, Joined-stale, Joined-x-lt-PARTITIONS, Joined-x-spot, Start, Then-does_change, Then-is_restart, Then-seen-lt-PARTITIONS, else-changed, else-first-m, else-is_restart+else-does_change+else-put-lt-CHANNELS+else-pass-lt-CHANNELS, else-is_restart+else-does_change+else-put-lt-CHANNELS+then-pass-lt-CHANNELS+else-end-lt-PARTITIONS, else-is_restart+else-does_change+else-put-lt-CHANNELS+then-pass-lt-CHANNELS+then-end-lt-PARTITIONS+else-end-spot, else-is_restart+else-does_change+else-put-lt-CHANNELS+then-pass-lt-CHANNELS+then-end-lt-PARTITIONS+then-end-spot, else-is_restart+else-does_change+then-put-lt-CHANNELS, else-is_restart+then-does_change, else-place-lt-CHANNELS, else-seen-lt-PARTITIONS, else-slot-lt-PARTITIONS, else-soon-j, else-spot-lt-PARTITIONS, else-stale, else-stale-2, else-x-lt-PARTITIONS, else-x-spot, then-changed, then-first-m, then-is_restart, then-place-lt-CHANNELS, then-seen-lt-PARTITIONS+else-seen-spot, then-seen-lt-PARTITIONS+then-seen-spot, then-slot-lt-PARTITIONS, then-soon-j+else-j-spot, then-soon-j+then-j-spot, then-spot-lt-PARTITIONS, then-stale, then-stale-2, then-x-lt-PARTITIONS, then-x-spot+else-spot-lt-PARTITIONS-2, then-x-spot+then-spot-lt-PARTITIONS-2}
 
 -- the window at the time after the event
 window : (c : Joined-first-m) → c.if-first-m.window ≡ lookup c.args.self.inner.table c.place_event-first.result.time
@@ -115,24 +115,9 @@ decided c =
           let view : w.if-seen-lt-PARTITIONS.traffic ≡ seen_traffic T q x.own x.place =
           elim w.if-seen-lt-PARTITIONS.branch [ then-seen-lt-PARTITIONS+then-seen-spot v ↦ (seen_here T wide x.own x.place at v.if-seen-lt-PARTITIONS.true q a.0.held (other _ v.other_object-object.ensures) (v.traffic-is ∙ v.traffic_of-traffic.ensures ∙ ap (traffic_of (get_or q.queues x.place past_queue) v.other_object-object.result) (sym (ap (part q) v.if-seen-spot.true ∙ settled_here c.if-x-spot.spot p c.if-x-spot.m (let z = v.if-seen-spot.true in omega (arith, v.if-seen-lt-PARTITIONS.true, a.0.long)))))) | then-seen-lt-PARTITIONS+else-seen-spot v ↦ (seen_here T wide x.own x.place at v.if-seen-lt-PARTITIONS.true q a.0.held (other _ v.other_object-object.ensures) (v.traffic-is ∙ v.traffic_of-traffic-else-seen-spot.ensures ∙ ap (traffic_of (get_or q.queues x.place past_queue) v.other_object-object.result) (sym (settled_there c.if-x-spot.spot p c.if-x-spot.m w.seen_slot-seen.result v.if-seen-spot.false)))) | else-seen-lt-PARTITIONS v ↦ (seen_none T wide x.own x.place at v.if-seen-lt-PARTITIONS.false q (v.traffic-is ∙ w.no_traffic-traffic.ensures)) ] in
           let here : part q x.slot ≡ p = ap (part q) (slot_spot f w.if-slot-lt-PARTITIONS.true ∙ a.1) ∙ settled_here c.if-x-spot.spot p c.if-x-spot.m (let z = slot_spot f w.if-slot-lt-PARTITIONS.true ∙ a.1 in omega (arith, w.if-slot-lt-PARTITIONS.true, a.0.long)) in
-          let id = w.number_of-id.result in
-          let named-so : id ≡ number_of x.request.a = w.number_of-id.ensures in
-          let k = w.slot-object_at.result in
-          let e = w.slot-object_at.ensures in
-          let named : w.if-named_at-lt-PROCESSES.named ≡ process (number_of x.request.a) p = elim w.if-named_at-lt-PROCESSES.branch [ then-named_at-lt-PROCESSES v ↦ (read_in id w.slot-named_at.result p _ w.slot-named_at.ensures v.if-named_at-lt-PROCESSES.true v.named-is) | else-named_at-lt-PROCESSES v ↦ (read_out id w.slot-named_at.result p _ w.slot-named_at.ensures v.if-named_at-lt-PROCESSES.false (v.named-is ∙ w.blank-named.ensures)) ] ∙ ap (λ (n : ℕ). process n p) named-so in
-          let calling : w.if-calling_at-lt-PROCESSES.calling ≡ process c.if-stale.run p = elim w.if-calling_at-lt-PROCESSES.branch [ then-calling_at-lt-PROCESSES v ↦ (read_in c.if-stale.run w.slot-calling_at.result p _ w.slot-calling_at.ensures v.if-calling_at-lt-PROCESSES.true v.calling-is) | else-calling_at-lt-PROCESSES v ↦ (read_out c.if-stale.run w.slot-calling_at.result p _ w.slot-calling_at.ensures v.if-calling_at-lt-PROCESSES.false (v.calling-is ∙ w.blank-calling.ensures)) ] in
-          let semaphore_is : w.if-object_at-lt-SEMAPHORES.semaphore ≡ semaphore (number_of x.request.a) p = elim w.if-object_at-lt-SEMAPHORES.branch [ then-object_at-lt-SEMAPHORES v ↦ (v.semaphore-is ∙ named_at semaphore_limit id k e no_semaphore p.semaphores v.if-object_at-lt-SEMAPHORES.true) | else-object_at-lt-SEMAPHORES v ↦ (v.semaphore-is ∙ w.no_semaphore-semaphore.ensures ∙ named_past semaphore_limit id k e no_semaphore p.semaphores v.if-object_at-lt-SEMAPHORES.false) ] ∙ ap (λ (n : ℕ). semaphore n p) named-so in
-          let event_is : w.if-object_at-lt-SEMAPHORES.event ≡ event (number_of x.request.a) p = elim w.if-object_at-lt-SEMAPHORES.branch [ then-object_at-lt-SEMAPHORES v ↦ (v.event-is ∙ named_at event_limit id k e no_event p.events v.if-object_at-lt-SEMAPHORES.true) | else-object_at-lt-SEMAPHORES v ↦ (v.event-is ∙ w.no_event-event.ensures ∙ named_past event_limit id k e no_event p.events v.if-object_at-lt-SEMAPHORES.false) ] ∙ ap (λ (n : ℕ). event n p) named-so in
-          let limit_is : w.if-object_at-lt-SEMAPHORES.limit ≡ (buffer (number_of x.request.a) p).limit = elim w.if-object_at-lt-SEMAPHORES.branch [ then-object_at-lt-SEMAPHORES v ↦ (v.limit-is ∙ number_at (λ (b : Buffer). b.limit) buffer_limit id k e no_buffer p.buffers _ refl v.if-object_at-lt-SEMAPHORES.true) | else-object_at-lt-SEMAPHORES v ↦ (v.limit-is ∙ number_past (λ (b : Buffer). b.limit) buffer_limit id k e no_buffer p.buffers v.if-object_at-lt-SEMAPHORES.false) ] ∙ ap (λ (n : ℕ). (buffer n p).limit) named-so in
-          let len_is : w.if-object_at-lt-SEMAPHORES.len ≡ (buffer (number_of x.request.a) p).queue.len = elim w.if-object_at-lt-SEMAPHORES.branch [ then-object_at-lt-SEMAPHORES v ↦ (v.len-is ∙ number_at (λ (b : Buffer). b.queue.len) buffer_limit id k e no_buffer p.buffers _ refl v.if-object_at-lt-SEMAPHORES.true) | else-object_at-lt-SEMAPHORES v ↦ (v.len-is ∙ number_past (λ (b : Buffer). b.queue.len) buffer_limit id k e no_buffer p.buffers v.if-object_at-lt-SEMAPHORES.false) ] ∙ ap (λ (n : ℕ). (buffer n p).queue.len) named-so in
-          let first_is : w.if-object_at-lt-SEMAPHORES.first_held ≡ first (buffer (number_of x.request.a) p).queue = elim w.if-object_at-lt-SEMAPHORES.branch [ then-object_at-lt-SEMAPHORES v ↦ (v.first_held-is ∙ v.first_of-first_held.ensures ∙ number_at (λ (b : Buffer). first b.queue) buffer_limit id k e no_buffer p.buffers _ refl v.if-object_at-lt-SEMAPHORES.true) | else-object_at-lt-SEMAPHORES v ↦ (v.first_held-is ∙ number_past (λ (b : Buffer). first b.queue) buffer_limit id k e no_buffer p.buffers v.if-object_at-lt-SEMAPHORES.false) ] ∙ ap (λ (n : ℕ). first (buffer n p).queue) named-so in
-          let blackboard-is : w.if-object_at-lt-SEMAPHORES.blackboard ≡ blackboard (number_of x.request.a) p = elim w.if-object_at-lt-SEMAPHORES.branch [ then-object_at-lt-SEMAPHORES v ↦ (v.blackboard-is ∙ named_at blackboard_limit id k e no_blackboard p.blackboards v.if-object_at-lt-SEMAPHORES.true) | else-object_at-lt-SEMAPHORES v ↦ (v.blackboard-is ∙ w.empty_blackboard-blackboard.ensures ∙ named_past blackboard_limit id k e no_blackboard p.blackboards v.if-object_at-lt-SEMAPHORES.false) ] ∙ ap (λ (n : ℕ). blackboard n p) named-so in
-          let served : w.if-served_at-lt-PROCESSES.served ≡ process w.if-object-ne0.waiter p = elim w.if-served_at-lt-PROCESSES.branch [ then-served_at-lt-PROCESSES v ↦ (read_in w.if-object-ne0.waiter w.slot-served_at.result p _ w.slot-served_at.ensures v.if-served_at-lt-PROCESSES.true v.served-is) | else-served_at-lt-PROCESSES v ↦ (read_out w.if-object-ne0.waiter w.slot-served_at.result p _ w.slot-served_at.ensures v.if-served_at-lt-PROCESSES.false (v.served-is ∙ w.blank-served.ensures)) ] in
-          let taken_is : w.if-does_create.taken ≡ taken_for x.call x.request.a p = elim w.if-does_create.branch [ then-does_create v ↦ (v.taken-is ∙ v.is_taken-taken.ensures) | else-does_create v ↦ (v.taken-is ∙ sym (none_created x.call (sym w.does_create.ensures ∙ v.if-does_create.false) x.request.a p)) ] in
-          let waiter-is : w.if-object-ne0.waiter ≡ waiter_for x.call (number_of x.request.a) p = elim w.if-object-ne0.branch [ then-object-ne0 v ↦ (waiter_read bs.mirrors x.call (number_of x.request.a) _ (w.object_for-object.ensures ∙ ap (object_for x.call) named-so) v.if-object-ne0.true (v.waiter-is ∙ v.first_on-waiter.ensures)) | else-object-ne0 v ↦ (waiter_none x.call (number_of x.request.a) _ p (w.object_for-object.ensures ∙ ap (object_for x.call) named-so) v.if-object-ne0.false v.waiter-is) ] in
           record {
             call = λ _. w.d-is ∙ made_is f (ticked c.before.before) w.if-slot-lt-PARTITIONS.true _ _ _ _ _ (bs.runs ∙ ap running (sym here)) w.release_for.ensures hold view (w.port_at-port.ensures T refl (line ∙ ap (channel T) (place_named f)))
-                (rw here (w.call-d.ensures p (record { mode = refl; level = refl; holder = refl; count = refl; semaphores = refl; events = refl; buffers = refl; blackboards = refl; named = named; calling = calling; semaphore = semaphore_is; event = event_is; limit = limit_is; len = len_is; first = first_is; blackboard = blackboard-is; served = served }) taken_is waiter-is));
+                (rw here (w.call-d.ensures p (w.view_of-view.ensures.shows _ refl) w.view_of-view.ensures.taken (w.view_of-view.ensures.waiter _ bs.mirrors)));
             none = λ far. absurd (omega (arith, w.if-slot-lt-PARTITIONS.true, far));
           })
       | else-slot-lt-PARTITIONS w ↦ (record { call = λ near. absurd (omega (arith, w.if-slot-lt-PARTITIONS.false, near)); none = λ _. w.d-is })
@@ -327,48 +312,6 @@ offset_bounds-m-seen c = search rules
 
 pub bounds-m-seen : goal.bounds-m-seen
 bounds-m-seen c = search rules
-
-pub offset_bounds-here-named_at : goal.offset_bounds-here-named_at
-offset_bounds-here-named_at c = search rules
-
-pub bounds-here-named_at : goal.bounds-here-named_at
-bounds-here-named_at c = search rules
-
-pub offset_bounds-here-calling_at : goal.offset_bounds-here-calling_at
-offset_bounds-here-calling_at c = search rules
-
-pub bounds-here-calling_at : goal.bounds-here-calling_at
-bounds-here-calling_at c = search rules
-
-pub offset_bounds-here-object_at : goal.offset_bounds-here-object_at
-offset_bounds-here-object_at c = search rules
-
-pub bounds-here-object_at : goal.bounds-here-object_at
-bounds-here-object_at c = search rules
-
-pub offset_bounds-here-object_at-then-object_at-lt-SEMAPHORES : goal.offset_bounds-here-object_at-then-object_at-lt-SEMAPHORES
-offset_bounds-here-object_at-then-object_at-lt-SEMAPHORES c = search rules
-
-pub bounds-here-object_at-then-object_at-lt-SEMAPHORES : goal.bounds-here-object_at-then-object_at-lt-SEMAPHORES
-bounds-here-object_at-then-object_at-lt-SEMAPHORES c = search rules
-
-pub offset_bounds-here-object_at-then-object_at-lt-SEMAPHORES-2 : goal.offset_bounds-here-object_at-then-object_at-lt-SEMAPHORES-2
-offset_bounds-here-object_at-then-object_at-lt-SEMAPHORES-2 c = search rules
-
-pub bounds-here-object_at-then-object_at-lt-SEMAPHORES-2 : goal.bounds-here-object_at-then-object_at-lt-SEMAPHORES-2
-bounds-here-object_at-then-object_at-lt-SEMAPHORES-2 c = search rules
-
-pub offset_bounds-here-object_at-then-object_at-lt-SEMAPHORES-3 : goal.offset_bounds-here-object_at-then-object_at-lt-SEMAPHORES-3
-offset_bounds-here-object_at-then-object_at-lt-SEMAPHORES-3 c = search rules
-
-pub bounds-here-object_at-then-object_at-lt-SEMAPHORES-3 : goal.bounds-here-object_at-then-object_at-lt-SEMAPHORES-3
-bounds-here-object_at-then-object_at-lt-SEMAPHORES-3 c = search rules
-
-pub offset_bounds-here-served_at : goal.offset_bounds-here-served_at
-offset_bounds-here-served_at c = search rules
-
-pub bounds-here-served_at : goal.bounds-here-served_at
-bounds-here-served_at c = search rules
 
 pub bounds-m-put : goal.bounds-m-put
 bounds-m-put c = search rules

@@ -133,10 +133,7 @@ pub fn start_process(v: View, id: u32, delay: Field) -> Result<Decision, Refusal
 pub fn stop_process(v: View, id: u32) -> Result<Decision, Refusal>
     ensures { Follows v id result (stop v.context id) }
 {
-    if decisions::is_unknown(id, v.count) {
-        return Err(Refusal::InvalidParameter);
-    }
-    if id == v.context.caller as u32 {
+    if decisions::is_unknown(id, v.count) || id == v.context.caller as u32 {
         return Err(Refusal::InvalidParameter);
     }
     if !v.named.started {
@@ -170,10 +167,7 @@ fn is_unsuspendable(x: Process) -> bool
 pub fn suspend_process(v: View, id: u32) -> Result<Decision, Refusal>
     ensures { Follows v id result (suspend v.context id) }
 {
-    if decisions::is_unknown(id, v.count) {
-        return Err(Refusal::InvalidParameter);
-    }
-    if id == v.context.caller as u32 {
+    if decisions::is_unknown(id, v.count) || id == v.context.caller as u32 {
         return Err(Refusal::InvalidParameter);
     }
     if is_unsuspendable(v.named) {
@@ -253,10 +247,7 @@ pub fn periodic_wait(v: View) -> Result<Decision, Refusal>
 pub fn resume_process(v: View, id: u32) -> Result<Decision, Refusal>
     ensures { Follows v id result (resume v.context id) }
 {
-    if decisions::is_unknown(id, v.count) {
-        return Err(Refusal::InvalidParameter);
-    }
-    if id == v.context.caller as u32 {
+    if decisions::is_unknown(id, v.count) || id == v.context.caller as u32 {
         return Err(Refusal::InvalidParameter);
     }
     if is_unsuspendable(v.named) {

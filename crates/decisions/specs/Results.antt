@@ -13,3 +13,8 @@ decided (Err e) = Refused (code e)
 abbrev pub code_given : {A : Type 0} → Result A Refusal → ℕ
 code_given (Ok x) = 0
 code_given (Err e) = code e
+
+-- a call decides d where its checks are passed
+abbrev pub after : {A : Type 0} → Result A Refusal → Decision → Decision
+after (Ok x) d = d
+after (Err e) d = Refused (code e)

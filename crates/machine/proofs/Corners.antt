@@ -314,10 +314,10 @@ module _ (m : Module) (k : ℕ) (u : SoundModule m) (h : Calling m k) where
   receive_buffer_corner j n b none = (((((c.receive_buffer (pos j) (pos 0)).1 (known_id j p.buffer_count b)).1 (in_normal n)).1 refl).1 (rw none)).0 refl
 
   read_blackboard_corner : (j : ℕ) → p.mode ≡ 3 → Between 1 p.blackboard_count j
-      → ((blackboard j p).shown ≡ false → Refuses m (call_by k 28 (pos j) (pos 0) (pos 0) (pos 0)) 2)
-      × ((blackboard j p).shown ≡ true → Gives m (call_by k 28 (pos j) (pos 0) (pos 0) (pos 0)) 0 (blackboard j p).message (Some 0) m)
+      → ((blackboard j p).message ≡ None → Refuses m (call_by k 28 (pos j) (pos 0) (pos 0) (pos 0)) 2)
+      × ((x : ℕ) → (blackboard j p).message ≡ Some x → Gives m (call_by k 28 (pos j) (pos 0) (pos 0) (pos 0)) 0 x (Some 0) m)
   unfolding Checks
-  read_blackboard_corner j n b = let g = (((c.read_blackboard (pos j) (pos 0)).1 (known_id j p.blackboard_count b)).1 (in_normal n)).1 refl in (λ z. (g.1 z).0 refl, λ z. g.0 z)
+  read_blackboard_corner j n b = let g = (((c.read_blackboard (pos j) (pos 0)).1 (known_id j p.blackboard_count b)).1 (in_normal n)).1 refl in (λ z. (g.1 (rw z)).0 refl, λ x z. rw z at (g.0 (rw z)))
 
   -- ---------------------------------------------------------------- SIGNAL, PERIODIC_WAIT
   signal_corner : (j : ℕ) → Between 1 p.semaphore_count j → (semaphore j p).value ≡ (semaphore j p).max → Refuses m (call_by k 16 (pos j) (pos 0) (pos 0) (pos 0)) 1

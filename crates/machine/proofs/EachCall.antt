@@ -1,4 +1,5 @@
 -- What each call does: its checks in the order written, and the whole record after it. Assumes nothing.
+use Rattle.std.specs.Prelude.{Option, is_some, unwrap_or}
 use Prim.Native.Nat.{ℕ, zero, suc, ◌+◌, ◌-◌, ◌%◌, ◌≤◌, ◌<◌, max}
 use mathlib.Core.Path.{◌≡◌, refl, sym, ap, ◌∙◌, ap₂}
 use mathlib.Core.Bool.{Bool, true, false, cond, not, ◌&&◌, ◌||◌, and-true, and-false}
@@ -348,8 +349,8 @@ module _ (m : Module) (k : ℕ) (u : SoundModule m) (h : Calling m k) where
   event_at_holds : (j : ℕ) → Between 1 p.event_count j → (up : Bool) → stored_event j (record { name = (event j p).name; up = up }) p ≡ with_event_at j up p
   event_at_holds j b up = let s : max p.event_count j ≡ p.event_count = omega (arith, b.1) in event_in j _ p (within_in event_limit j b.0 (omega (arith, b.1, v.objects.events.numbered.few))) ∙ rw s
 
-  board_at_holds : (j : ℕ) → Between 1 p.blackboard_count j → (shown : Bool) (x : ℕ) → stored_blackboard j (record { name = (blackboard j p).name; shown = shown; message = x }) p ≡ with_board_at j shown x p
-  board_at_holds j b shown x = let s : max p.blackboard_count j ≡ p.blackboard_count = omega (arith, b.1) in blackboard_in j _ p (within_in blackboard_limit j b.0 (omega (arith, b.1, v.objects.blackboards.numbered.few))) ∙ rw s
+  board_at_holds : (j : ℕ) → Between 1 p.blackboard_count j → (x : Option ℕ) → stored_blackboard j (record { name = (blackboard j p).name; message = x }) p ≡ with_board_at j x p
+  board_at_holds j b x = let s : max p.blackboard_count j ≡ p.blackboard_count = omega (arith, b.1) in blackboard_in j _ p (within_in blackboard_limit j b.0 (omega (arith, b.1, v.objects.blackboards.numbered.few))) ∙ rw s
 
   semaphore_at : (j : ℕ) → Between 1 p.semaphore_count j → (n : ℕ) → stored_semaphore j (record { name = (semaphore j p).name; value = n; max = (semaphore j p).max }) p ≡ with_semaphore_at j n p
   semaphore_at j b n = let s : max p.semaphore_count j ≡ p.semaphore_count = omega (arith, b.1) in semaphore_in j _ p (within_in semaphore_limit j b.0 (omega (arith, b.1, v.objects.semaphores.numbered.few))) ∙ rw s
@@ -381,8 +382,8 @@ module _ (m : Module) (k : ℕ) (u : SoundModule m) (h : Calling m k) where
 
   clear_law : Clear m k
   unfolding call_decision services stray_field D.checked Bb.clear
-  clear_law (pos j) = by_id_holds 29 j (pos 0) (pos 0) (pos 0) (omega arith) (omega arith) p.blackboard_count few_blackboards _ _ refl (D.changed (StoredBlackboard j (record { name = (blackboard j p).name; shown = false; message = 0 })))
-      (λ t. rw (unknown_is (pos j) p.blackboard_count few_blackboards, t)) (λ f b. rw (f, known m k u h j p.blackboard_count b)) (λ b _ g. puts_is m k _ _ g (board_at_holds j b false 0))
+  clear_law (pos j) = by_id_holds 29 j (pos 0) (pos 0) (pos 0) (omega arith) (omega arith) p.blackboard_count few_blackboards _ _ refl (D.changed (StoredBlackboard j (record { name = (blackboard j p).name; message = None })))
+      (λ t. rw (unknown_is (pos j) p.blackboard_count few_blackboards, t)) (λ f b. rw (f, known m k u h j p.blackboard_count b)) (λ b _ g. puts_is m k _ _ g (board_at_holds j b None))
   clear_law (negsuc j) = by_none 29 j (pos 0) (pos 0) (pos 0) (omega arith) (omega arith) p.blackboard_count few_blackboards _ _ refl (rw (unknown_is (negsuc j) p.blackboard_count few_blackboards))
 
   signal_law : Signal m k
@@ -400,12 +401,12 @@ module _ (m : Module) (k : ℕ) (u : SoundModule m) (h : Calling m k) where
   show_law : Show m k
   unfolding call_decision services stray_field D.checked Passed Bb.show
   show_law (pos j) b = by_id_holds 27 j b (pos 0) (pos 0) (omega arith) (omega arith) p.blackboard_count few_blackboards _ _ refl
-      (Changed (StoredBlackboard j (record { name = (blackboard j p).name; shown = true; message = number_of (field b) })) (Handed (object (Blackboard j)) (number_of (field b))) 0)
+      (Changed (StoredBlackboard j (record { name = (blackboard j p).name; message = Some (number_of (field b)) })) (Handed (object (Blackboard j)) (number_of (field b))) 0)
       (λ t. rw (unknown_is (pos j) p.blackboard_count few_blackboards, t)) (λ f r. rw (f, known m k u h j p.blackboard_count r, (lossless b).between 0 duration_limit (omega arith))) (λ r q g.
       let o = object (Blackboard j) in
       let is = number_in 0 duration_limit b (omega arith) (not-false _ q.0) in
-      let same = blackboard_queue p v.lists o (λ z. omega arith) j (record { name = (blackboard j p).name; shown = true; message = id_of b }) in
-      puts_is m k _ _ (rw is at g) (rw (same, board_at_holds j r true (id_of b)) (all_plain (handed (id_of b)) (waiters o p) (with_board_at j true (id_of b) p) v.lists (waiters_created p v.lists o))))
+      let same = blackboard_queue p v.lists o (λ z. omega arith) j (record { name = (blackboard j p).name; message = Some (id_of b) }) in
+      puts_is m k _ _ (rw is at g) (rw (same, board_at_holds j r (Some (id_of b))) (all_plain (handed (id_of b)) (waiters o p) (with_board_at j (Some (id_of b)) p) v.lists (waiters_created p v.lists o))))
   show_law (negsuc j) b = by_none 27 j b (pos 0) (pos 0) (omega arith) (omega arith) p.blackboard_count few_blackboards _ _ refl (rw (unknown_is (negsuc j) p.blackboard_count few_blackboards))
 
   -- a call that waits
@@ -481,7 +482,7 @@ module _ (m : Module) (k : ℕ) (u : SoundModule m) (h : Calling m k) where
   read_blackboard_law : ReadBlackboard m k
   unfolding call_decision services stray_field D.checked D.awaiting Bb.read_blackboard
   read_blackboard_law (pos j) a = by_then 28 j a (pos 0) (pos 0) (omega arith) (omega arith) p.blackboard_count few_blackboards _ _ refl (λ t. rw (unknown_is (pos j) p.blackboard_count few_blackboards, t)) (λ f r.
-      waiting 28 (pos j) a (pos 0) (pos 0) (omega arith) (omega arith) refl a [] (in_t a) (blackboard j p).shown (Unchanged (blackboard j p).message (Some 0)) (Blackboard j) _
+      waiting 28 (pos j) a (pos 0) (pos 0) (omega arith) (omega arith) refl a [] (in_t a) (is_some (blackboard j p).message) (Unchanged (unwrap_or (blackboard j p).message 0) (Some 0)) (Blackboard j) _
       (rw (f, known m k u h j p.blackboard_count r, timeout_is a)) (λ o. o) (λ _ _ _ g. g))
   read_blackboard_law (negsuc j) a = by_none 28 j a (pos 0) (pos 0) (omega arith) (omega arith) p.blackboard_count few_blackboards _ _ refl (rw (unknown_is (negsuc j) p.blackboard_count few_blackboards))
 
@@ -778,7 +779,7 @@ module _ (m : Module) (k : ℕ) (u : SoundModule m) (h : Calling m k) where
   unfolding call_decision services stray_field D.checked Passed Bb.create_blackboard
   create_blackboard_law name =
       let e = next_stored p.blackboard_count in
-      by_list 26 name (pos 0) (pos 0) (pos 0) (omega arith) (omega arith) refl _ (Changed (StoredBlackboard (p.blackboard_count + 1) (record { name = number_of (field name); shown = false; message = 0 })) Nothing (p.blackboard_count + 1)) _
+      by_list 26 name (pos 0) (pos 0) (pos 0) (omega arith) (omega arith) refl _ (Changed (StoredBlackboard (p.blackboard_count + 1) (record { name = number_of (field name); message = None })) Nothing (p.blackboard_count + 1)) _
       (rw (names_are (λ (x : BlackboardT). x.name) name no_blackboard blackboard_limit p.blackboard_count p.blackboards v.objects.blackboards.numbered (λ j b. (v.objects.blackboards.each j b).name.1), (lossless name).between 1 name_limit (omega arith))) (λ q g.
       let ok = not-false _ q.1.1.0 in
       let room : p.blackboard_count < blackboard_limit = leb-false blackboard_limit p.blackboard_count q.0 in

@@ -1,4 +1,5 @@
 -- Queue order, who waits, and what the calls of all four families do to their queues: the whole. Assumes nothing.
+use Rattle.std.specs.Prelude.{Option, None}
 use Prim.Native.Nat.{ℕ, suc, ◌-◌, ◌≤◌, ◌<◌, max}
 use mathlib.Core.Path.{◌≡◌, refl, ap, sym, ◌∙◌}
 use mathlib.Core.Bool.{Bool, true}
@@ -163,8 +164,8 @@ module _ (m : Module) (k : ℕ) (u : SoundModule m) (h : Calling m k) where
     the_field = field_number j (omega (arith, low))
 
     -- the blackboard stored
-    abbrev board : Bool → ℕ → BlackboardT
-    board shown x = record { name = (blackboard j p).name; shown = shown; message = x }
+    abbrev board : Option ℕ → BlackboardT
+    board x = record { name = (blackboard j p).name; message = x }
 
     stored_is : (s : BlackboardT) → stored_blackboard j s p ≡ with_blackboards (set p.blackboards (j - 1) s) (max p.blackboard_count j) p
     stored_is s = blackboard_in j s p (within_in blackboard_limit j b.0 low)
@@ -173,12 +174,12 @@ module _ (m : Module) (k : ℕ) (u : SoundModule m) (h : Calling m k) where
     stored_has s = rw (stored_is s) (named_same blackboard_limit no_blackboard j s p.blackboards b.0 low (omega (arith, low, valid.objects.blackboards.numbered.size)))
 
     show_all : (x : ℕ) → x ≤ duration_limit → let e = call_by k 27 (pos j) (pos x) (pos 0) (pos 0) in
-        AllServed m k e (object (Blackboard j)) (λ _. x) × (blackboard j (own (step m e).state k) ≡ board true x)
+        AllServed m k e (object (Blackboard j)) (λ _. x) × (blackboard j (own (step m e).state k) ≡ board (Some x))
     unfolding call_decision services stray_field show checked
     show_all x ok =
         let o = object (Blackboard j) in
         let e = call_by k 27 (pos j) (pos x) (pos 0) (pos 0) in
-        let s = board true x in
+        let s = board (Some x) in
         let r = stored_blackboard j s p in
         let q = changed_all (handed x) (waiters o r) r in
         let g = gives m k u h 27 (pos j) (pos x) (pos 0) (pos 0) (omega arith) (omega arith) refl (Changed (StoredBlackboard j s) (Handed o x) 0) (rw (the_field, field_number x (omega arith), known m k u h j p.blackboard_count b, a_message x ok)) in (

@@ -1,4 +1,5 @@
 -- The tick, every sound change and every sound decision keep a partition valid, and one with nothing created is valid. Assumes nothing.
+use Rattle.std.specs.Prelude.{Option, unwrap_or}
 use Prim.Native.Nat.{ℕ, zero, suc, ◌+◌, ◌-◌, ◌%◌, ◌≤◌, ◌<◌, max}
 use mathlib.Core.Path.{◌≡◌, refl, ap, sym, ◌∙◌}
 use mathlib.Core.Bool.{Bool, true, false, not, ◌||◌, or-true}
@@ -477,8 +478,8 @@ module _ (c : Context) (p : Partition) (v : Valid c.frame c.time p) (k : SoundCo
       value_sound j b (one_more (semaphore j p).value) (by_test (λ (n : ℕ). n ≤ (semaphore j p).max) (ltb (semaphore j p).value greatest_value) (λ _. omega (arith, s.value)) (λ _. s.value))
   signalled_sound (id ∷ l) j b below on all = let i : (eqb id id || contains id l) ≡ true = rw (eq-eqb id id refl) in (all id i, ended_sound _ (process id p) (v.each_process id (all id i)) (on id i), not_holder p v.lock id _ (object_not_ready (process id p) (on id i)))
 
-  pub blackboard_known : (j : ℕ) → Between 1 p.blackboard_count j → (shown : Bool) (m : ℕ) → m ≤ duration_limit → (shown ≡ false → m ≡ 0) → SoundChange c p (StoredBlackboard j (record { name = (blackboard j p).name; shown = shown; message = m }))
-  blackboard_known j b shown m few blank = (known_next blackboard_limit p.blackboard_count j b v.objects.blackboards.numbered.few, record { name = (v.objects.blackboards.each j b).name; message = few; blank = blank })
+  pub blackboard_known : (j : ℕ) → Between 1 p.blackboard_count j → (m : Option ℕ) → unwrap_or m 0 ≤ duration_limit → SoundChange c p (StoredBlackboard j (record { name = (blackboard j p).name; message = m }))
+  blackboard_known j b m few = (known_next blackboard_limit p.blackboard_count j b v.objects.blackboards.numbered.few, record { name = (v.objects.blackboards.each j b).name; message = few })
 
 -- what a call sees of a channel is sound: the message of a sampling one, the first of a queuing one
 pub record SoundPort (t : ℕ) (x : Port) : Type 0 where

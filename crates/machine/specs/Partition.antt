@@ -1,4 +1,5 @@
 -- A partition: its two lists follow the records of its processes.
+use Rattle.std.specs.Prelude.{None}
 use Rattle.std.specs.Prelude.{ℕ, zero, suc, ◌+◌, ◌-◌, max, Bool, false, cond, ◌&&◌, ◌||◌, List, [], ◌∷◌, get_or, set, replicate, leb, ltb, eqb}
 use Rattle.machine.specs.declared.Ids.{Ids}
 use Rattle.machine.specs.declared.Process.{Process}
@@ -42,7 +43,7 @@ abbrev pub empty_buffer : ℕ → ℕ → Buffer
 empty_buffer name limit = record { name = name; limit = limit; queue = no_queue }
 
 abbrev pub empty_blackboard : ℕ → BlackboardT
-empty_blackboard name = record { name = name; shown = false; message = 0 }
+empty_blackboard name = record { name = name; message = None }
 
 abbrev pub no_buffer : Buffer
 no_buffer = empty_buffer 0 0

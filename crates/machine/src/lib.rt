@@ -95,12 +95,10 @@ pub struct Buffer {
     pub queue: Queue,
 }
 
-// The message is 0 where none is shown.
 #[derive(Clone, Copy)]
 pub struct Blackboard {
     pub name: u16,
-    pub shown: bool,
-    pub message: u32,
+    pub message: Option<u32>,
 }
 
 // level: that of the preemption lock; holder: the process that raised it from 0, 0 at level 0. arrival: the READY processes. waiting: those
@@ -599,8 +597,7 @@ impl Partition {
             buffer_count: 0,
             blackboards: [Blackboard {
                 name: 0,
-                shown: false,
-                message: 0,
+                message: None,
             }; Module::BLACKBOARDS],
             blackboard_count: 0,
             arrival: Ids {

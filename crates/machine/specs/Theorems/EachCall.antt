@@ -1,6 +1,7 @@
 -- What every event answers before its body, and what each call does, as claims about `step`: its checks in the order written, then the answer and the
 -- whole record after it. The premises speak of the event's numbers and of the record in which the call comes to its body. Each call stands here once,
 -- in the order of the documents; what the claims share with the machine's definitions is said in `Terms`.
+use Rattle.std.specs.Prelude.{Option, is_some, unwrap_or}
 use Rattle.std.specs.Prelude.{ℕ, ◌+◌, ◌-◌, ◌%◌, ◌<◌, ◌≡◌, Bool, true, false, cond, not, ◌&&◌, ◌||◌, List, [], ◌∷◌, ◌++◌, map, get_or, set, take, leb, ltb, eqb, ℤ, pos, negsuc}
 use Rattle.machine.specs.declared.Process.{Process}
 use Rattle.machine.specs.declared.Partition.{Partition}
@@ -130,8 +131,8 @@ with_event_at j up p = with_events (set p.events (j - 1) (record { name = (event
 abbrev pub with_buffer_at : ℕ → List ℕ → Partition → Partition
 with_buffer_at j l p = with_buffers (set p.buffers (j - 1) (record { name = (buffer j p).name; limit = (buffer j p).limit; queue = queue_of l })) p.buffer_count p
 
-abbrev pub with_board_at : ℕ → Bool → ℕ → Partition → Partition
-with_board_at j shown m p = with_blackboards (set p.blackboards (j - 1) (record { name = (blackboard j p).name; shown = shown; message = m })) p.blackboard_count p
+abbrev pub with_board_at : ℕ → Option ℕ → Partition → Partition
+with_board_at j message p = with_blackboards (set p.blackboards (j - 1) (record { name = (blackboard j p).name; message = message })) p.blackboard_count p
 
 -- ---------------------------------------------------------------- modes
 -- what entering NORMAL at t makes of a process, where r is its partition's next release point
@@ -382,19 +383,19 @@ abbrev pub Show : Module → ℕ → Type 0
 Show m k = (j b : ℤ) → let p = own m k in
     let e = call_by k 27 j b (pos 0) (pos 0) in
     Checks m e ((not (plain_between 1 p.blackboard_count j), 3) ∷ (not (in_d b), 3) ∷ [])
-    (Puts m e 0 0 k (plain_all (wait_over 0 (id_of b)) (waiters (object (Blackboard (id_of j))) p) (with_board_at (id_of j) true (id_of b) p)))
+    (Puts m e 0 0 k (plain_all (wait_over 0 (id_of b)) (waiters (object (Blackboard (id_of j))) p) (with_board_at (id_of j) (Some (id_of b)) p)))
 
 -- 28 READ_BLACKBOARD id, time-out: a message read is the value
 abbrev pub ReadBlackboard : Module → ℕ → Type 0
 ReadBlackboard m k = (j a : ℤ) → let p = own m k in
     let e = call_by k 28 j a (pos 0) (pos 0) in
-    MayWait m k e ((not (plain_between 1 p.blackboard_count j), 3) ∷ []) (in_t a) a (blackboard (id_of j) p).shown (Gives m e 0 (blackboard (id_of j) p).message (Some 0) m) (Blackboard (id_of j))
+    MayWait m k e ((not (plain_between 1 p.blackboard_count j), 3) ∷ []) (in_t a) a (is_some (blackboard (id_of j) p).message) (Gives m e 0 (unwrap_or (blackboard (id_of j) p).message 0) (Some 0) m) (Blackboard (id_of j))
 
 -- 29 CLEAR id: nothing is shown
 abbrev pub Clear : Module → ℕ → Type 0
 Clear m k = (j : ℤ) → let p = own m k in
     let e = call_by k 29 j (pos 0) (pos 0) (pos 0) in
-    Checks m e ((not (plain_between 1 p.blackboard_count j), 3) ∷ []) (Puts m e 0 0 k (with_board_at (id_of j) false 0 p))
+    Checks m e ((not (plain_between 1 p.blackboard_count j), 3) ∷ []) (Puts m e 0 0 k (with_board_at (id_of j) None p))
 
 -- 30 SEND channel, message, time-out; 31 RECEIVE channel, time-out: as 24 and 25, with those who wait in the partition at the other end
 abbrev pub Send : Module → ℕ → Type 0

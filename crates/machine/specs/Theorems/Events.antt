@@ -89,7 +89,7 @@ abbrev pub with_new_buffer : ℕ → ℕ → Partition → Partition
 with_new_buffer name limit p = with_buffers (set p.buffers p.buffer_count (record { name = name; limit = limit; queue = queue_of [] })) (p.buffer_count + 1) p
 
 abbrev pub with_new_blackboard : ℕ → Partition → Partition
-with_new_blackboard name p = with_blackboards (set p.blackboards p.blackboard_count (record { name = name; shown = false; message = 0 })) (p.blackboard_count + 1) p
+with_new_blackboard name p = with_blackboards (set p.blackboards p.blackboard_count (record { name = name; message = None })) (p.blackboard_count + 1) p
 
 -- semaphore j has this value
 abbrev pub with_semaphore_at : ℕ → ℕ → Partition → Partition

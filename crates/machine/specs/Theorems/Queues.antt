@@ -1,6 +1,7 @@
 -- Queues, said over the number o of an object (`object`; 0 is none), for every kind of object at once: a waiter joins its object's queue last,
 -- ended waits leave it and the others keep their order, and the first is served first. The queue of an object is `waiters o p`. Nothing of the
 -- machine rests on it.
+use Rattle.std.specs.Prelude.{Some, is_some}
 use Rattle.std.specs.Prelude.{ℕ, ◌+◌, ◌-◌, ◌≤◌, ◌<◌, ◌≡◌, Bool, true, false, cond, not, ◌&&◌, List, [], ◌∷◌, ◌++◌, ◌⊎◌, eqb, ltb, ℤ, pos}
 use Rattle.machine.specs.declared.Process.{Process}
 use Rattle.machine.specs.declared.Partition.{Partition}
@@ -82,7 +83,7 @@ available kind k p =
     (cond (eqb kind 2) (event k p).up
     (cond (eqb kind 3) (has_room (buffer k p))
     (cond (eqb kind 4) (holds (buffer k p))
-    (cond (eqb kind 5) (blackboard k p).shown false))))
+    (cond (eqb kind 5) (is_some (blackboard k p).message) false))))
 
 -- the number of queue k of a kind
 abbrev pub queue_number : ℕ → ℕ → ℕ
@@ -188,7 +189,7 @@ pub record MessageCalls (m : Module) (k j : ℕ) : Type 0 where
   -- 27 SHOW: all waiters' waits end in queue order, and each has the message; it is shown
   pub show : (b : ℕ) → let e = call_by k 27 (pos j) (pos b) (pos 0) (pos 0) in
       Between 1 (own m k).blackboard_count j → b ≤ duration_limit
-      → AllServed m k e (object (Blackboard j)) (λ _. b) × (blackboard j (own (step m e).state k) ≡ record { name = (blackboard j (own m k)).name; shown = true; message = b })
+      → AllServed m k e (object (Blackboard j)) (λ _. b) × (blackboard j (own (step m e).state k) ≡ record { name = (blackboard j (own m k)).name; message = Some b })
 
 -- queuing channels: channel number i + 1; b is a message
 pub record ChannelCalls (m : Module) (k i : ℕ) : Type 0 where

@@ -225,8 +225,8 @@ pub record Corners (m : Module) (k : ℕ) : Type 0 where
       p.mode ≡ 3 → Between 1 p.buffer_count j → (buffer j p).queue.len ≡ 0 → Refuses m (call_by k 25 (pos j) (pos 0) (pos 0) (pos 0)) 2
   pub read_blackboard : (j : ℕ) → let p = own m k in
       p.mode ≡ 3 → Between 1 p.blackboard_count j
-      → ((blackboard j p).shown ≡ false → Refuses m (call_by k 28 (pos j) (pos 0) (pos 0) (pos 0)) 2)
-      × ((blackboard j p).shown ≡ true → Gives m (call_by k 28 (pos j) (pos 0) (pos 0) (pos 0)) 0 (blackboard j p).message (Some 0) m)
+      → ((blackboard j p).message ≡ None → Refuses m (call_by k 28 (pos j) (pos 0) (pos 0) (pos 0)) 2)
+      × ((x : ℕ) → (blackboard j p).message ≡ Some x → Gives m (call_by k 28 (pos j) (pos 0) (pos 0) (pos 0)) 0 x (Some 0) m)
   -- SIGNAL at max
   pub signal : (j : ℕ) → let p = own m k in
       Between 1 p.semaphore_count j → (semaphore j p).value ≡ (semaphore j p).max

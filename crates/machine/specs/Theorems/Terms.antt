@@ -63,7 +63,7 @@ blank_partition mode =
     let e : EventState = record { name = 0; up = false } in
     let q : Queue = record { items = replicate 16 0; len = 0 } in
     let b : Buffer = record { name = 0; limit = 0; queue = q } in
-    let w : BlackboardT = record { name = 0; shown = false; message = 0 } in
+    let w : BlackboardT = record { name = 0; message = None } in
     record {
       mode = mode;
       level = 0;

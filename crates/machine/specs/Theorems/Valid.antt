@@ -1,5 +1,6 @@
 -- What holds of every record that a run reaches, said once, and the plain definitions that such records meet. Nothing of the machine
 -- rests on it.
+use Rattle.std.specs.Prelude.{unwrap_or}
 use Rattle.std.specs.Prelude.{ℕ, ◌+◌, ◌-◌, ◌%◌, ◌≤◌, ◌<◌, ◌≡◌, Bool, true, false, cond, ◌&&◌, ◌||◌, List, [], ◌∷◌, ◌++◌, ◌⊎◌, length, eqb}
 use Rattle.machine.specs.Time.{Time}
 use Rattle.std.specs.Prelude.{None, Some}
@@ -246,8 +247,7 @@ pub record SoundBuffer (b : Buffer) : Type 0 where
 
 pub record SoundBlackboard (b : BlackboardT) : Type 0 where
   pub name : Between 1 name_limit b.name
-  pub message : b.message ≤ duration_limit
-  pub blank : b.shown ≡ false → b.message ≡ 0
+  pub message : unwrap_or b.message 0 ≤ duration_limit
 
 -- a list with room for `limit`, of which n have been created; an id past these names the default
 pub record Numbered {A : Type 0} (limit : ℕ) (d : A) (l : List A) (n : ℕ) : Type 0 where

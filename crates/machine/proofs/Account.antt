@@ -361,7 +361,7 @@ module _ (j : ℕ) (m : Module) (s : SoundModule m) (e : EventT) (es : List Even
             (part_trans (change_part senders is_some ctx p own_valid x h.0 g.0) (change_part senders is_some ctx (applied x p) w y h.1 g.1))
             0 v (on 0 is) (no_one 0) (five 0) (sn (with_part (k - 1) q m) 0) (rc (with_part (k - 1) q m) 0 v)
         go (Restarted mode) h b g f is sn rc = not_both _ (rw (is_call_holds 1, eq-eqb n 1 f.0, ← (lossless e.a).between 0 2 (omega arith), f.1, is)) lasts
-        go (Written a y) h b g f is sn rc = left_even k j m e es few (with_message a y m) refl own_valid.lists 0 0 (on 0 is) (no_one 0) (sn (with_message a y m) 0) (rc (with_message a y m) 0 0)
+        go (Written a y) h b g f is sn rc = left_even k j m e es few (with_message a (Some y) m) refl own_valid.lists 0 0 (on 0 is) (no_one 0) (sn (with_message a (Some y) m) 0) (rc (with_message a (Some y) m) 0 0)
         go (PassedOn a y v) h b g f is sn rc = leaves_even k j m e es few (passed k a y m) (passed_leaves 3 j of_buffers few m s r c k here a y v b (other_queue_holds m s e c a y v b j few)) 0 v (on 0 is) (no_one 0) (sn (passed k a y m) 0) (rc (passed k a y m) 0 v)
 
     -- ------------------------------------------------------------ the buffer's messages and queues

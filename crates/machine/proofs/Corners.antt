@@ -1,4 +1,5 @@
 -- The starred corners, from what each call does. Assumes nothing.
+use Rattle.machine.specs.declared.Message.{Message}
 use Prim.Native.Nat.{ℕ, suc, ◌+◌, ◌-◌, ◌*◌, ◌/◌, ◌%◌, ◌≤◌, ◌<◌}
 use mathlib.Core.Path.{◌≡◌, refl, sym, ap, ◌∙◌}
 use mathlib.Core.Bool.{Bool, true, false, cond, not, ◌&&◌, ◌||◌, and-false}
@@ -268,16 +269,16 @@ module _ (m : Module) (k : ℕ) (u : SoundModule m) (h : Calling m k) where
   -- ---------------------------------------------------------------- reading a channel
   age_corner : (i : ℕ) → let x = message m (i - 1) in
       let refresh = (channel m.table (i - 1)).refresh in
-      Between 1 m.table.channel_count i → (channel m.table (i - 1)).size ≡ 0 → (channel m.table (i - 1)).destination ≡ k → x.present ≡ true
-      → (m.t ≡ x.written + refresh → Gives m (call_by k 22 (pos i) (pos 0) (pos 0) (pos 0)) 0 x.value (Some 1) m)
-      × (m.t ≡ x.written + refresh + 1 → Gives m (call_by k 22 (pos i) (pos 0) (pos 0) (pos 0)) 0 x.value (Some 0) m)
+      Between 1 m.table.channel_count i → (channel m.table (i - 1)).size ≡ 0 → (channel m.table (i - 1)).destination ≡ k → (y : Message) → x ≡ Some y
+      → (m.t ≡ y.written + refresh → Gives m (call_by k 22 (pos i) (pos 0) (pos 0) (pos 0)) 0 y.value (Some 1) m)
+      × (m.t ≡ y.written + refresh + 1 → Gives m (call_by k 22 (pos i) (pos 0) (pos 0) (pos 0)) 0 y.value (Some 0) m)
   unfolding Checks
-  age_corner i b sampling d here =
+  age_corner i b sampling d z here =
       let x = message m (i - 1) in
       let y = channel m.table (i - 1) in
       let at : eqb y.destination k ≡ true = eq-eqb _ _ d in
       let g = (((((c.read (pos i)).1 (known_id i m.table.channel_count b)).1 (rw sampling)).1 (rw at (and-false (not (eqb y.source k))))).1 (rw at)).1 (rw here) in
-      (λ t. rw (le-leb (m.t - x.written) y.refresh (omega arith)) at g, λ t. rw (lt-leb (m.t - x.written) y.refresh (omega arith)) at g)
+      (λ t. rw (here, le-leb (m.t - z.written) y.refresh (omega arith)) at g, λ t. rw (here, lt-leb (m.t - z.written) y.refresh (omega arith)) at g)
 
   -- ---------------------------------------------------------------- time-out 0
   suspend_self_corner : p.mode ≡ 3 → p.level ≡ 0 → (process (running p) p).given.period ≡ None → Gives m (call_by k 8 (pos 0) (pos 0) (pos 0) (pos 0)) 0 0 (Some 0) m

@@ -177,17 +177,17 @@ each_alike f g (suc n) id p same =
     let other = process_other p id (g (process id p)) y (λ e. omega arith) in
     rw other (same y (omega arith) (omega arith)))
 
-kept_length : (T : Table) (k n : ℕ) (l : List Message) → length (Ch.kept_to T k n l) ≡ length l
+kept_length : (T : Table) (k n : ℕ) (l : List (Option Message)) → length (Ch.kept_to T k n l) ≡ length l
 unfolding Ch.kept_to
 kept_length T k zero l = refl
-kept_length T k (suc n) l = by_test (λ (r : List Message). length r ≡ length l) (eqb (channel T n).destination k) (λ _. simp length-set (kept_length T k n l)) (λ _. kept_length T k n l)
+kept_length T k (suc n) l = by_test (λ (r : List (Option Message)). length r ≡ length l) (eqb (channel T n).destination k) (λ _. simp length-set (kept_length T k n l)) (λ _. kept_length T k n l)
 
 -- the messages without those on channels into a partition, at each place
-kept_in : (T : Table) (k n : ℕ) (l : List Message) (j : ℕ) → j < length l → get_or (Ch.kept_to T k n l) j D.no_message ≡ cond (ltb j n && eqb (channel T j).destination k) D.no_message (get_or l j D.no_message)
+kept_in : (T : Table) (k n : ℕ) (l : List (Option Message)) (j : ℕ) → j < length l → get_or (Ch.kept_to T k n l) j D.no_message ≡ cond (ltb j n && eqb (channel T j).destination k) D.no_message (get_or l j D.no_message)
 unfolding Ch.kept_to
 kept_in T k zero l j h = rw (le-ltb j 0 (omega arith))
 kept_in T k (suc n) l j h =
-    by_test (λ (r : List Message). get_or r j D.no_message ≡ cond (ltb j (suc n) && eqb (channel T j).destination k) D.no_message (get_or l j D.no_message)) (eqb (channel T n).destination k)
+    by_test (λ (r : List (Option Message)). get_or r j D.no_message ≡ cond (ltb j (suc n) && eqb (channel T j).destination k) D.no_message (get_or l j D.no_message)) (eqb (channel T n).destination k)
     (λ q. ⊎_elim
     (λ (e : j ≡ n). rw (e, lt-ltb n (suc n) (omega arith), q) (get_or-set_same (Ch.kept_to T k n l) n D.no_message D.no_message (rw (kept_length T k n l) (omega arith))))
     (λ (ne : j ≡ n → ⊥). get_or-set_other (Ch.kept_to T k n l) n j D.no_message D.no_message ne ∙ kept_in T k n l j h ∙ ap (λ b. cond (b && eqb (channel T j).destination k) D.no_message (get_or l j D.no_message)) (below ne))
@@ -202,26 +202,26 @@ kept_in T k (suc n) l j h =
         (λ e. rw (e, lt-ltb j (suc n) (omega (arith, ltb-true j n e))))
         (λ e. rw (e, le-ltb j (suc n) (omega (arith, ltb-false j n e, ne))))
 
-pub kept_at : (T : Table) (k n : ℕ) (l : List Message) (j : ℕ) → get_or (Ch.kept_to T k n l) j D.no_message ≡ cond (ltb j n && eqb (channel T j).destination k) D.no_message (get_or l j D.no_message)
+pub kept_at : (T : Table) (k n : ℕ) (l : List (Option Message)) (j : ℕ) → get_or (Ch.kept_to T k n l) j D.no_message ≡ cond (ltb j n && eqb (channel T j).destination k) D.no_message (get_or l j D.no_message)
 kept_at T k n l j = either (ltb j (length l))
     (λ e. kept_in T k n l j (ltb-true j (length l) e))
     (λ e.
     let past = ltb-false j (length l) e in
     get_or-eq_default (Ch.kept_to T k n l) D.no_message (rw (kept_length T k n l) past)
-    ∙ sym (rw (get_or-eq_default l D.no_message past) (by_test (λ (x : Message). x ≡ D.no_message) (ltb j n && eqb (channel T j).destination k) (λ _. refl) (λ _. refl))))
+    ∙ sym (rw (get_or-eq_default l D.no_message past) (by_test (λ (x : Option Message). x ≡ D.no_message) (ltb j n && eqb (channel T j).destination k) (λ _. refl) (λ _. refl))))
 
-without_size : (T : Table) (k i : ℕ) (l : List Message) → length (without_into T k i l) ≡ length l
+without_size : (T : Table) (k i : ℕ) (l : List (Option Message)) → length (without_into T k i l) ≡ length l
 unfolding without_into
 without_size T k i [] = refl
 without_size T k i (x ∷ l) = ap suc (without_size T k (i + 1) l)
 
-without_at : (T : Table) (k i : ℕ) (l : List Message) (j : ℕ) → j < length l → get_or (without_into T k i l) j D.no_message ≡ cond (eqb (channel T (i + j)).destination k) D.no_message (get_or l j D.no_message)
+without_at : (T : Table) (k i : ℕ) (l : List (Option Message)) (j : ℕ) → j < length l → get_or (without_into T k i l) j D.no_message ≡ cond (eqb (channel T (i + j)).destination k) D.no_message (get_or l j D.no_message)
 unfolding without_into
 without_at T k i [] j h = absurd (omega arith)
 without_at T k i (x ∷ l) zero h = let e : i ≡ i + 0 = omega arith in ap (λ n. cond (eqb (channel T n).destination k) D.no_message x) e
 without_at T k i (x ∷ l) (suc j) h = let e : i + 1 + j ≡ i + suc j = omega arith in without_at T k (i + 1) l j (omega arith) ∙ ap (λ n. cond (eqb (channel T n).destination k) D.no_message (get_or l j D.no_message)) e
 
-erased_is : (T : Table) (k : ℕ) (l : List Message) → length l ≡ channel_limit → Ch.kept_to T k channel_limit l ≡ without_into T k 0 l
+erased_is : (T : Table) (k : ℕ) (l : List (Option Message)) → length l ≡ channel_limit → Ch.kept_to T k channel_limit l ≡ without_into T k 0 l
 erased_is T k l size = ext_get_or D.no_message (Ch.kept_to T k channel_limit l) (without_into T k 0 l) (kept_length T k channel_limit l ∙ sym (without_size T k 0 l)) (λ j h.
     let lt : j < length l = rw (kept_length T k channel_limit l) at h in
     let z : 0 + j ≡ j = omega arith in
@@ -536,7 +536,7 @@ module _ (m : Module) (k : ℕ) (u : SoundModule m) (h : Calling m k) where
   write_law : Write m k
   unfolding call_decision services stray_field D.checked Passed D.awaiting Ch.channel_checks Ch.write
   write_law (pos j) a = by_then 21 j a (pos 0) (pos 0) (omega arith) (omega arith) count few_channels _ _ refl (λ t. rw ((lossless (pos j)).between 1 count few_channels, t)) (λ f r.
-      by_list 21 (pos j) a (pos 0) (pos 0) (omega arith) (omega arith) refl _ (Written (j - 1) (record { present = true; value = number_of (field a); written = m.t })) _
+      by_list 21 (pos j) a (pos 0) (pos 0) (omega arith) (omega arith) refl _ (Written (j - 1) (record { value = number_of (field a); written = m.t })) _
       (rw (f, exists j r, kind j r, (lossless a).between 0 duration_limit (omega arith)))
       (λ q g. rw (number_in 0 duration_limit a (omega arith) (not-false _ q.1.1.1.0)) at g))
   write_law (negsuc j) a = by_none 21 j a (pos 0) (pos 0) (omega arith) (omega arith) count few_channels _ _ refl (rw ((lossless (negsuc j)).between 1 count few_channels))
@@ -546,7 +546,8 @@ module _ (m : Module) (k : ℕ) (u : SoundModule m) (h : Calling m k) where
   read_law (pos j) = by_then 22 j (pos 0) (pos 0) (pos 0) (omega arith) (omega arith) count few_channels _ _ refl (λ t. rw ((lossless (pos j)).between 1 count few_channels, t)) (λ f r.
       let c = channel m.table (j - 1) in
       let x = message m (j - 1) in
-      by_list 22 (pos j) (pos 0) (pos 0) (pos 0) (omega arith) (omega arith) refl _ (Unchanged x.value (Some (cond (leb (m.t - x.written) c.refresh) 1 0))) _
+      let y = unwrap_or x (record { value = 0; written = 0 }) in
+      by_list 22 (pos j) (pos 0) (pos 0) (pos 0) (omega arith) (omega arith) refl _ (Unchanged y.value (Some (cond (leb (m.t - y.written) c.refresh) 1 0))) _
       (either (eqb c.destination k) (λ d. rw (f, exists j r, kind j r, d)) (λ d. rw (f, exists j r, kind j r, d))) (λ _ g. g))
   read_law (negsuc j) = by_none 22 j (pos 0) (pos 0) (pos 0) (omega arith) (omega arith) count few_channels _ _ refl (rw ((lossless (negsuc j)).between 1 count few_channels))
 
@@ -862,7 +863,7 @@ module _ (m : Module) (k : ℕ) (u : SoundModule m) (h : Calling m k) where
   restarted_is mode low =
       let erased = Ch.erased_to k channel_limit m in
       refilled_all k _ (part_sound erased (erased_sound k channel_limit m (omega arith) u) (k - 1) (calling_place m k u h) (nothing_created mode) (nothing_valid m.table.frame m.t mode low))
-      ∙ ap (λ (l : List Message). plain_refilled_to k m.table.channel_count (with_part (k - 1) (nothing_created mode) (with_messages l m))) (erased_is m.table k m.messages u.messages_size)
+      ∙ ap (λ (l : List (Option Message)). plain_refilled_to k m.table.channel_count (with_part (k - 1) (nothing_created mode) (with_messages l m))) (erased_is m.table k m.messages u.messages_size)
 
   set_mode_law : SetMode m k
   unfolding call_decision services stray_field D.checked Passed C.set_mode

@@ -1,4 +1,5 @@
 -- The mistakes to shut out, proved, and the whole list of starred cases. Assumes nothing.
+use Rattle.std.specs.Prelude.{Option}
 use Prim.Native.Nat.{ℕ, zero, suc, ◌+◌, ◌-◌, ◌*◌, ◌≤◌, ◌<◌}
 use mathlib.Core.Path.{◌≡◌, refl, sym, ap, ◌∙◌}
 use mathlib.Core.Bool.{Bool, true, false, cond, not, ◌||◌, and-false, or-true, ◌&&◌}
@@ -125,7 +126,7 @@ restart_keeps m e i w d =
     let made = call_decision (St.context_of m k) x (number_of r.call) r (M.part m (k - 1)) in
     let body = (call_body x (number_of r.call) (St.context_of m k) r (M.part m (k - 1)) u.0 u.1).is in
     by_decision m k made (λ (y : Module). M.message y i ≡ M.message m i) refl ticked refl
-    (ap (λ (l : List Message). get_or l i D.no_message) (refilled_messages k channel_limit _) ∙ erased_other k channel_limit m i (ne_eqb _ k (λ s. d (number_of_holds e.partition q.some ∙ ap pos (sym s)))))
+    (ap (λ (l : List (Option Message)). get_or l i D.no_message) (refilled_messages k channel_limit _) ∙ erased_other k channel_limit m i (ne_eqb _ k (λ s. d (number_of_holds e.partition q.some ∙ ap pos (sym s)))))
     (λ j y s. absurd (w (number_of_holds e.call (λ z. omega (arith, u.0)) ∙ ap pos (left_by x (number_of r.call) made j y s body).call)))
     (λ j a v s. by_test (λ (y : Module). M.message y i ≡ M.message m i) (ends_wait a) (λ _. refl) (λ _. refl))
   where
@@ -301,7 +302,7 @@ module _ (m : Module) (k : ℕ) (u : SoundModule m) (h : Calling m k) where
 
     restart_is : let e = call_by k 1 (pos mode) (pos 0) (pos 0) (pos 0) in
         ((St.step m e).answer.code ≡ 0) × (own (St.step m e).state k ≡ nothing_created mode)
-        × ((i : ℕ) → i < m.table.channel_count → (M.channel m.table i).destination ≡ k → (M.message (St.step m e).state i).present ≡ false)
+        × ((i : ℕ) → i < m.table.channel_count → (M.channel m.table i).destination ≡ k → M.message (St.step m e).state i ≡ None)
         × ((i : ℕ) → ((M.channel m.table i).destination ≡ k → ⊥) → M.message (St.step m e).state i ≡ M.message m i)
         × ((i : ℕ) → i < m.table.channel_count → ((M.channel m.table i).size ≡ 0 → ⊥) → (M.channel m.table i).destination ≡ k
         → let c = M.channel m.table i in
@@ -326,8 +327,8 @@ module _ (m : Module) (k : ℕ) (u : SoundModule m) (h : Calling m k) where
         get_or-set_other m.partitions (k - 1) ((M.channel m.table i).source - 1) p M.no_partition (λ z. c.apart (omega (arith, c.source.0, c.destination.0, d))) in (
           g.code_is,
           ap (λ (n : Module). own n k) g.state ∙ own_restarted mode (omega arith),
-          λ i b d. ap (λ (n : Module). (M.message n i).present) g.state ∙ ap (λ (l : List Message). (get_or l i D.no_message).present) messages ∙ ap (λ (x : Message). x.present) (erased_own k channel_limit m i (omega (arith, u.table.channel_count)) d),
-          λ i ne. ap (λ (n : Module). M.message n i) g.state ∙ ap (λ (l : List Message). get_or l i D.no_message) messages ∙ erased_other k channel_limit m i (ne_eqb _ k ne),
+          λ i b d. ap (λ (n : Module). M.message n i) g.state ∙ ap (λ (l : List (Option Message)). get_or l i D.no_message) messages ∙ (erased_own k channel_limit m i (omega (arith, u.table.channel_count)) d),
+          λ i ne. ap (λ (n : Module). M.message n i) g.state ∙ ap (λ (l : List (Option Message)). get_or l i D.no_message) messages ∙ erased_other k channel_limit m i (ne_eqb _ k ne),
           λ i b full d.
               let f = fills i b full d in
               ap (λ (n : Module). held (M.queue n i)) g.state ∙ ap held (refilled_queue k q w i f channel_limit f.few) ∙ held_queue_of _ ∙ ap (λ (x : Partition). map (λ id. carried (process id x)) (take (M.channel m.table i).size (waiters (object (Source (i + 1) 0)) x))) (source i b d),

@@ -1,4 +1,5 @@
 -- What the code asks of a decision, for the contracts of `decisions`. The machine asks none of it.
+use Rattle.std.specs.Prelude.{Option, Some}
 use Rattle.std.specs.Prelude.{ℕ, Bool, true, false}
 use Rattle.machine.specs.declared.Change.{Change}
 use Rattle.machine.specs.declared.Change.TheVariants.{Nothing, Stored}
@@ -76,14 +77,14 @@ message_at (Written i x) = i
 message_at (Passed i a value) = channel_limit
 
 -- the message that it leaves there
-abbrev pub message_of : Decision → Message
+abbrev pub message_of : Decision → Option Message
 message_of (Refused code) = no_message
 message_of (Unchanged value extra) = no_message
 message_of Ticked = no_message
 message_of (Blocked id x) = no_message
 message_of (Changed a b value) = no_message
 message_of (Restarted mode) = no_message
-message_of (Written i x) = x
+message_of (Written i x) = Some x
 message_of (Passed i a value) = no_message
 
 -- the place of the channel on which it makes a transfer; past the last for none

@@ -150,10 +150,9 @@ pub struct Table {
     pub channel_count: u8,
 }
 
-// What a sampling channel holds.
+// The message on a sampling channel, and when it was written.
 #[derive(Clone, Copy)]
 pub struct Message {
-    pub present: bool,
     pub value: u32,
     pub written: u32,
 }
@@ -162,7 +161,7 @@ pub struct Message {
 pub struct Module {
     pub table: Table,
     pub t: u32,
-    pub messages: [Message; Module::CHANNELS],
+    pub messages: [Option<Message>; Module::CHANNELS],
     pub queues: [Queue; Module::CHANNELS],
     pub partitions: [Partition; Module::PARTITIONS],
 }
@@ -324,7 +323,7 @@ pub struct Port {
     pub place: u32,
     pub exists: bool,
     pub channel: Channel,
-    pub message: Message,
+    pub message: Option<Message>,
     pub traffic: Traffic,
 }
 
@@ -465,11 +464,7 @@ impl Module {
         Module {
             table,
             t: 0,
-            messages: [Message {
-                present: false,
-                value: 0,
-                written: 0,
-            }; Module::CHANNELS],
+            messages: [None; Module::CHANNELS],
             queues: [q; Module::CHANNELS],
             partitions: [p; Module::PARTITIONS],
         }
@@ -485,11 +480,7 @@ impl Module {
         Module {
             table: t,
             t: 0,
-            messages: [Message {
-                present: false,
-                value: 0,
-                written: 0,
-            }; Module::CHANNELS],
+            messages: [None; Module::CHANNELS],
             queues: [q; Module::CHANNELS],
             partitions: [p; Module::PARTITIONS],
         }

@@ -1,6 +1,7 @@
 -- What every event answers before its body, and what each call does, as claims about `step`: its checks in the order written, then the answer and the
 -- whole record after it. The premises speak of the event's numbers and of the record in which the call comes to its body. Each call stands here once,
 -- in the order of the documents; what the claims share with the machine's definitions is said in `Terms`.
+use Rattle.std.specs.Prelude.{is_none}
 use Rattle.std.specs.Prelude.{Option, is_some, unwrap_or}
 use Rattle.std.specs.Prelude.{ℕ, ◌+◌, ◌-◌, ◌%◌, ◌<◌, ◌≡◌, Bool, true, false, cond, not, ◌&&◌, ◌||◌, List, [], ◌∷◌, ◌++◌, map, get_or, set, take, leb, ltb, eqb, ℤ, pos, negsuc}
 use Rattle.machine.specs.declared.Process.{Process}
@@ -145,9 +146,9 @@ entering t r x =
     x
 
 -- messages on channels into partition k erased, from channel number i + 1 on
-unfoldable pub without_into : Table → ℕ → ℕ → List Message → List Message
+unfoldable pub without_into : Table → ℕ → ℕ → List (Option Message) → List (Option Message)
 without_into T k i [] = []
-without_into T k i (x ∷ l) = cond (eqb (channel T i).destination k) (record { present = false; value = 0; written = 0 }) x ∷ without_into T k (i + 1) l
+without_into T k i (x ∷ l) = cond (eqb (channel T i).destination k) None x ∷ without_into T k (i + 1) l
 
 -- Modes 0, 1, 2: nothing is created in partition k, no message lies on a sampling channel into it; queuing channels into it are emptied, and waiting senders
 -- let in until it is full, channels by ascending number
@@ -342,12 +343,13 @@ WaitEvent m k = (j a : ℤ) → let p = own m k in
 -- 21 WRITE channel, a. 3: a not in D. Stores a and t. 22 READ channel. 1: no message. Value a, extra 1 if t − written ≤ refresh, else 0
 abbrev pub Write : Module → ℕ → Type 0
 Write m k = (i a : ℤ) → let e = call_by k 21 i a (pos 0) (pos 0) in
-    Checks m e (channel_tests m k i true (λ c. c.source) ++ ((not (in_d a), 3) ∷ [])) (Gives m e 0 0 (Some 0) (with_message (id_of i - 1) (record { present = true; value = id_of a; written = m.t }) m))
+    Checks m e (channel_tests m k i true (λ c. c.source) ++ ((not (in_d a), 3) ∷ [])) (Gives m e 0 0 (Some 0) (with_message (id_of i - 1) (Some (record { value = id_of a; written = m.t })) m))
 
 abbrev pub Read : Module → ℕ → Type 0
 Read m k = (i : ℤ) → let x = message m (id_of i - 1) in
+    let y = unwrap_or x (record { value = 0; written = 0 }) in
     let e = call_by k 22 i (pos 0) (pos 0) (pos 0) in
-    Checks m e (channel_tests m k i true (λ c. c.destination) ++ ((not x.present, 1) ∷ [])) (Gives m e 0 x.value (Some (cond (leb (m.t - x.written) (channel m.table (id_of i - 1)).refresh) 1 0)) m)
+    Checks m e (channel_tests m k i true (λ c. c.destination) ++ ((is_none x, 1) ∷ [])) (Gives m e 0 y.value (Some (cond (leb (m.t - y.written) (channel m.table (id_of i - 1)).refresh) 1 0)) m)
 
 -- 23 CREATE_BUFFER name, limit
 abbrev pub CreateBuffer : Module → ℕ → Type 0

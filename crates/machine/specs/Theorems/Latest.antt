@@ -31,10 +31,10 @@ done k n j r = is_call k n r.event && (plain_number j r.event.a && eqb r.answer.
 
 -- ---------------------------------------------------------------- what each leaves
 -- channel number i + 1: a WRITE of its source leaves the message and the time, an accepted mode 0 to 2 of its destination none
-abbrev pub written : Channel → ℕ → EventRecord → Message → Message
+abbrev pub written : Channel → ℕ → EventRecord → Option Message → Option Message
 written c i r x =
-    cond (done c.source 21 (i + 1) r) (record { present = true; value = message_in r.event.b; written = r.answer.t })
-    (cond (restarts_by c.destination r.event r.answer.code) (record { present = false; value = 0; written = 0 }) x)
+    cond (done c.source 21 (i + 1) r) (Some (record { value = message_in r.event.b; written = r.answer.t }))
+    (cond (restarts_by c.destination r.event r.answer.code) None x)
 
 -- blackboard j of partition k: SHOW shows a message, CLEAR none
 abbrev pub shows : ℕ → ℕ → EventRecord → Option ℕ → Option ℕ
@@ -46,8 +46,8 @@ sets k j r x = cond (done k 18 j r) true (cond (done k 19 j r) false x)
 
 -- ---------------------------------------------------------------- since when
 -- the message of channel number i + 1 over a list of events, from the fresh module on
-abbrev pub last_written : Module → ℕ → List Event → Message
-last_written m i es = along (written (channel m.table i) i) (record { present = false; value = 0; written = 0 }) (answers m es)
+abbrev pub last_written : Module → ℕ → List Event → Option Message
+last_written m i es = along (written (channel m.table i) i) None (answers m es)
 
 -- what blackboard j shows, whether event j is UP, over a list of events from its creation on
 abbrev pub last_shown : Module → ℕ → ℕ → List Event → Option ℕ
@@ -74,8 +74,8 @@ pub record Latest : Type 0 where
       let x = last_written m i es in
       let e = call_by k 22 (pos (i + 1)) (pos 0) (pos 0) (pos 0) in
       i < m.table.channel_count → c.size ≡ 0 → c.destination ≡ k → Calling q k
-      → (x.present ≡ false → Refuses q e 1)
-      × (x.present ≡ true → Gives q e 0 x.value (Some (cond (leb (q.t - x.written) c.refresh) 1 0)) q)
+      → (x ≡ None → Refuses q e 1)
+      × ((y : Message) → x ≡ Some y → Gives q e 0 y.value (Some (cond (leb (q.t - y.written) c.refresh) 1 0)) q)
   -- a blackboard shows the message of the last SHOW answered 0 since its creation, none where a CLEAR came later or there was no SHOW
   pub board : (input : List ℕ) (before : List Event) (k j : ℕ) (name : ℤ) (es : List Event) → let m = after (read_table input).state before in
       let s = next m (call_by k 26 name (pos 0) (pos 0) (pos 0)) in

@@ -242,7 +242,7 @@ plain_after m k Ticked = plain_ticked m
 plain_after m k (Blocked id x) = with_part (k - 1) (plain_stored id x (part m (k - 1))) m
 plain_after m k (Changed a b value) = with_part (k - 1) (plain_applied b (plain_applied a (part m (k - 1)))) m
 plain_after m k (Restarted mode) = plain_refilled_to k m.table.channel_count (with_part (k - 1) (nothing_created mode) (erased_to k channel_limit m))
-plain_after m k (Written i x) = with_message i x m
+plain_after m k (Written i x) = with_message i (Some x) m
 plain_after m k (Passed i a value) = plain_passed k i a m
 
 -- what it stores has its place: in the partition's lists, and a message on a channel of the table

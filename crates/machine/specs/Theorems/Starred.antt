@@ -2,6 +2,7 @@
 -- `step`: each for every reached record, table and event to which it applies, with what the answer and the record then hold; the worked
 -- example, its continuation and the examples of releases inside a frame, of the preemption lock, of ticks left, of a restart and of a line that is no
 -- event as computed runs from bytes. The premises speak of an event's numbers, the table, the record, the current partition and the running process.
+use Rattle.machine.specs.declared.Message.{Message}
 use Rattle.std.specs.Prelude.{ℕ, suc, ◌+◌, ◌-◌, ◌*◌, ◌/◌, ◌%◌, ◌≤◌, ◌<◌, ◌≡◌, Bool, true, false, cond, List, [], ◌∷◌, ◌++◌, map, take, ℤ, pos}
 use Rattle.machine.specs.declared.Given.{Given}
 use Rattle.machine.specs.declared.Process.{Process}
@@ -199,9 +200,9 @@ pub record Corners (m : Module) (k : ℕ) : Type 0 where
   -- age refresh/refresh + 1, of a sampling channel
   pub age : (i : ℕ) → let x = message m (i - 1) in
       let refresh = (channel m.table (i - 1)).refresh in
-      Between 1 m.table.channel_count i → (channel m.table (i - 1)).size ≡ 0 → (channel m.table (i - 1)).destination ≡ k → x.present ≡ true
-      → (m.t ≡ x.written + refresh → Gives m (call_by k 22 (pos i) (pos 0) (pos 0) (pos 0)) 0 x.value (Some 1) m)
-      × (m.t ≡ x.written + refresh + 1 → Gives m (call_by k 22 (pos i) (pos 0) (pos 0) (pos 0)) 0 x.value (Some 0) m)
+      Between 1 m.table.channel_count i → (channel m.table (i - 1)).size ≡ 0 → (channel m.table (i - 1)).destination ≡ k → (y : Message) → x ≡ Some y
+      → (m.t ≡ y.written + refresh → Gives m (call_by k 22 (pos i) (pos 0) (pos 0) (pos 0)) 0 y.value (Some 1) m)
+      × (m.t ≡ y.written + refresh + 1 → Gives m (call_by k 22 (pos i) (pos 0) (pos 0) (pos 0)) 0 y.value (Some 0) m)
   -- timeout 0: SUSPEND_SELF changes nothing and TIMED_WAIT puts the caller last (both at level 0 of the preemption lock), WAIT_SEMAPHORE and
   -- WAIT_EVENT answer 2 where they would wait, and succeed where they need not; the calls of document 02 that wait answer 2 too (30 and 31, and the three
   -- while preemption is locked: `EachCall`)
@@ -302,7 +303,7 @@ pub record Mistakes : Type 0 where
   pub restarted : (m : Module) (k : ℕ) → Calling m k → (mode : ℕ) → mode ≤ 2 → (mode ≡ 2 → (own m k).mode ≡ 1 → ⊥)
       → let e = call_by k 1 (pos mode) (pos 0) (pos 0) (pos 0) in
       ((step m e).answer.code ≡ 0) × (own (step m e).state k ≡ nothing_created mode)
-      × ((i : ℕ) → i < m.table.channel_count → (channel m.table i).destination ≡ k → (message (step m e).state i).present ≡ false)
+      × ((i : ℕ) → i < m.table.channel_count → (channel m.table i).destination ≡ k → message (step m e).state i ≡ None)
       × ((i : ℕ) → ((channel m.table i).destination ≡ k → ⊥) → message (step m e).state i ≡ message m i)
       × ((i : ℕ) → i < m.table.channel_count → ((channel m.table i).size ≡ 0 → ⊥) → (channel m.table i).destination ≡ k
       → let c = channel m.table i in

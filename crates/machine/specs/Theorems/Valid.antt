@@ -1,5 +1,7 @@
 -- What holds of every record that a run reaches, said once, and the plain definitions that such records meet. Nothing of the machine
 -- rests on it.
+use Rattle.machine.specs.Decisions.{blank_message}
+use Rattle.std.specs.Prelude.{Option}
 use Rattle.std.specs.Prelude.{unwrap_or}
 use Rattle.std.specs.Prelude.{ℕ, ◌+◌, ◌-◌, ◌%◌, ◌≤◌, ◌<◌, ◌≡◌, Bool, true, false, cond, ◌&&◌, ◌||◌, List, [], ◌∷◌, ◌++◌, ◌⊎◌, length, eqb}
 use Rattle.machine.specs.Time.{Time}
@@ -312,9 +314,9 @@ pub record SoundContext (c : Context) (p : Partition) : Type 0 where
   pub caller : c.caller ≡ running p
   pub calls : no_caller p ≡ false
 
-pub record SoundMessage (t : ℕ) (x : Message) : Type 0 where
-  pub value : x.value ≤ duration_limit
-  pub written : x.written ≤ t
+pub record SoundMessage (t : ℕ) (x : Option Message) : Type 0 where
+  pub value : (unwrap_or x blank_message).value ≤ duration_limit
+  pub written : (unwrap_or x blank_message).written ≤ t
 
 -- ---------------------------------------------------------------- decisions
 -- the next process, DORMANT
@@ -378,7 +380,7 @@ SoundDecision c p Ticked = Unit {0}
 SoundDecision c p (Blocked id x) = SoundChange c p (Stored id x)
 SoundDecision c p (Changed a b value) = SoundChange c p a × SoundChange c (applied a p) b × (value ≤ number_limit)
 SoundDecision c p (Restarted mode) = mode ≤ mode_limit
-SoundDecision c p (Written i x) = SoundMessage c.time x
+SoundDecision c p (Written i x) = SoundMessage c.time (Some x)
 SoundDecision c p (Passed i a value) = value ≤ number_limit
 
 -- the running process id where preemption is not locked: READY, every member of the arrival list before it of smaller current priority, every

@@ -1,4 +1,5 @@
 -- The account of a buffer, for every list of events from a fresh module. Assumes nothing.
+use Rattle.machine.specs.Mode.{mode_number}
 use Prim.Native.Nat.{ℕ, ◌+◌, ◌-◌, ◌≤◌, ◌<◌}
 use mathlib.Core.Path.{◌≡◌, refl, ap, sym, ◌∙◌}
 use mathlib.Core.Bool.{true, false, not, ◌&&◌, and-false, or-true}
@@ -248,7 +249,7 @@ module _ (k j : ℕ) (m : Module) (s : SoundModule m) (e : EventT) (es : List Ev
     other_leaves Ticked h b = absurd b
     other_leaves (Blocked id y) h b = rw (other_own (stored id y (part m (i - 1)))) same_leaves
     other_leaves (Changed a y v) h b = rw (other_own (applied y (applied a (part m (i - 1))))) same_leaves
-    other_leaves (Restarted mode) h b = restart_leaves 3 j of_buffers low m s (request_of e) c k inside mode h ne some (λ _ _ z. omega (arith, low))
+    other_leaves (Restarted mode) h b = restart_leaves 3 j of_buffers low m s (request_of e) c k inside (mode_number mode) h ne some (λ _ _ z. omega (arith, low))
     other_leaves (Written a y) h b = same_leaves
     other_leaves (PassedOn a y v) h b = passed_leaves 3 j of_buffers low m s (request_of e) c k inside a y v b (other_queue_holds m s e c a y v b j low)
 

@@ -1,7 +1,6 @@
 -- Calls 26 to 29, of blackboards: what is shown of each. Assumes nothing.
 use Rattle.std.specs.Prelude.{Some, None}
 use mathlib.Core.Path.{refl}
-use mathlib.Core.Bool.{true, false}
 use native.Mathlib.Omega.{arith}
 use borrow.Author.Tests.{leb-false, not-false}
 use Rattle.machine.specs.declared.Wait.TheVariants.{Blackboard}

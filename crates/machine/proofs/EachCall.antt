@@ -1,4 +1,8 @@
 -- What each call does: its checks in the order written, and the whole record after it. Assumes nothing.
+use Rattle.machine.specs.Mode.{mode_numbered}
+use Rattle.machine.proofs.ModeNumbers.{numbered_back}
+use Rattle.machine.specs.Mode.{mode_number}
+use Rattle.machine.specs.declared.Mode.TheVariants.{Normal as NormalMode}
 use Rattle.std.specs.Prelude.{Option, is_some, unwrap_or}
 use Prim.Native.Nat.{ℕ, zero, suc, ◌+◌, ◌-◌, ◌%◌, ◌≤◌, ◌<◌, max}
 use mathlib.Core.Path.{◌≡◌, refl, sym, ap, ◌∙◌, ap₂}
@@ -320,7 +324,7 @@ module _ (m : Module) (k : ℕ) (u : SoundModule m) (h : Calling m k) where
   timeout_is a = let l = lossless a in rw (l.is_minus_one, l.between 0 duration_limit (omega arith))
 
   -- the caller of a NORMAL partition
-  caller : p.mode ≡ 3 → (Between 1 p.process_count (running p)) × (ready (process (running p) p) ≡ true)
+  caller : mode_number p.mode ≡ 3 → (Between 1 p.process_count (running p)) × (ready (process (running p) p) ≡ true)
   caller n = let c = running_caller p v.lists v.lock (h.runs n) in (c.created, c.is_ready)
 
   suspend_self_law : SuspendSelf m k
@@ -412,19 +416,19 @@ module _ (m : Module) (k : ℕ) (u : SoundModule m) (h : Calling m k) where
   -- a call that waits
   module _ (n : ℕ) (x y z e : ℤ) (lo : 1 ≤ n) (hi : n ≤ call_limit) (stray : stray_field (service_of n).fields (asked m k u h n (field x) (field y) (field z) (field e)) ≡ false) where
     waiting : (a : ℤ) (before : List (Bool × ℕ)) (ok available : Bool) (success : Decision) (w : Wait) (S : Type 0)
-        → decides m k u h n x y z e lo hi ≡ D.checked Refused (before ++ ((not (eqb p.mode 3), 5) ∷ (not ok, 3) ∷ [])) (cond available success (D.queued (context_of m k) (field a) w p))
+        → decides m k u h n x y z e lo hi ≡ D.checked Refused (before ++ ((not (eqb (mode_number p.mode) 3), 5) ∷ (not ok, 3) ∷ [])) (cond available success (D.queued (context_of m k) (field a) w p))
         → (ok ≡ true → in_t a ≡ true)
         → (Passed before → ok ≡ true → available ≡ true → Gives m (call_by k n x y z e) (reply_of success).code (reply_of success).value (reply_of success).extra (module_after m k success) → S)
         → MayWait m k (call_by k n x y z e) before ok a available S w
     unfolding Passed D.queued D.blocked D.checked
     waiting a before ok available success w S is t f =
         by_list n x y z e lo hi stray _ (cond available success (D.queued (context_of m k) (field a) w p)) _ is (λ q g.
-        let passed = passed_parts before ((not (eqb p.mode 3), 5) ∷ (not ok, 3) ∷ []) q in
+        let passed = passed_parts before ((not (eqb (mode_number p.mode) 3), 5) ∷ (not ok, 3) ∷ []) q in
         let r = passed.1 in
         let until = until_plain a (t (not-false _ r.1.0)) in (
           λ av. f passed.0 (not-false _ r.1.0) av (rw av at g),
           λ av. by_list n x y z e lo hi stray _ (Blocked (running p) (waiting_for w (plain_later (Some m.t) (time_in a)) (process (running p) p))) _
-              (is ∙ passed_is (before ++ ((not (eqb p.mode 3), 5) ∷ (not ok, 3) ∷ [])) (cond available success (D.queued (context_of m k) (field a) w p)) q ∙ rw (av, until, (lossless a).is_number 0 (omega arith)))
+              (is ∙ passed_is (before ++ ((not (eqb (mode_number p.mode) 3), 5) ∷ (not ok, 3) ∷ [])) (cond available success (D.queued (context_of m k) (field a) w p)) q ∙ rw (av, until, (lossless a).is_number 0 (omega arith)))
               (λ _ g. puts_stored _ 7 (running p) _ (caller (eqb-true _ 3 (not-false _ r.0))).0 g),
         ))
 
@@ -852,11 +856,11 @@ module _ (m : Module) (k : ℕ) (u : SoundModule m) (h : Calling m k) where
       go None e = rw (aperiodic_is id (process id p).times.delay b low e, e)
       go (Some n) e = rw (released_is r f id (process id p).times.delay n b e low, e)
 
-  entered_normal_holds : (r : ℕ) → Release m.table k m.t r → entered_normal (context_of m k) p ≡ plain_each (entering m.t r) (with_mode_and_lock 3 0 0 p)
+  entered_normal_holds : (r : ℕ) → Release m.table k m.t r → entered_normal (context_of m k) p ≡ plain_each (entering m.t r) (with_mode_and_lock NormalMode 0 0 p)
   unfolding entered_normal
   entered_normal_holds r f =
-      each_alike (entered (context_of m k)) (entering m.t r) p.process_count 1 (with_mode 3 p) (λ y lo hi. entered_is r f y (lo, omega arith))
-      ∙ each_plain (entering m.t r) (with_mode 3 p) v.lists
+      each_alike (entered (context_of m k)) (entering m.t r) p.process_count 1 (with_mode NormalMode p) (λ y lo hi. entered_is r f y (lo, omega arith))
+      ∙ each_plain (entering m.t r) (with_mode NormalMode p) v.lists
 
   -- modes 0, 1, 2
   restarted_is : (mode : ℕ) → mode ≤ mode_limit → restarted k (nothing_created mode) m ≡ restarted_as k mode m
@@ -869,12 +873,12 @@ module _ (m : Module) (k : ℕ) (u : SoundModule m) (h : Calling m k) where
   unfolding call_decision services stray_field D.checked Passed C.set_mode
   set_mode_law a =
       let three = (lossless a).is_number 3 (omega arith) in
-      let d = cond (is_number 3 (field a)) (D.changed (Entered (context_of m k))) (Restarted (number_of (field a))) in
+      let d = cond (is_number 3 (field a)) (D.changed (Entered (context_of m k))) (Restarted (mode_numbered (number_of (field a)))) in
       by_list 1 a (pos 0) (pos 0) (pos 0) (omega arith) (omega arith) refl _ d _
       (rw ((lossless a).between 0 3 (omega arith), three, (lossless a).is_number 2 (omega arith))) (λ q g.
       let in_range_holds = not-false _ q.0 in (
         λ z r f. puts_is m k _ _ (rw (three, z) at g) (entered_normal_holds r f),
-        λ z. gives_is (rw (three, z, number_in 0 3 a (omega arith) in_range_holds) at g) (restarted_is (id_of a) (in_modes a in_range_holds)),
+        λ z. gives_is (rw (three, z, number_in 0 3 a (omega arith) in_range_holds, numbered_back (id_of a) (in_modes a in_range_holds)) at g) (restarted_is (id_of a) (in_modes a in_range_holds)),
       ))
 
 -- ---------------------------------------------------------------- every event

@@ -1,4 +1,5 @@
 -- What a call makes available was so before, or nobody waits for it. Assumes nothing.
+use Rattle.machine.specs.declared.Mode.TheVariants.{Normal as NormalMode}
 use Rattle.std.specs.Prelude.{is_some}
 use Prim.Native.Nat.{ℕ, ◌+◌, ◌-◌, ◌≤◌, ◌<◌}
 use mathlib.Core.Path.{◌≡◌, refl, ap, sym, ◌∙◌}
@@ -82,7 +83,7 @@ objects_stay (StoredBlackboard k b) h p v = absurd h
 objects_stay (Ended o) h p v = rest_objects p _ (changed_rest served (waiters o p) p)
 objects_stay (Handed o m) h p v = rest_objects p _ (changed_rest (handed m) (waiters o p) p)
 objects_stay (LevelSet level holder) h p v = record { semaphores = refl; events = refl; buffers = refl; blackboards = refl }
-objects_stay (Entered c) h p v = along_objects p (with_mode 3 p) _ (record { semaphores = refl; events = refl; buffers = refl; blackboards = refl }) (rest_objects (with_mode 3 p) _ (each_rest (entered c) (with_mode 3 p) v))
+objects_stay (Entered c) h p v = along_objects p (with_mode NormalMode p) _ (record { semaphores = refl; events = refl; buffers = refl; blackboards = refl }) (rest_objects (with_mode NormalMode p) _ (each_rest (entered c) (with_mode NormalMode p) v))
 
 pub available_same : (p q : Partition) → SameObjects p q → (kind k : ℕ) → available kind k q ≡ available kind k p
 available_same p q s kind k = rw (s.semaphores, s.events, s.buffers, s.blackboards)

@@ -1,4 +1,5 @@
 -- The module: records with nothing in them, reading the record, and the only four ways to change it.
+use Rattle.machine.specs.declared.Mode.TheVariants.{Idle}
 use Rattle.std.specs.Prelude.{Option}
 use Rattle.std.specs.Prelude.{ℕ, ◌-◌, cond, List, [], get_or, set, replicate, eqb}
 use Rattle.machine.specs.declared.Partition.{Partition}
@@ -20,7 +21,7 @@ no_channel = record { source = 0; destination = 0; refresh = 0; size = 0 }
 -- what stands past the end of a list of partitions
 abbrev pub no_partition : Partition
 no_partition = record {
-  mode = 0;
+  mode = Idle;
   level = 0;
   holder = 0;
   processes = [];

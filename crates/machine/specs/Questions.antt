@@ -1,4 +1,6 @@
 -- What the code asks of a decision, for the contracts of `decisions`. The machine asks none of it.
+use Rattle.machine.specs.declared.Mode.TheVariants.{Idle}
+use Rattle.machine.specs.declared.Mode.{Mode}
 use Rattle.std.specs.Prelude.{Option, Some}
 use Rattle.std.specs.Prelude.{ℕ, Bool, true, false}
 use Rattle.machine.specs.declared.Change.{Change}
@@ -34,15 +36,15 @@ restarts (Written i x) = false
 restarts (Passed i a value) = false
 
 -- the mode then
-abbrev pub mode_of : Decision → ℕ
-mode_of (Refused code) = 0
-mode_of (Unchanged value extra) = 0
-mode_of Ticked = 0
-mode_of (Blocked id x) = 0
-mode_of (Changed a b value) = 0
+abbrev pub mode_of : Decision → Mode
+mode_of (Refused code) = Idle
+mode_of (Unchanged value extra) = Idle
+mode_of Ticked = Idle
+mode_of (Blocked id x) = Idle
+mode_of (Changed a b value) = Idle
 mode_of (Restarted mode) = mode
-mode_of (Written i x) = 0
-mode_of (Passed i a value) = 0
+mode_of (Written i x) = Idle
+mode_of (Passed i a value) = Idle
 
 -- the two changes that it makes otherwise, in order
 abbrev pub first_change : Decision → Change

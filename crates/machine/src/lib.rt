@@ -1,7 +1,8 @@
 // The record of the executive, by value, and every limit, named once with the module.
 #![tactic(auto)]
 
-ghost use Rattle.std.specs.Prelude.{◌≡◌};
+ghost use Rattle.std.specs.Prelude.{◌≡◌, eqb};
+ghost use Rattle.machine.specs.Mode.{mode_number, mode_numbered};
 ghost use Rattle.machine.specs.Refusals.{code};
 ghost use Rattle.machine.specs.Messages.{no_queue};
 ghost use Rattle.machine.specs.Process.{blank_process};
@@ -101,11 +102,57 @@ pub struct Blackboard {
     pub message: Option<u32>,
 }
 
+// The mode of a partition: IDLE 0, COLD_START 1, WARM_START 2, NORMAL 3.
+#[derive(Clone, Copy, Debug, PartialEq, Eq)]
+pub enum Mode {
+    Idle,
+    ColdStart,
+    WarmStart,
+    Normal,
+}
+
+impl Mode {
+    pub fn number(self) -> u8
+        ensures { result ≡ mode_number self }
+    {
+        match self {
+            Mode::Idle => 0,
+            Mode::ColdStart => 1,
+            Mode::WarmStart => 2,
+            Mode::Normal => 3,
+        }
+    }
+
+    pub fn is_idle(self) -> bool
+        ensures { result ≡ eqb (mode_number self) 0 }
+    {
+        self == Mode::Idle
+    }
+
+    pub fn is_normal(self) -> bool
+        ensures { result ≡ eqb (mode_number self) 3 }
+    {
+        self == Mode::Normal
+    }
+
+    // NORMAL for every number past those of the others.
+    pub fn numbered(n: u32) -> Mode
+        ensures { result ≡ mode_numbered n }
+    {
+        match n {
+            0 => Mode::Idle,
+            1 => Mode::ColdStart,
+            2 => Mode::WarmStart,
+            _ => Mode::Normal,
+        }
+    }
+}
+
 // level: that of the preemption lock; holder: the process that raised it from 0, 0 at level 0. arrival: the READY processes. waiting: those
 // that wait on an object, in the order in which they began; the queue of an object is the part of it that waits for this object.
 #[derive(Clone, Copy)]
 pub struct Partition {
-    pub mode: u8,
+    pub mode: Mode,
     pub level: u8,
     pub holder: u8,
     pub processes: [Process; Module::PROCESSES],
@@ -366,7 +413,7 @@ pub enum Decision {
     Ticked,
     Blocked(u8, Process),
     Changed(Change, Change, u32),
-    Restarted(u8),
+    Restarted(Mode),
     Written(u32, Message),
     Passed(u32, Transfer, u32),
 }
@@ -571,7 +618,7 @@ impl Partition {
         let x = Process::blank();
         let b = Buffer::blank();
         Partition {
-            mode: 0,
+            mode: Mode::Idle,
             level: 0,
             holder: 0,
             processes: [x; Module::PROCESSES],
@@ -607,6 +654,9 @@ impl Partition {
         ensures { result ≡ fresh_partition }
     {
         let p = Partition::empty();
-        Partition { mode: 1, ..p }
+        Partition {
+            mode: Mode::ColdStart,
+            ..p
+        }
     }
 }

@@ -1,4 +1,5 @@
 -- What several pages of claims say: an event by its numbers, what it gives, and the record after it.
+use Rattle.machine.specs.Mode.{mode_number}
 use Rattle.std.specs.Prelude.{ℕ, ◌+◌, ◌-◌, ◌≤◌, ◌≡◌, true, false, ◌||◌, [], ◌∷◌, ◌++◌, set, ℤ, pos}
 use Rattle.machine.specs.declared.Given.{Given}
 use Rattle.machine.specs.declared.Ids.{Ids}
@@ -55,8 +56,8 @@ pub record Calling (m : Module) (k : ℕ) : Type 0 where
   pub reached : Reached m
   pub some : 1 ≤ k
   pub now : current m ≡ k
-  pub active : (own m k).mode ≡ 0 → ⊥
-  pub runs : (own m k).mode ≡ 3 → running (own m k) ≡ 0 → ⊥
+  pub active : mode_number (own m k).mode ≡ 0 → ⊥
+  pub runs : mode_number (own m k).mode ≡ 3 → running (own m k) ≡ 0 → ⊥
 
 -- ---------------------------------------------------------------- the record after
 -- process id, which waits on nothing before and after, has the record x; the arrival list is this one

@@ -1,6 +1,6 @@
 -- What reading a table gives, line by line, on the six numbers of each line.
 use Rattle.std.specs.Prelude.{None}
-use Rattle.std.specs.Prelude.{ℕ, suc, ◌+◌, ◌≤◌, ◌<◌, ◌≡◌, Bool, false, cond, not, ◌&&◌, true, List, [], ◌∷◌, set, replicate, get_or, length, leb, ltb, eqb}
+use Rattle.std.specs.Prelude.{ℕ, suc, ◌+◌, ◌≤◌, ◌<◌, ◌≡◌, Bool, cond, not, ◌&&◌, true, List, [], ◌∷◌, set, replicate, get_or, length, leb, ltb, eqb}
 use Rattle.machine.specs.declared.Numbers.{Numbers}
 use Rattle.machine.specs.declared.Draft.{Draft}
 use Rattle.machine.specs.declared.Reading.{Reading}

@@ -1,5 +1,6 @@
 -- What holds of every record that a run reaches, said once, and the plain definitions that such records meet. Nothing of the machine
 -- rests on it.
+use Rattle.machine.specs.Mode.{mode_number}
 use Rattle.machine.specs.Decisions.{blank_message}
 use Rattle.std.specs.Prelude.{Option}
 use Rattle.std.specs.Prelude.{unwrap_or}
@@ -298,7 +299,7 @@ abbrev pub LockIn : Partition → Type 0
 LockIn p = SoundLock p.level p.holder (normal_mode p) (ready (process p.holder p))
 
 pub record Valid (frame t : ℕ) (p : Partition) : Type 0 where
-  pub mode : p.mode ≤ mode_limit
+  pub mode : mode_number p.mode ≤ mode_limit
   pub lock : LockIn p
   pub lists : ListedIn p
   pub objects : ObjectsIn p
@@ -379,7 +380,7 @@ SoundDecision c p (Unchanged value extra) = SoundValue value extra
 SoundDecision c p Ticked = Unit {0}
 SoundDecision c p (Blocked id x) = SoundChange c p (Stored id x)
 SoundDecision c p (Changed a b value) = SoundChange c p a × SoundChange c (applied a p) b × (value ≤ number_limit)
-SoundDecision c p (Restarted mode) = mode ≤ mode_limit
+SoundDecision c p (Restarted mode) = mode_number mode ≤ mode_limit
 SoundDecision c p (Written i x) = SoundMessage c.time (Some x)
 SoundDecision c p (Passed i a value) = value ≤ number_limit
 

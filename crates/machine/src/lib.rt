@@ -1,13 +1,17 @@
 // The record of the executive, by value, and every limit, named once with the module.
 #![tactic(auto)]
 
-ghost use Rattle.std.specs.Prelude.{◌≡◌, eqb};
+ghost use Rattle.std.specs.Prelude.{◌≡◌, eqb, replicate};
 ghost use Rattle.machine.specs.Mode.{mode_number, mode_numbered};
 ghost use Rattle.machine.specs.Refusals.{code};
+ghost use Rattle.machine.specs.Limits.{channel_limit, partition_limit};
 ghost use Rattle.machine.specs.Messages.{no_queue};
+ghost use Rattle.machine.specs.Decisions.{no_message};
 ghost use Rattle.machine.specs.Process.{blank_process};
 ghost use Rattle.machine.specs.Partition.{no_buffer, fresh_partition, empty_partition};
 ghost use Rattle.machine.specs.Module.{empty_table, fresh_module, empty_module};
+
+mod conversions;
 
 // A time in ticks; −1 of document 01, which is never, is None.
 pub type Time = Option<u32>;
@@ -503,38 +507,37 @@ impl Module {
     // No limit of document 01: the greatest semaphore value that the record holds.
     pub const GREATEST: u16 = 65535;
     // The record that reading an accepted table gives.
+    #[tactic(auto, unfolding(crate::specs::Module::fresh_module))]
     pub fn fresh(table: Table) -> Module
         ensures { result ≡ fresh_module table }
     {
-        let p = Partition::fresh();
-        let q = Queue::empty();
+        Module::of_alike(table, Partition::fresh())
+    }
+
+    // The record that a refused table leaves: M, P and all else 0.
+    #[tactic(auto, unfolding(crate::specs::Module::empty_module))]
+    pub fn empty() -> Module
+        ensures { result ≡ empty_module }
+    {
+        Module::of_alike(Table::empty(), Partition::empty())
+    }
+
+    // At time 0, with this partition at every place and nothing on a channel.
+    fn of_alike(table: Table, partition: Partition) -> Module
+        ensures { result ≡ record { table = table; t = 0; messages = replicate channel_limit no_message; queues = replicate channel_limit no_queue; partitions = replicate partition_limit partition } }
+    {
         Module {
             table,
             t: 0,
             messages: [None; Module::CHANNELS],
-            queues: [q; Module::CHANNELS],
-            partitions: [p; Module::PARTITIONS],
-        }
-    }
-
-    // The record that a refused table leaves: M, P and all else 0.
-    pub fn empty() -> Module
-        ensures { result ≡ empty_module }
-    {
-        let t = Table::empty();
-        let p = Partition::empty();
-        let q = Queue::empty();
-        Module {
-            table: t,
-            t: 0,
-            messages: [None; Module::CHANNELS],
-            queues: [q; Module::CHANNELS],
-            partitions: [p; Module::PARTITIONS],
+            queues: [Queue::empty(); Module::CHANNELS],
+            partitions: [partition; Module::PARTITIONS],
         }
     }
 }
 
 impl Table {
+    #[tactic(auto, unfolding(crate::specs::Module::empty_table))]
     pub fn empty() -> Table
         ensures { result ≡ empty_table }
     {
@@ -602,26 +605,24 @@ impl Buffer {
     pub fn blank() -> Buffer
         ensures { result ≡ no_buffer }
     {
-        let queue = Queue::empty();
         Buffer {
             name: 0,
             limit: 0,
-            queue,
+            queue: Queue::empty(),
         }
     }
 }
 
 impl Partition {
+    #[tactic(auto, unfolding(crate::specs::Partition::empty_partition))]
     pub fn empty() -> Partition
         ensures { result ≡ empty_partition }
     {
-        let x = Process::blank();
-        let b = Buffer::blank();
         Partition {
             mode: Mode::Idle,
             level: 0,
             holder: 0,
-            processes: [x; Module::PROCESSES],
+            processes: [Process::blank(); Module::PROCESSES],
             process_count: 0,
             semaphores: [Semaphore {
                 name: 0,
@@ -631,7 +632,7 @@ impl Partition {
             semaphore_count: 0,
             events: [EventState { name: 0, up: false }; Module::EVENTS],
             event_count: 0,
-            buffers: [b; Module::BUFFERS],
+            buffers: [Buffer::blank(); Module::BUFFERS],
             buffer_count: 0,
             blackboards: [Blackboard {
                 name: 0,
@@ -650,13 +651,13 @@ impl Partition {
     }
 
     // A partition in COLD_START in which nothing has been created.
+    #[tactic(auto, unfolding(crate::specs::Partition::fresh_partition, crate::specs::Partition::empty_partition))]
     pub fn fresh() -> Partition
         ensures { result ≡ fresh_partition }
     {
-        let p = Partition::empty();
         Partition {
             mode: Mode::ColdStart,
-            ..p
+            ..Partition::empty()
         }
     }
 }

@@ -25,11 +25,7 @@ pub fn empty_blackboard(name: u16) -> Blackboard
 pub fn blackboard_at(p: Partition, k: u32) -> Blackboard
     ensures { result ≡ blackboard k p }
 {
-    let i = partition::slot(k, Module::BLACKBOARDS);
-    if Module::BLACKBOARDS <= i {
-        return empty_blackboard(0);
-    }
-    p.blackboards[i]
+    partition::by_id(&p.blackboards, k, empty_blackboard(0))
 }
 
 pub fn is_blackboard_named(p: Partition, name: Field) -> bool

@@ -18,11 +18,7 @@ use machine::{Buffer, Change, Decision, Field, Module, Partition, Refusal, Wait}
 pub fn buffer_at(p: Partition, k: u32) -> Buffer
     ensures { result ≡ buffer k p }
 {
-    let i = partition::slot(k, Module::BUFFERS);
-    if Module::BUFFERS <= i {
-        return Buffer::blank();
-    }
-    p.buffers[i]
+    partition::by_id(&p.buffers, k, Buffer::blank())
 }
 
 // What CREATE_BUFFER admits.

@@ -1,15 +1,27 @@
--- What is left of a queue's messages when the first has left, as a loop puts them into a new queue. Assumes nothing.
-use Prim.Native.Nat.{ℕ, ◌+◌, ◌≤◌, ◌<◌}
+-- An array that one joins last; what is left of a queue's messages when the first has left, as a loop puts them into a new queue. Assumes nothing.
+use Prim.Native.Nat.{ℕ, ◌+◌, ◌≤◌, ◌<◌, min}
 use mathlib.Core.Path.{◌≡◌, refl, ap, sym, ◌∙◌}
+use mathlib.Core.Bool.{cond}
 use mathlib.Core.List.{List, [], ◌∷◌, ◌++◌}
 use native.Mathlib.Omega.{arith}
 use native.Mathlib.Numerals.{add-one}
-use lib.ListN.{length, get_or, take, drop, length-take, length-drop}
+use lib.ListN.{length, get_or, set, take, drop, length-take, length-drop}
+use lib.Dec.{ltb}
+use borrow.Author.Tests.{ltb-true}
+use Rattle.machine.proofs.Either.{either}
 use lib.Seq.{take_all, take-suc, get_or-take}
 use Rattle.machine.specs.declared.Queue.{Queue}
 use Rattle.machine.specs.Limits.{message_limit}
 use Rattle.machine.specs.Messages.{held, queue_of, put, taken}
 use Rattle.machine.proofs.Lists.{put_queue_of}
+
+-- what an array holds after one joined last, with how many that are, in a record f of both
+pub joined : {A : Type 0} (f : List ℕ → ℕ → A) (l new : List ℕ) (x len n limit : ℕ) → limit ≤ 255 → length l ≡ limit
+    → new ≡ cond (ltb len (length l)) (set l len x) l → n ≡ cond (ltb len (length l)) (min (len + 1) 255) len
+    → f new n ≡ cond (ltb len limit) (f (set l len x) (len + 1)) (f l len)
+joined f l new x len n limit low long e d = rw (e, d, long) (either (ltb len limit)
+    (λ t. let h : len < limit = ltb-true len limit t in let m : min (len + 1) 255 ≡ len + 1 = omega arith in rw (t, m))
+    (λ t. rw t))
 
 rest_snoc : (l : List ℕ) (x : ℕ) → 1 ≤ length l → drop 1 (l ++ (x ∷ [])) ≡ drop 1 l ++ (x ∷ [])
 rest_snoc [] x h = absurd (omega arith)

@@ -37,21 +37,13 @@ pub fn no_event() -> EventState
 pub fn semaphore_at(p: Partition, k: u32) -> Semaphore
     ensures { result ≡ semaphore k p }
 {
-    let i = partition::slot(k, Module::SEMAPHORES);
-    if Module::SEMAPHORES <= i {
-        return no_semaphore();
-    }
-    p.semaphores[i]
+    partition::by_id(&p.semaphores, k, no_semaphore())
 }
 
 pub fn event_at(p: Partition, k: u32) -> EventState
     ensures { result ≡ event k p }
 {
-    let i = partition::slot(k, Module::EVENTS);
-    if Module::EVENTS <= i {
-        return no_event();
-    }
-    p.events[i]
+    partition::by_id(&p.events, k, no_event())
 }
 
 // What CREATE_SEMAPHORE admits: name, start, max.

@@ -10,7 +10,7 @@ ghost use Rattle.machine.specs.Ids.{members, ids_of, appended, removed, follow};
 ghost use Rattle.machine.specs.Messages.{queue_of};
 ghost use Rattle.machine.specs.Process as Pr;
 ghost use Rattle.machine.specs.Process.{carried, due, ready, on_object, ticked, served, entered};
-ghost use Rattle.machine.specs.Partition.{process, stored, arrived_last, preferred, running, waiters, first_waiter, changed_all, tick_partition, entered_normal, nothing_created, stored_event, stored_buffer, empty_buffer, created, ended_by, applied, partition_after};
+ghost use Rattle.machine.specs.Partition.{by_id, process, stored, arrived_last, preferred, running, waiters, first_waiter, changed_all, tick_partition, entered_normal, nothing_created, stored_event, stored_buffer, empty_buffer, created, ended_by, applied, partition_after};
 
 use machine::{
     Buffer, Choice, Context, EventState, Ids, Module, Partition, Process, Queue, Time, Transfer,
@@ -112,14 +112,18 @@ pub fn slot(id: u32, limit: usize) -> usize
     (id - 1) as usize
 }
 
+// What an id names in an array of records, or what stands for none.
+pub fn by_id<T: Copy>(items: &[T], id: u32, none: T) -> T
+    ensures { result ≡ by_id (length items.now) none id items.now }
+{
+    let k = slot(id, items.len());
+    if k < items.len() { items[k] } else { none }
+}
+
 pub fn process_at(p: Partition, id: u32) -> Process
     ensures { result ≡ process id p }
 {
-    let i = slot(id, Module::PROCESSES);
-    if Module::PROCESSES <= i {
-        return Process::blank();
-    }
-    p.processes[i]
+    by_id(&p.processes, id, Process::blank())
 }
 
 // The process chosen so far, or a later one of greater priority.

@@ -1,11 +1,16 @@
-use borrow.Author.Tests.{lt-ltb, le-ltb}
+use mathlib.Core.Path.{◌≡◌}
+use native.Mathlib.Omega.{arith}
+use lib.ListN.{length}
+use borrow.Author.Rules.{rules}
+use Rattle.machine.specs.declared.Queue.{Queue}
+use Rattle.machine.specs.Limits.{message_limit}
 use Rattle.machine.specs.Messages.{put}
+use Rattle.messages.proofs.Laws.{joined}
 use Rattle.messages.proofs.put.Goals as goal
-
-pub returns-then-n-lt-MESSAGES : goal.returns-then-n-lt-MESSAGES
-unfolding put
-returns-then-n-lt-MESSAGES c = rw (lt-ltb _ _ c.if-n-lt-MESSAGES.true)
 
 pub returns : goal.returns
 unfolding put
-returns c = rw (le-ltb _ _ c.if-n-lt-MESSAGES.false)
+returns c =
+    let q = c.args.q in
+    let long : length q.items ≡ message_limit = search rules in
+    joined {A = Queue} (λ l n. record { items = l; len = n }) q.items c.join_last.new.items c.args.m q.len c.join_last.result message_limit (omega arith) long c.join_last.ensures.items c.join_last.ensures.len

@@ -13,7 +13,7 @@ ghost use Rattle.machine.specs.Calls.{set_mode, process_named, is_multiple, abov
 
 use decisions::View;
 use machine::{
-    Change, Context, Decision, Field, Given, Module, Process, Refusal, Request, Time, Wait,
+    Change, Context, Decision, Field, Given, Mode, Module, Process, Refusal, Request, Time, Wait,
 };
 
 // 1 SET_PARTITION_MODE; the messages are erased with the module.
@@ -24,7 +24,7 @@ pub fn set_mode(v: View, a: Field) -> Result<Decision, Refusal>
         return Err(Refusal::InvalidParameter);
     }
     if fields::is_number(a, 3) {
-        if v.mode == 3 {
+        if v.mode.is_normal() {
             return Err(Refusal::NoAction);
         }
         if v.count == 0 {
@@ -32,10 +32,10 @@ pub fn set_mode(v: View, a: Field) -> Result<Decision, Refusal>
         }
         return Ok(decisions::changed(Change::Entered(v.context)));
     }
-    if fields::is_number(a, 2) && v.mode == 1 {
+    if fields::is_number(a, 2) && v.mode == Mode::ColdStart {
         return Err(Refusal::InvalidMode);
     }
-    Ok(Decision::Restarted(fields::number_of(a) as u8))
+    Ok(Decision::Restarted(Mode::numbered(fields::number_of(a))))
 }
 
 pub fn is_multiple(f: Field, frame: u16) -> bool
@@ -121,7 +121,7 @@ pub fn start_process(v: View, id: u32, delay: Field) -> Result<Decision, Refusal
         return Err(Refusal::NoAction);
     }
     let n = fields::number_of(delay);
-    let started = if v.mode == 3 {
+    let started = if v.mode.is_normal() {
         process::start(x, v.context, n)
     } else {
         process::start_early(x, n)
@@ -146,7 +146,7 @@ pub fn stop_process(v: View, id: u32) -> Result<Decision, Refusal>
 pub fn stop_self(v: View) -> Result<Decision, Refusal>
     ensures { (id : ℕ) → Follows v id result (stop_self v.context) }
 {
-    if v.mode != 3 {
+    if !v.mode.is_normal() {
         return Err(Refusal::InvalidMode);
     }
     Ok(Decision::Changed(
@@ -183,7 +183,7 @@ pub fn suspend_process(v: View, id: u32) -> Result<Decision, Refusal>
 pub fn suspend_self(v: View, a: Field) -> Result<Decision, Refusal>
     ensures { (id : ℕ) → Follows v id result (suspend_self v.context a) }
 {
-    if v.mode != 3 || process::is_periodic(v.calling) {
+    if !v.mode.is_normal() || process::is_periodic(v.calling) {
         return Err(Refusal::InvalidMode);
     }
     if !fields::is_timeout(a) {
@@ -207,7 +207,7 @@ pub fn suspend_self(v: View, a: Field) -> Result<Decision, Refusal>
 pub fn timed_wait(v: View, a: Field) -> Result<Decision, Refusal>
     ensures { (id : ℕ) → Follows v id result (timed_wait v.context a) }
 {
-    if v.mode != 3 {
+    if !v.mode.is_normal() {
         return Err(Refusal::InvalidMode);
     }
     if !fields::is_duration(a) {
@@ -232,7 +232,7 @@ pub fn periodic_wait(v: View) -> Result<Decision, Refusal>
     ensures { (id : ℕ) → Follows v id result (periodic_wait v.context) }
 {
     let x = v.calling;
-    if v.mode != 3 || !process::is_periodic(x) {
+    if !v.mode.is_normal() || !process::is_periodic(x) {
         return Err(Refusal::InvalidMode);
     }
     let release = process::later_time(x.times.release, x.given.period);
@@ -309,7 +309,7 @@ pub fn get_status(v: View, id: u32) -> Result<Decision, Refusal>
 pub fn lock_preemption(v: View) -> Result<Decision, Refusal>
     ensures { (id : ℕ) → Follows v id result (lock_preemption v.context) }
 {
-    if v.mode != 3 {
+    if !v.mode.is_normal() {
         return Err(Refusal::NoAction);
     }
     if Module::LEVEL <= v.level {
@@ -327,7 +327,7 @@ pub fn lock_preemption(v: View) -> Result<Decision, Refusal>
 pub fn unlock_preemption(v: View) -> Result<Decision, Refusal>
     ensures { (id : ℕ) → Follows v id result unlock_preemption }
 {
-    if v.mode != 3 {
+    if !v.mode.is_normal() {
         return Err(Refusal::NoAction);
     }
     if v.level == 0 {

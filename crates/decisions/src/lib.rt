@@ -3,7 +3,8 @@
 
 ghost use Rattle.std.specs.Prelude.{◌≡◌, ◌+◌, ◌<◌, ℕ, ◌&&◌, ◌||◌, [], ◌∷◌, true, eqb, ltb, leb, take, OnOk, IfOk};
 ghost use Rattle.machine.specs.Fields.{is_number};
-ghost use Rattle.machine.specs.Decisions.{coded, checked, reply_of, no_message, changed, blocked, creation_checks, wait_checks, unknown, name_taken};
+ghost use Rattle.machine.specs.Mode.{mode_number};
+ghost use Rattle.machine.specs.Decisions.{coded, checked, reply_of, changed, blocked, creation_checks, wait_checks, unknown, name_taken};
 ghost use Rattle.machine.specs.Questions.{changes, restarts, mode_of, first_change, second_change, message_at, message_of, transfer_at, transfer_of};
 ghost use Rattle.decisions.specs.Results.{decided, after};
 ghost use Rattle.machine.specs.declared.Decision.{Decision as DecisionT};
@@ -11,8 +12,8 @@ ghost use Rattle.machine.specs.declared.Decision.TheVariants.{Refused};
 ghost use Rattle.decisions.specs.Names.{process_name, semaphore_name, event_name, buffer_name, blackboard_name};
 
 use machine::{
-    Blackboard, Buffer, Change, Context, Decision, EventState, Field, Message, Module, Process,
-    Refusal, Reply, Semaphore, Time, Transfer,
+    Blackboard, Buffer, Change, Context, Decision, EventState, Field, Message, Mode, Module,
+    Process, Refusal, Reply, Semaphore, Time, Transfer,
 };
 
 // ---------------------------------------------------------------- decisions
@@ -58,13 +59,13 @@ pub fn is_restart(d: Decision) -> bool
     matches!(d, Decision::Restarted(_))
 }
 
-// Its mode; 0 for another decision.
-pub fn mode_of(d: Decision) -> u8
+// Its mode; IDLE for another decision.
+pub fn mode_of(d: Decision) -> Mode
     ensures { result ≡ mode_of d }
 {
     match d {
         Decision::Restarted(mode) => mode,
-        _ => 0,
+        _ => Mode::Idle,
     }
 }
 
@@ -98,23 +99,13 @@ pub fn message_at(d: Decision) -> usize
     }
 }
 
-pub fn no_message() -> Message
-    ensures { result ≡ no_message }
-{
-    Message {
-        present: false,
-        value: 0,
-        written: 0,
-    }
-}
-
 // The message that it leaves there.
-pub fn message_of(d: Decision) -> Message
+pub fn message_of(d: Decision) -> Option<Message>
     ensures { result ≡ message_of d }
 {
     match d {
-        Decision::Written(_, x) => x,
-        _ => no_message(),
+        Decision::Written(_, x) => Some(x),
+        _ => None,
     }
 }
 
@@ -165,10 +156,10 @@ pub fn is_unknown(id: u32, count: u8) -> bool
 }
 
 // 9: whether a partition in this mode whose running process is this one makes no call.
-pub fn has_no_caller(mode: u8, running: u8) -> bool
-    ensures { result ≡ (eqb mode 0 || (eqb mode 3 && eqb running 0)) }
+pub fn has_no_caller(mode: Mode, running: u8) -> bool
+    ensures { result ≡ (eqb (mode_number mode) 0 || (eqb (mode_number mode) 3 && eqb running 0)) }
 {
-    mode == 0 || (mode == 3 && running == 0)
+    mode.is_idle() || (mode.is_normal() && running == 0)
 }
 
 // ---------------------------------------------------------------- names
@@ -240,7 +231,7 @@ pub fn is_named<T: Named>(items: &[T], count: u8, name: Field) -> bool
 #[derive(Clone, Copy)]
 pub struct View {
     pub context: Context,
-    pub mode: u8,
+    pub mode: Mode,
     pub level: u8,
     pub holder: u8,
     pub count: u8,
@@ -272,7 +263,7 @@ impl View {
     // The id of what is created next of a kind of which count exist and at most limit can, by the checks of a creation.
     #[tactic(auto, unfolding(machine::specs::Decisions::checked))]
     pub fn next_id(self, count: u8, limit: usize, admitted: bool) -> Result<u32, Refusal>
-        ensures checks { (d : DecisionT) → after result d ≡ checked Refused (creation_checks (leb limit count) self.taken admitted (eqb self.mode 3)) d }
+        ensures checks { (d : DecisionT) → after result d ≡ checked Refused (creation_checks (leb limit count) self.taken admitted (eqb (mode_number self.mode) 3)) d }
         ensures id { IfOk result (λ id. id ≡ count + 1) }
         ensures room { OnOk result (count < limit) }
         ensures admitted { OnOk result (admitted ≡ true) }
@@ -286,7 +277,7 @@ impl View {
         if !admitted {
             return Err(Refusal::InvalidParameter);
         }
-        if self.mode == 3 {
+        if self.mode.is_normal() {
             return Err(Refusal::InvalidMode);
         }
         Ok(count as u32 + 1)

@@ -107,7 +107,7 @@ pub fn awaited(
 ) -> Result<Decision, Refusal>
     ensures { (id : ℕ) → Follows v id result (awaiting v.context [] beside [] a passes success wait) }
 {
-    if v.mode != 3 {
+    if !v.mode.is_normal() {
         return Err(Refusal::InvalidMode);
     }
     if !(beside && fields::is_timeout(a)) {

@@ -1,15 +1,15 @@
 // Blackboards of a partition: calls 26 to 29.
-#![tactic(auto)]
+#![tactic(auto, unfolding(machine::specs::Decisions::checked, machine::specs::Decisions::awaiting, machine::specs::Blackboards::create_blackboard, machine::specs::Blackboards::show, machine::specs::Blackboards::read_blackboard, machine::specs::Blackboards::clear))]
 
 ghost use Rattle.std.specs.Prelude.{◌≡◌, take, ℕ};
 ghost use Rattle.machine.specs.Partition.{empty_blackboard, blackboard};
 ghost use Rattle.machine.specs.Blackboards.{blackboard_named, create_blackboard, show, read_blackboard, clear};
-ghost use Rattle.machine.specs.declared.Context.{Context as ContextT};
 ghost use Rattle.machine.specs.declared.Partition.{Partition as PartitionT};
-ghost use Rattle.decisions.specs.Views.{Shows};
+ghost use Rattle.decisions.specs.Results.{decided};
+ghost use Rattle.decisions.specs.Views.{Shows, Follows};
 
 use decisions::View;
-use machine::{Blackboard, Change, Context, Decision, Field, Module, Partition, Time, Wait};
+use machine::{Blackboard, Change, Decision, Field, Module, Partition, Refusal, Time, Wait};
 
 // A blackboard that shows nothing.
 pub fn empty_blackboard(name: u16) -> Blackboard
@@ -17,8 +17,7 @@ pub fn empty_blackboard(name: u16) -> Blackboard
 {
     Blackboard {
         name,
-        shown: false,
-        message: 0,
+        message: None,
     }
 }
 
@@ -28,90 +27,54 @@ pub fn blackboard_at(p: Partition, k: u32) -> Blackboard
     partition::by_id(&p.blackboards, k, empty_blackboard(0))
 }
 
-pub fn is_blackboard_named(p: Partition, name: Field) -> bool
-    ensures { result ≡ blackboard_named name (take p.blackboard_count p.blackboards) }
-{
-    let mut i: usize = 0;
-    while i < Module::BLACKBOARDS {
-        let x = p.blackboards[i];
-        if decisions::is_named_at(name, x.name, i, p.blackboard_count) {
-            return true;
-        }
-        i = i + 1;
-    }
-    false
-}
-
 // 26 CREATE_BLACKBOARD
-pub fn create_blackboard(v: View, name: Field) -> Decision
-    ensures { (p : PartitionT) (c : ContextT) (id : ℕ) → Shows v c id p → v.taken ≡ blackboard_named name (take p.blackboard_count p.blackboards) → result ≡ create_blackboard name p }
+pub fn create_blackboard(v: View, name: Field) -> Result<Decision, Refusal>
+    ensures { (p : PartitionT) (id : ℕ) → Shows v id p → v.taken ≡ blackboard_named name (take p.blackboard_count p.blackboards) → decided result ≡ create_blackboard name p }
 {
-    let n = v.blackboards as u32;
-    let code = decisions::creation_code(
-        Module::BLACKBOARDS as u32 <= n,
-        decisions::taken_in(v),
-        fields::is_name(name),
-        v.mode == 3,
-    );
-    if code != 0 {
-        return Decision::Refused(code);
-    }
+    let k = v.next_id(v.blackboards, Module::BLACKBOARDS, fields::is_name(name))?;
     let b = empty_blackboard(fields::number_of(name) as u16);
-    let k = n + 1;
-    Decision::Changed(Change::StoredBlackboard(k, b), Change::Nothing, k)
+    Ok(Decision::Changed(Change::StoredBlackboard(k, b), Change::Nothing, k))
 }
 
 // 27 SHOW
-pub fn show_blackboard(v: View, k: u32, m: Field) -> Decision
-    ensures { (p : PartitionT) (c : ContextT) → Shows v c k p → result ≡ show k m p }
+pub fn show_blackboard(v: View, k: u32, m: Field) -> Result<Decision, Refusal>
+    ensures { Follows v k result (show k m) }
 {
-    if decisions::is_unknown(k, v.blackboards) {
-        return Decision::Refused(3);
+    if decisions::is_unknown(k, v.blackboards) || !fields::is_message(m) {
+        return Err(Refusal::InvalidParameter);
     }
-    if !fields::is_message(m) {
-        return Decision::Refused(3);
-    }
-    let old = decisions::blackboard_in(v);
     let message = fields::number_of(m);
     let b = Blackboard {
-        name: old.name,
-        shown: true,
-        message,
+        message: Some(message),
+        ..v.blackboard
     };
     let o = process::object_of(Wait::Blackboard(k as u8));
-    Decision::Changed(
+    Ok(Decision::Changed(
         Change::StoredBlackboard(k, b),
         Change::Handed(o, message),
         0,
-    )
+    ))
 }
 
 // 28 READ_BLACKBOARD
-pub fn read_blackboard(v: View, c: Context, k: u32, a: Field) -> Decision
-    ensures { (p : PartitionT) → Shows v c k p → result ≡ read_blackboard c k a p }
+pub fn read_blackboard(v: View, k: u32, a: Field) -> Result<Decision, Refusal>
+    ensures { Follows v k result (read_blackboard v.context k a) }
 {
-    let unknown = decisions::is_unknown(k, v.blackboards);
-    let code = decisions::wait_code(unknown, v.mode != 3, fields::is_timeout(a));
-    let b = decisions::blackboard_in(v);
-    let success = Decision::Unchanged(b.message, Some(0));
-    objects::awaited(
-        v,
-        c,
-        code,
-        a,
-        b.shown,
-        success,
-        Wait::Blackboard(objects::short_id(k)),
-    )
+    if decisions::is_unknown(k, v.blackboards) {
+        return Err(Refusal::InvalidParameter);
+    }
+    let message = v.blackboard.message;
+    let success = Decision::Unchanged(message.unwrap_or(0), Some(0));
+    objects::awaited(v, true, a, message.is_some(), success, Wait::Blackboard(k as u8))
 }
 
 // 29 CLEAR
-pub fn clear_blackboard(v: View, k: u32) -> Decision
-    ensures { (p : PartitionT) (c : ContextT) → Shows v c k p → result ≡ clear k p }
+pub fn clear_blackboard(v: View, k: u32) -> Result<Decision, Refusal>
+    ensures { Follows v k result (clear k) }
 {
     if decisions::is_unknown(k, v.blackboards) {
-        return Decision::Refused(3);
+        return Err(Refusal::InvalidParameter);
     }
-    let old = decisions::blackboard_in(v);
-    decisions::changed(Change::StoredBlackboard(k, empty_blackboard(old.name)))
+    let b = empty_blackboard(v.blackboard.name);
+    Ok(decisions::changed(Change::StoredBlackboard(k, b)))
 }

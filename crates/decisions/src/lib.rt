@@ -1,14 +1,19 @@
 // What an event decides: its reply, what it changes, and the checks that several calls share.
 #![tactic(auto)]
 
-ghost use Rattle.std.specs.Prelude.{◌≡◌, ◌&&◌, ◌||◌, [], ◌∷◌, eqb, ltb};
+ghost use Rattle.std.specs.Prelude.{◌≡◌, ◌+◌, ◌<◌, ℕ, ◌&&◌, ◌||◌, [], ◌∷◌, true, eqb, ltb, leb, take, OnOk, IfOk};
 ghost use Rattle.machine.specs.Fields.{is_number};
-ghost use Rattle.machine.specs.Decisions.{coded, code_of, reply_of, no_message, changed, blocked, creation_checks, wait_checks, unknown};
+ghost use Rattle.machine.specs.Mode.{mode_number};
+ghost use Rattle.machine.specs.Decisions.{coded, checked, reply_of, changed, blocked, creation_checks, wait_checks, unknown, name_taken};
 ghost use Rattle.machine.specs.Questions.{changes, restarts, mode_of, first_change, second_change, message_at, message_of, transfer_at, transfer_of};
+ghost use Rattle.decisions.specs.Results.{decided, after};
+ghost use Rattle.machine.specs.declared.Decision.{Decision as DecisionT};
+ghost use Rattle.machine.specs.declared.Decision.TheVariants.{Refused};
+ghost use Rattle.decisions.specs.Names.{process_name, semaphore_name, event_name, buffer_name, blackboard_name};
 
 use machine::{
-    Blackboard, Change, Context, Decision, EventState, Field, Message, Module, Process, Reply,
-    Semaphore, Time, Transfer,
+    Blackboard, Buffer, Change, Context, Decision, EventState, Field, Message, Mode, Module,
+    Process, Refusal, Reply, Semaphore, Time, Transfer,
 };
 
 // ---------------------------------------------------------------- decisions
@@ -31,13 +36,10 @@ pub fn reply_of(d: Decision) -> Reply
 {
     match d {
         Decision::Refused(code) => reply_with(code),
-        Decision::Unchanged(value, extra) => reply(0, value, extra),
-        Decision::Ticked => reply_with(0),
         Decision::Blocked(_, _) => reply_with(7),
-        Decision::Changed(_, _, value) => reply(0, value, Some(0)),
-        Decision::Restarted(_) => reply_with(0),
-        Decision::Written(_, _) => reply_with(0),
-        Decision::Passed(_, _, value) => reply(0, value, Some(0)),
+        Decision::Unchanged(value, extra) => reply(0, value, extra),
+        Decision::Changed(_, _, value) | Decision::Passed(_, _, value) => reply(0, value, Some(0)),
+        Decision::Ticked | Decision::Restarted(_) | Decision::Written(_, _) => reply_with(0),
     }
 }
 
@@ -45,46 +47,25 @@ pub fn reply_of(d: Decision) -> Reply
 pub fn does_change(d: Decision) -> bool
     ensures { result ≡ changes d }
 {
-    match d {
-        Decision::Refused(_) => false,
-        Decision::Unchanged(_, _) => false,
-        Decision::Ticked => false,
-        Decision::Blocked(_, _) => true,
-        Decision::Changed(_, _, _) => true,
-        Decision::Restarted(_) => true,
-        Decision::Written(_, _) => false,
-        Decision::Passed(_, _, _) => false,
-    }
+    matches!(
+        d,
+        Decision::Blocked(_, _) | Decision::Changed(_, _, _) | Decision::Restarted(_)
+    )
 }
 
 pub fn is_restart(d: Decision) -> bool
     ensures { result ≡ restarts d }
 {
-    match d {
-        Decision::Refused(_) => false,
-        Decision::Unchanged(_, _) => false,
-        Decision::Ticked => false,
-        Decision::Blocked(_, _) => false,
-        Decision::Changed(_, _, _) => false,
-        Decision::Restarted(_) => true,
-        Decision::Written(_, _) => false,
-        Decision::Passed(_, _, _) => false,
-    }
+    matches!(d, Decision::Restarted(_))
 }
 
-// Its mode; 0 for another decision.
-pub fn mode_of(d: Decision) -> u8
+// Its mode; IDLE for another decision.
+pub fn mode_of(d: Decision) -> Mode
     ensures { result ≡ mode_of d }
 {
     match d {
-        Decision::Refused(_) => 0,
-        Decision::Unchanged(_, _) => 0,
-        Decision::Ticked => 0,
-        Decision::Blocked(_, _) => 0,
-        Decision::Changed(_, _, _) => 0,
         Decision::Restarted(mode) => mode,
-        Decision::Written(_, _) => 0,
-        Decision::Passed(_, _, _) => 0,
+        _ => Mode::Idle,
     }
 }
 
@@ -93,14 +74,9 @@ pub fn first_change(d: Decision) -> Change
     ensures { result ≡ first_change d }
 {
     match d {
-        Decision::Refused(_) => Change::Nothing,
-        Decision::Unchanged(_, _) => Change::Nothing,
-        Decision::Ticked => Change::Nothing,
         Decision::Blocked(id, x) => Change::Stored(id as u32, x),
         Decision::Changed(a, _, _) => a,
-        Decision::Restarted(_) => Change::Nothing,
-        Decision::Written(_, _) => Change::Nothing,
-        Decision::Passed(_, _, _) => Change::Nothing,
+        _ => Change::Nothing,
     }
 }
 
@@ -108,14 +84,8 @@ pub fn second_change(d: Decision) -> Change
     ensures { result ≡ second_change d }
 {
     match d {
-        Decision::Refused(_) => Change::Nothing,
-        Decision::Unchanged(_, _) => Change::Nothing,
-        Decision::Ticked => Change::Nothing,
-        Decision::Blocked(_, _) => Change::Nothing,
         Decision::Changed(_, b, _) => b,
-        Decision::Restarted(_) => Change::Nothing,
-        Decision::Written(_, _) => Change::Nothing,
-        Decision::Passed(_, _, _) => Change::Nothing,
+        _ => Change::Nothing,
     }
 }
 
@@ -124,40 +94,18 @@ pub fn message_at(d: Decision) -> usize
     ensures { result ≡ message_at d }
 {
     match d {
-        Decision::Refused(_) => Module::CHANNELS,
-        Decision::Unchanged(_, _) => Module::CHANNELS,
-        Decision::Ticked => Module::CHANNELS,
-        Decision::Blocked(_, _) => Module::CHANNELS,
-        Decision::Changed(_, _, _) => Module::CHANNELS,
-        Decision::Restarted(_) => Module::CHANNELS,
         Decision::Written(i, _) => i as usize,
-        Decision::Passed(_, _, _) => Module::CHANNELS,
-    }
-}
-
-pub fn no_message() -> Message
-    ensures { result ≡ no_message }
-{
-    Message {
-        present: false,
-        value: 0,
-        written: 0,
+        _ => Module::CHANNELS,
     }
 }
 
 // The message that it leaves there.
-pub fn message_of(d: Decision) -> Message
+pub fn message_of(d: Decision) -> Option<Message>
     ensures { result ≡ message_of d }
 {
     match d {
-        Decision::Refused(_) => no_message(),
-        Decision::Unchanged(_, _) => no_message(),
-        Decision::Ticked => no_message(),
-        Decision::Blocked(_, _) => no_message(),
-        Decision::Changed(_, _, _) => no_message(),
-        Decision::Restarted(_) => no_message(),
-        Decision::Written(_, x) => x,
-        Decision::Passed(_, _, _) => no_message(),
+        Decision::Written(_, x) => Some(x),
+        _ => None,
     }
 }
 
@@ -166,14 +114,8 @@ pub fn transfer_at(d: Decision) -> usize
     ensures { result ≡ transfer_at d }
 {
     match d {
-        Decision::Refused(_) => Module::CHANNELS,
-        Decision::Unchanged(_, _) => Module::CHANNELS,
-        Decision::Ticked => Module::CHANNELS,
-        Decision::Blocked(_, _) => Module::CHANNELS,
-        Decision::Changed(_, _, _) => Module::CHANNELS,
-        Decision::Restarted(_) => Module::CHANNELS,
-        Decision::Written(_, _) => Module::CHANNELS,
         Decision::Passed(i, _, _) => i as usize,
+        _ => Module::CHANNELS,
     }
 }
 
@@ -182,14 +124,8 @@ pub fn transfer_of(d: Decision) -> Transfer
     ensures { result ≡ transfer_of d }
 {
     match d {
-        Decision::Refused(_) => Transfer::Taken,
-        Decision::Unchanged(_, _) => Transfer::Taken,
-        Decision::Ticked => Transfer::Taken,
-        Decision::Blocked(_, _) => Transfer::Taken,
-        Decision::Changed(_, _, _) => Transfer::Taken,
-        Decision::Restarted(_) => Transfer::Taken,
-        Decision::Written(_, _) => Transfer::Taken,
         Decision::Passed(_, a, _) => a,
+        _ => Transfer::Taken,
     }
 }
 
@@ -202,93 +138,100 @@ pub fn changed(change: Change) -> Decision
 
 // The only place that gives code 7: process id has the record x, in which it waits; 5 while preemption is locked.
 #[tactic(auto, unfolding(machine::specs::Decisions::checked, machine::specs::Decisions::blocked))]
-pub fn block(level: u8, id: u8, x: Process) -> Decision
-    ensures { result ≡ blocked level id x }
+pub fn block(level: u8, id: u8, x: Process) -> Result<Decision, Refusal>
+    ensures { decided result ≡ blocked level id x }
 {
     if 0 < level {
-        return Decision::Refused(5);
+        return Err(Refusal::InvalidMode);
     }
-    Decision::Blocked(id, x)
+    Ok(Decision::Blocked(id, x))
 }
 
-// The code of the checks of a creation, or 0.
-pub fn creation_code(full: bool, taken: bool, admitted: bool, normal: bool) -> u8
-    ensures { result ≡ code_of (creation_checks full taken admitted normal) }
-{
-    if full {
-        return 4;
-    }
-    if taken {
-        return 1;
-    }
-    if !admitted {
-        return 3;
-    }
-    if normal {
-        return 5;
-    }
-    0
-}
-
-// The code of the checks of a wait, or 0.
-pub fn wait_code(unknown: bool, start: bool, admitted: bool) -> u8
-    ensures { result ≡ code_of (wait_checks ((unknown, 3) ∷ []) start admitted []) }
-{
-    if unknown {
-        return 3;
-    }
-    if start {
-        return 5;
-    }
-    if !admitted {
-        return 3;
-    }
-    0
-}
-
+// ---------------------------------------------------------------- checks that several calls share
 // Whether none of count things has this id.
 pub fn is_unknown(id: u32, count: u8) -> bool
     ensures { result ≡ unknown id count }
 {
-    if id == 0 { true } else { (count as u32) < id }
-}
-
-// Whether this is the name x of one of a kind, at place i, of which n have been created.
-pub fn is_named_at(name: Field, x: u16, i: usize, n: u8) -> bool
-    ensures { result ≡ ltb i n && is_number x name }
-{
-    if i < n as usize {
-        fields::is_number(name, x as u32)
-    } else {
-        false
-    }
-}
-
-pub fn caller_of(c: Context) -> u32
-    ensures { result ≡ c.caller }
-{
-    c.caller as u32
+    id == 0 || (count as u32) < id
 }
 
 // 9: whether a partition in this mode whose running process is this one makes no call.
-pub fn has_no_caller(mode: u8, running: u8) -> bool
-    ensures { result ≡ (eqb mode 0 || (eqb mode 3 && eqb running 0)) }
+pub fn has_no_caller(mode: Mode, running: u8) -> bool
+    ensures { result ≡ (eqb (mode_number mode) 0 || (eqb (mode_number mode) 3 && eqb running 0)) }
 {
-    if mode == 0 {
-        return true;
+    mode.is_idle() || (mode.is_normal() && running == 0)
+}
+
+// ---------------------------------------------------------------- names
+// What has a name of its own among its kind.
+pub trait Named: Copy {
+    ghost name: { Self → ℕ };
+
+    fn name(self) -> u16
+        ensures { result ≡ name self };
+}
+
+impl Named for Process {
+    ghost name = { process_name };
+
+    fn name(self) -> u16 {
+        self.given.name
     }
-    if mode == 3 {
-        return running == 0;
+}
+
+impl Named for Semaphore {
+    ghost name = { semaphore_name };
+
+    fn name(self) -> u16 {
+        self.name
+    }
+}
+
+impl Named for EventState {
+    ghost name = { event_name };
+
+    fn name(self) -> u16 {
+        self.name
+    }
+}
+
+impl Named for Buffer {
+    ghost name = { buffer_name };
+
+    fn name(self) -> u16 {
+        self.name
+    }
+}
+
+impl Named for Blackboard {
+    ghost name = { blackboard_name };
+
+    fn name(self) -> u16 {
+        self.name
+    }
+}
+
+// Whether one of the first count has this name.
+#[tactic(auto, using(std::proofs::lemmas::List::take_min, crate::proofs::Names::name_here, crate::proofs::Names::name_later, crate::proofs::Names::name_nowhere))]
+pub fn is_named<T: Named>(items: &[T], count: u8, name: Field) -> bool
+    ensures { result ≡ name_taken T.name name (take count items.now) }
+{
+    let created = &items[..(count as usize).min(items.len())];
+    for x in created {
+        if fields::is_number(name, x.name() as u32) {
+            return true;
+        }
     }
     false
 }
 
-// ---------------------------------------------------------------- what a call sees of its partition
-// Mode and preemption lock; how many there are of each kind; whether the name in field a is taken among its kind; the records of what field a
+// ---------------------------------------------------------------- what a call sees
+// The context of the call; mode and preemption lock; how many there are of each kind; whether the name in field a is taken among its kind; the records of what field a
 // names, of a buffer its limit, how many messages it holds and the first of them, and the caller's; the first process that waits for the object that the call looks at, 0 for none, and its record.
 #[derive(Clone, Copy)]
 pub struct View {
-    pub mode: u8,
+    pub context: Context,
+    pub mode: Mode,
     pub level: u8,
     pub holder: u8,
     pub count: u8,
@@ -309,62 +252,34 @@ pub struct View {
     pub served: Process,
 }
 
-pub fn named_in(v: View) -> Process
-    ensures { result ≡ v.named }
-{
-    v.named
-}
+impl View {
+    // Whether the buffer takes one more message.
+    pub fn has_room(self) -> bool
+        ensures { result ≡ ltb self.len self.limit }
+    {
+        self.len < self.limit
+    }
 
-pub fn calling_in(v: View) -> Process
-    ensures { result ≡ v.calling }
-{
-    v.calling
-}
-
-pub fn semaphore_in(v: View) -> Semaphore
-    ensures { result ≡ v.semaphore }
-{
-    v.semaphore
-}
-
-pub fn event_in(v: View) -> EventState
-    ensures { result ≡ v.event }
-{
-    v.event
-}
-
-pub fn has_room(v: View) -> bool
-    ensures { result ≡ ltb v.len v.limit }
-{
-    v.len < v.limit
-}
-
-pub fn first_in(v: View) -> u32
-    ensures { result ≡ v.first }
-{
-    v.first
-}
-
-pub fn blackboard_in(v: View) -> Blackboard
-    ensures { result ≡ v.blackboard }
-{
-    v.blackboard
-}
-
-pub fn served_in(v: View) -> Process
-    ensures { result ≡ v.served }
-{
-    v.served
-}
-
-pub fn waiter_in(v: View) -> u8
-    ensures { result ≡ v.waiter }
-{
-    v.waiter
-}
-
-pub fn taken_in(v: View) -> bool
-    ensures { result ≡ v.taken }
-{
-    v.taken
+    // The id of what is created next of a kind of which count exist and at most limit can, by the checks of a creation.
+    #[tactic(auto, unfolding(machine::specs::Decisions::checked))]
+    pub fn next_id(self, count: u8, limit: usize, admitted: bool) -> Result<u32, Refusal>
+        ensures checks { (d : DecisionT) → after result d ≡ checked Refused (creation_checks (leb limit count) self.taken admitted (eqb (mode_number self.mode) 3)) d }
+        ensures id { IfOk result (λ id. id ≡ count + 1) }
+        ensures room { OnOk result (count < limit) }
+        ensures admitted { OnOk result (admitted ≡ true) }
+    {
+        if limit <= count as usize {
+            return Err(Refusal::NoRoom);
+        }
+        if self.taken {
+            return Err(Refusal::NoAction);
+        }
+        if !admitted {
+            return Err(Refusal::InvalidParameter);
+        }
+        if self.mode.is_normal() {
+            return Err(Refusal::InvalidMode);
+        }
+        Ok(count as u32 + 1)
+    }
 }

@@ -1,4 +1,5 @@
 -- A call that is answered 0 has come to its body with all its checks passed, and the fields that it does not use are 0. Assumes nothing.
+use Rattle.machine.specs.Mode.{mode_number}
 use Prim.Native.Nat.{ℕ, ◌≤◌}
 use mathlib.Core.Path.{◌≡◌, refl, ap, sym, ◌∙◌}
 use mathlib.Core.Bool.{Bool, true, false, cond, not, ◌&&◌, ◌||◌}
@@ -55,7 +56,7 @@ accepted m h e k n some by z =
     let formed : malformed_at P e ≡ false = rw z at (sym g.thirteen) in
     let eight : not (eqb k (current m)) ≡ false = rw (z, formed, from, no) at (sym g.eight) in
     let now = not-false (eqb k (current m)) eight in
-    let nine : (eqb (own m k).mode 0 || (eqb (own m k).mode 3 && eqb (running (own m k)) 0)) ≡ false = rw (z, formed, from, no, now) at (sym g.nine) in
+    let nine : (eqb (mode_number (own m k).mode) 0 || (eqb (mode_number (own m k).mode) 3 && eqb (running (own m k)) 0)) ≡ false = rw (z, formed, from, no, now) at (sym g.nine) in
     let fields = or_right (cond (plain_number 0 e.partition) (not (plain_number 0 e.call)) (plain_number 0 e.call)) _ (or_right (not (plain_between 0 call_limit e.call)) _ (or_right (not (plain_between 0 P e.partition)) _ (or_right (eqb P 0) _ formed))) in
     let alike : stray (used n) e.a e.b e.c e.e ≡ false = rw call at fields in
     let a1 = ltb (used n) 1 && not (plain_number 0 e.a) in
@@ -68,8 +69,8 @@ accepted m h e k n some by z =
         reached = h;
         some = some;
         now = sym (eqb-true k (current m) now);
-        active = λ y. eqb-false _ 0 (or_left (eqb (own m k).mode 0) _ nine) y;
-        runs = λ y w. not_both _ (rw (y, w)) (or_right (eqb (own m k).mode 0) _ nine);
+        active = λ y. eqb-false _ 0 (or_left (eqb (mode_number (own m k).mode) 0) _ nine) y;
+        runs = λ y w. not_both _ (rw (y, w)) (or_right (eqb (mode_number (own m k).mode) 0) _ nine);
       };
       is = λ i. record {
         partition = from i;
@@ -102,7 +103,7 @@ by_partition_of m h e k n some by z =
 pub record Restarting (m : Module) (e : EventT) (k mode : ℕ) : Type 0 where
   pub calling : Calling m k
   pub few : mode ≤ 2
-  pub warm : mode ≡ 2 → (own m k).mode ≡ 1 → ⊥
+  pub warm : mode ≡ 2 → mode_number (own m k).mode ≡ 1 → ⊥
   pub is : e ≡ call_by k 1 (pos mode) (pos 0) (pos 0) (pos 0)
 
 pub restarting : (m : Module) → Reached m → (e : EventT) (k : ℕ) → 1 ≤ k → restarts_by k e (code_at m e) ≡ true → Restarting m e k (id_of e.a)

@@ -1,4 +1,5 @@
 -- The account of a buffer, for every list of events from a fresh module. Assumes nothing.
+use Rattle.machine.specs.Mode.{mode_number}
 use Prim.Native.Nat.{ℕ, ◌+◌, ◌-◌, ◌≤◌, ◌<◌}
 use mathlib.Core.Path.{◌≡◌, refl, ap, sym, ◌∙◌}
 use mathlib.Core.Bool.{true, false, not, ◌&&◌, and-false, or-true}
@@ -248,7 +249,7 @@ module _ (k j : ℕ) (m : Module) (s : SoundModule m) (e : EventT) (es : List Ev
     other_leaves Ticked h b = absurd b
     other_leaves (Blocked id y) h b = rw (other_own (stored id y (part m (i - 1)))) same_leaves
     other_leaves (Changed a y v) h b = rw (other_own (applied y (applied a (part m (i - 1))))) same_leaves
-    other_leaves (Restarted mode) h b = restart_leaves 3 j of_buffers low m s (request_of e) c k inside mode h ne some (λ _ _ z. omega (arith, low))
+    other_leaves (Restarted mode) h b = restart_leaves 3 j of_buffers low m s (request_of e) c k inside (mode_number mode) h ne some (λ _ _ z. omega (arith, low))
     other_leaves (Written a y) h b = same_leaves
     other_leaves (PassedOn a y v) h b = passed_leaves 3 j of_buffers low m s (request_of e) c k inside a y v b (other_queue_holds m s e c a y v b j low)
 
@@ -361,7 +362,7 @@ module _ (j : ℕ) (m : Module) (s : SoundModule m) (e : EventT) (es : List Even
             (part_trans (change_part senders is_some ctx p own_valid x h.0 g.0) (change_part senders is_some ctx (applied x p) w y h.1 g.1))
             0 v (on 0 is) (no_one 0) (five 0) (sn (with_part (k - 1) q m) 0) (rc (with_part (k - 1) q m) 0 v)
         go (Restarted mode) h b g f is sn rc = not_both _ (rw (is_call_holds 1, eq-eqb n 1 f.0, ← (lossless e.a).between 0 2 (omega arith), f.1, is)) lasts
-        go (Written a y) h b g f is sn rc = left_even k j m e es few (with_message a y m) refl own_valid.lists 0 0 (on 0 is) (no_one 0) (sn (with_message a y m) 0) (rc (with_message a y m) 0 0)
+        go (Written a y) h b g f is sn rc = left_even k j m e es few (with_message a (Some y) m) refl own_valid.lists 0 0 (on 0 is) (no_one 0) (sn (with_message a (Some y) m) 0) (rc (with_message a (Some y) m) 0 0)
         go (PassedOn a y v) h b g f is sn rc = leaves_even k j m e es few (passed k a y m) (passed_leaves 3 j of_buffers few m s r c k here a y v b (other_queue_holds m s e c a y v b j few)) 0 v (on 0 is) (no_one 0) (sn (passed k a y m) 0) (rc (passed k a y m) 0 v)
 
     -- ------------------------------------------------------------ the buffer's messages and queues

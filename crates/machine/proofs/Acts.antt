@@ -1,4 +1,5 @@
 -- What the calls do to processes and to the arrival list, each by its number: for every record and every request. Assumes nothing.
+use Rattle.machine.specs.Mode.{mode_number}
 use Prim.Native.Nat.{ℕ, ◌≤◌}
 use mathlib.Core.Path.{◌≡◌, refl}
 use mathlib.Core.Bool.{Bool, true, false, cond, not, ◌&&◌, ◌||◌}
@@ -121,7 +122,7 @@ Acts c r p j (Blocked id y) = (id ≡ c.caller) × (normal_mode p ≡ true) × B
 Acts c r p j (Changed a b v) =
     Makes c r p j a × Makes c r p j b × ((touches b && touches a) ≡ false) × ((acts_on_named j && not (touches a || touches b)) ≡ false)
     × PutLast c r p j a b
-Acts c r p j (Restarted mode) = (j ≡ 1) × (r.a ≡ Number mode) × (mode ≤ 2)
+Acts c r p j (Restarted mode) = (j ≡ 1) × (r.a ≡ Number (mode_number mode)) × (mode_number mode ≤ 2)
 Acts c r p j (Written i x) = j ≡ 21
 Acts c r p j (PassedOn i a v) = (j ≡ 30) ⊎ (j ≡ 31)
 

@@ -1,4 +1,5 @@
 -- Two modules that agree on a set of partitions, and what each way of changing a module keeps of that. Assumes nothing.
+use Rattle.std.specs.Prelude.{Option}
 use Prim.Native.Nat.{ℕ, zero, suc, ◌-◌, ◌<◌}
 use mathlib.Core.Path.{◌≡◌, refl, sym, ap, ap₂, ◌∙◌, subst}
 use mathlib.Core.List.{List, map}
@@ -63,7 +64,7 @@ module _ (T : Table) (S : ℕ → Bool) where
     parts = λ j s. set_both (λ (x y : Partition). x ≡ y) m.partitions n.partitions i j p q _ a.slots (λ e. h (ap (λ (x : ℕ). S (suc x)) (sym e) ∙ s)) (a.parts j s);
   }
 
-  pub message_both : (m n : Module) (i : ℕ) (x y : Message) → Agree T S m n → (S (channel T i).destination ≡ true → x ≡ y) → Agree T S (with_message i x m) (with_message i y n)
+  pub message_both : (m n : Module) (i : ℕ) (x y : Option Message) → Agree T S m n → (S (channel T i).destination ≡ true → x ≡ y) → Agree T S (with_message i x m) (with_message i y n)
   message_both m n i x y a h = record {
     left = a.left;
     right = a.right;
@@ -73,7 +74,7 @@ module _ (T : Table) (S : ℕ → Bool) where
     rows = a.rows;
     queues = a.queues;
     places = length-set m.messages i x ∙ a.places ∙ sym (length-set n.messages i y);
-    inbound = λ j s. set_both (λ (x y : Message). x ≡ y) m.messages n.messages i j x y _ a.places (λ e. h (ap (λ (k : ℕ). S (channel T k).destination) (sym e) ∙ s)) (a.inbound j s);
+    inbound = λ j s. set_both (λ (x y : Option Message). x ≡ y) m.messages n.messages i j x y _ a.places (λ e. h (ap (λ (k : ℕ). S (channel T k).destination) (sym e) ∙ s)) (a.inbound j s);
   }
 
   pub time_both : (m n : Module) (t u : ℕ) → Agree T S m n → t ≡ u → Agree T S (with_time t m) (with_time u n)
@@ -93,7 +94,7 @@ module _ (T : Table) (S : ℕ → Bool) where
     parts = λ j s. get_or-set_other m.partitions i j p _ (λ e. not_both (S (suc j)) s (ap (λ (x : ℕ). S (suc x)) e ∙ f)) ∙ a.parts j s;
   }
 
-  pub message_free : (m n : Module) (i : ℕ) (x : Message) → Agree T S m n → S (channel T i).destination ≡ false → Agree T S (with_message i x m) n
+  pub message_free : (m n : Module) (i : ℕ) (x : Option Message) → Agree T S m n → S (channel T i).destination ≡ false → Agree T S (with_message i x m) n
   message_free m n i x a f = record {
     left = a.left;
     right = a.right;
@@ -173,7 +174,7 @@ module _ (T : Table) (S : ℕ → Bool) where
   erase_both k (suc c) m n a =
       let h = erase_both k c m n a in
       let q : m.table ≡ n.table = a.left ∙ sym a.right in
-      by_tests (λ (x y : List Message). Agree T S (with_messages x m) (with_messages y n)) (leads_into k (channel m.table c)) (leads_into k (channel n.table c)) (cc)
+      by_tests (λ (x y : List (Option Message)). Agree T S (with_messages x m) (with_messages y n)) (leads_into k (channel m.table c)) (leads_into k (channel n.table c)) (cc)
       (λ q. message_both (erased_to k c m) (erased_to k c n) c no_message no_message h (λ s. refl))
       (λ q. h)
 
@@ -182,7 +183,7 @@ module _ (T : Table) (S : ℕ → Bool) where
   erase_free k zero m n a f = a
   erase_free k (suc c) m n a f =
       let h = erase_free k c m n a f in
-      by_test (λ (x : List Message). Agree T S (with_messages x m) n) (leads_into k (channel m.table c))
+      by_test (λ (x : List (Option Message)). Agree T S (with_messages x m) n) (leads_into k (channel m.table c))
       (λ q. message_free (erased_to k c m) n c no_message h (ap (λ (x : Table). S (channel x c).destination) (sym a.left) ∙ ap S (eqb-true _ _ q) ∙ f))
       (λ q. h)
 

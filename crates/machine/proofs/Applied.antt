@@ -1,5 +1,6 @@
 -- What a call's decision leaves of the module, by the questions that are put to it: whether it changes the caller's partition, whether it
 -- restarts it, where it leaves a message, and where it makes a transfer. Assumes nothing.
+use Rattle.std.specs.Prelude.{Some}
 use Prim.Native.Nat.{ℕ, zero, suc, ◌-◌, ◌≤◌, ◌<◌}
 use mathlib.Core.Path.{◌≡◌, refl, sym, ap, subst}
 use mathlib.Core.Bool.{true, false, ◌&&◌, true≢false}
@@ -120,5 +121,5 @@ module _ (m : Module) (k : ℕ) where
   after_same long (Blocked id x) t c h g = absurd (true≢false c)
   after_same long (Changed a b v) t c h g = absurd (true≢false c)
   after_same long (Restarted mode) t c h g = absurd (true≢false c)
-  after_same long (Written i x) t c h g = rw (set_past m.messages i x (omega arith))
+  after_same long (Written i x) t c h g = rw (set_past m.messages i (Some x) (omega arith))
   after_same long (Passed i a v) t c h g = absurd (omega arith)

@@ -1,4 +1,5 @@
 -- The arrival list after each change, who joins it, and who stands in it before whom. Assumes nothing.
+use Rattle.machine.specs.declared.Mode.TheVariants.{Normal as NormalMode}
 use Prim.Native.Nat.{ℕ}
 use mathlib.Core.Path.{◌≡◌, refl, sym, ap, subst, ◌∙◌}
 use mathlib.Core.Bool.{true, false, ◌&&◌, and-true, or-false, Bool, not, ◌||◌, or-true, true≢false}
@@ -134,7 +135,7 @@ module _ (c : Context) {o : Partition} (k : SoundContext c o) (p : Partition) (v
   change_keeps (Ended u) h z = keeps_all served (waiters u p) p v.lists (waiters_created p v.lists u) (waiters_distinct p v.lists u)
   change_keeps (Handed u m) h z = keeps_all (handed m) (waiters u p) p v.lists (waiters_created p v.lists u) (waiters_distinct p v.lists u)
   change_keeps (LevelSet level holder) h z = keeps_same p _ v.lists refl
-  change_keeps (Entered d) h z = keeps_from p (with_mode 3 p) _ refl (keeps_each (entered d) (with_mode 3 p) v.lists)
+  change_keeps (Entered d) h z = keeps_from p (with_mode NormalMode p) _ refl (keeps_each (entered d) (with_mode NormalMode p) v.lists)
 
 -- ---------------------------------------------------------------- one put last
 pub last_arrives : (p : Partition) → ListedIn p → (id : ℕ) → ready_in p id ≡ true → Arrives id p (arrived_last id p)

@@ -1,4 +1,5 @@
 -- A law of the record of a partition after every event, from that law of each kind of event. Assumes nothing.
+use Rattle.machine.specs.Mode.{mode_number}
 use Prim.Native.Nat.{ℕ, ◌+◌, ◌-◌, ◌≤◌, ◌<◌}
 use mathlib.Core.Path.{◌≡◌, refl, sym, ap, subst, ◌∙◌}
 use mathlib.Core.Bool.{true, false, ◌||◌}
@@ -183,7 +184,7 @@ module _ (m : Module) (s : SoundModule m) (e : EventT) (k : ℕ) (b : Between 1 
       decided_is (Blocked w y) h g a = puts_own 7 (stored w y) (λ is. f.blocked (by ∙ ap pos is) call w y (subst (λ j. SoundDecision (context_of m j) (part m (j - 1)) (Blocked w y)) is h) (subst (λ j. Acts (context_of m j) asks (part m (j - 1)) number (Blocked w y)) is a))
       decided_is (Changed x y n) h g a = puts_own 0 (λ o. applied y (applied x o)) (λ is. f.changed (by ∙ ap pos is) call (subst (λ j. SoundContext (context_of m j) (part m (j - 1))) is (context_sound m s asks q)) x y n
           (subst (λ j. SoundDecision (context_of m j) (part m (j - 1)) (Changed x y n)) is h) (subst (λ j. Acts (context_of m j) asks (part m (j - 1)) number (Changed x y n)) is a))
-      decided_is (Restarted mode) h g a = restart_is mode a.2 a.0 a.1 h
+      decided_is (Restarted mode) h g a = restart_is (mode_number mode) a.2 a.0 a.1 h
       decided_is (Written i x) h g a = f.quiet from number by q.some call (rw a)
       decided_is (PassedOn i t n) h g a = passed_is i t n g
 

@@ -1,4 +1,5 @@
 -- Nobody waits for what is there: on every reached record, for every kind of object at once. Assumes nothing.
+use Rattle.machine.specs.Mode.{mode_number}
 use Prim.Native.Nat.{ℕ, ◌+◌, ◌-◌, ◌<◌}
 use mathlib.Core.Path.{◌≡◌, refl, ap, sym, ◌∙◌}
 use mathlib.Core.Bool.{true}
@@ -112,8 +113,8 @@ module _ (m : Module) (s : SoundModule m) (none : (i : ℕ) → i < m.table.size
     decided_none (Changed x y n) h b g f = puts (k - 1) here (applied y (applied x now)) (changed_none (context_of m k) now (s.each_partition (k - 1) here) (context_sound m s r q) (none (k - 1) here) (port_of m k r) (number_of r.call) x y n h g f)
     decided_none (Restarted mode) h b g f =
         let u = erased_to k channel_limit m in
-        let p = nothing_created mode in
-        refilled_keeps (λ _ x. NoneWaits x) k (with_part (k - 1) p u) (part_sound u (erased_sound k channel_limit m (omega arith) s) (k - 1) here p (nothing_valid m.table.frame m.t mode h)) channel_limit (λ i _ _. let_in_none i) (puts (k - 1) here p (nothing_none mode))
+        let p = nothing_created (mode_number mode) in
+        refilled_keeps (λ _ x. NoneWaits x) k (with_part (k - 1) p u) (part_sound u (erased_sound k channel_limit m (omega arith) s) (k - 1) here p (nothing_valid m.table.frame m.t (mode_number mode) h)) channel_limit (λ i _ _. let_in_none i) (puts (k - 1) here p (nothing_none (mode_number mode)))
     decided_none (Written j x) h b g f = none
     decided_none (PassedOn j a n) h b g f =
         let t = transfer_sound m s r q j a n b in

@@ -1,6 +1,6 @@
 -- Calls 26 to 29, of blackboards: what is shown of each. Assumes nothing.
+use Rattle.std.specs.Prelude.{Some, None}
 use mathlib.Core.Path.{refl}
-use mathlib.Core.Bool.{true, false}
 use native.Mathlib.Omega.{arith}
 use borrow.Author.Tests.{leb-false, not-false}
 use Rattle.machine.specs.declared.Wait.TheVariants.{Blackboard}
@@ -27,7 +27,7 @@ create_blackboard_holds = laws (λ _ _ _ _ _ _. refl) λ c x r p. checks _ _ ref
   codes = (refl, refl);
   sound = λ _ _ _.
       let room = leb-false blackboard_limit p.blackboard_count h.0 in
-      ((((omega arith, omega arith), omega arith), record { name = in_limits 1 name_limit r.a (not-false _ h.1.1.0); message = omega arith; blank = λ _. refl }), tt, omega arith);
+      ((((omega arith, omega arith), omega arith), record { name = in_limits 1 name_limit r.a (not-false _ h.1.1.0); message = omega arith }), tt, omega arith);
   order = (tt, tt);
   fair = λ v k kind i t. ⊎_elim inl (λ y. not_both _ y.2 refl) (blackboard_available c.frame c.time p v kind i _ _ t);
   calm = λ _ _ _ _ _. (tt, tt);
@@ -45,11 +45,11 @@ show_call = laws (λ _ _ _ _ _ _. refl) λ c x r p. checks _ _ refl (λ h.
       codes = (refl, refl);
       sound = λ v k _.
           let few = (in_limits 0 duration_limit r.b (not-false _ h.1.0)).1 in
-          (blackboard_known c p v k i b true m few (λ e. not_both _ refl e), few, omega arith);
+          (blackboard_known c p v k i b (Some m) few, few, omega arith);
       order = (tt, tt);
       fair = λ v k.
           let q = applied (showing i m p) p in
-          let w : ListedIn q = rw (blackboard_in i (record { name = (blackboard i p).name; shown = true; message = m }) p (within_in blackboard_limit i b.0 (omega (arith, b.1, v.objects.blackboards.numbered.few)))) v.lists in
+          let w : ListedIn q = rw (blackboard_in i (record { name = (blackboard i p).name; message = Some m }) p (within_in blackboard_limit i b.0 (omega (arith, b.1, v.objects.blackboards.numbered.few)))) v.lists in
           all_end c p v k x 27 q w (handed m) (λ _. refl) 5 i (omega arith) (λ kind j t. ⊎_elim inl (λ y. inr (y.0, y.1)) (blackboard_available c.frame c.time p v kind j i _ t));
       calm = λ kind j of low a. (tt, λ e. of.readers (omega (arith, b.1, a.valid.objects.blackboards.numbered.few)));
       stores = λ _. ((inl (b, refl), λ _. (inl refl, refl)), tt);
@@ -77,7 +77,7 @@ pub clear_call : Laws 29
 unfolding services clear Passed
 clear_call = laws (λ _ _ _ _ _ _. refl) λ c x r p. checks _ _ refl (λ h. let i = number_of r.a in record {
   codes = (refl, refl);
-  sound = λ v k _. (blackboard_known c p v k i (known_id i p.blackboard_count h.0) false 0 (omega arith) (λ _. refl), tt, omega arith);
+  sound = λ v k _. (blackboard_known c p v k i (known_id i p.blackboard_count h.0) None (omega arith), tt, omega arith);
   order = (tt, tt);
   fair = λ v k kind j t. ⊎_elim inl (λ y. not_both _ y.2 refl) (blackboard_available c.frame c.time p v kind j i _ t);
   calm = λ _ _ _ _ _. (tt, tt);

@@ -1,4 +1,5 @@
 -- An event and a blackboard stay as they are until a call sets them or their partition is erased. Assumes nothing.
+use Rattle.machine.specs.declared.Mode.TheVariants.{Normal as NormalMode}
 use Prim.Native.Nat.{ℕ, ◌+◌, ◌-◌, ◌≤◌, ◌<◌}
 use mathlib.Core.Path.{◌≡◌, refl, ap, sym, ◌∙◌}
 use mathlib.Core.Bool.{true, false}
@@ -108,7 +109,7 @@ module _ (n : ℕ) (r : Request) where
   change_left p (Ended o) h = rest_left p _ (changed_rest served (waiters o p) p)
   change_left p (Handed o m) h = rest_left p _ (changed_rest (handed m) (waiters o p) p)
   change_left p (LevelSet level holder) h = same_left p _ refl refl refl refl
-  change_left p (Entered c) h = left_along p (with_mode 3 p) _ (same_left p _ refl refl refl refl) (each_left (entered c) (with_mode 3 p))
+  change_left p (Entered c) h = left_along p (with_mode NormalMode p) _ (same_left p _ refl refl refl refl) (each_left (entered c) (with_mode NormalMode p))
 
 -- ---------------------------------------------------------------- one event
 module _ (m : Module) (e : EventT) where

@@ -1,4 +1,5 @@
 -- A call that comes to its body, given by its six numbers: what it decides is what it gives. Assumes nothing.
+use Rattle.machine.specs.Mode.{mode_number}
 use Prim.Native.Nat.{ℕ, zero, suc, ◌-◌, ◌≤◌, ◌<◌}
 use mathlib.Core.Path.{◌≡◌, refl, sym, ap, ◌∙◌}
 use mathlib.Core.Bool.{Bool, true, false, cond, true≢false}
@@ -94,7 +95,7 @@ module _ (m : Module) (k : ℕ) (u : SoundModule m) (h : Calling m k) where
   calling_valid = u.each_partition (k - 1) calling_place
 
   calling_caller : no_caller (own m k) ≡ false
-  calling_caller = rw (ne_eqb (own m k).mode 0 h.active) (either (normal_mode (own m k))
+  calling_caller = rw (ne_eqb (mode_number (own m k).mode) 0 h.active) (either (normal_mode (own m k))
       (λ e. rw (e, ne_eqb (running (own m k)) 0 (h.runs (eqb-true _ 3 e))))
       (λ e. rw e))
 
@@ -127,11 +128,11 @@ module _ (m : Module) (k : ℕ) (u : SoundModule m) (h : Calling m k) where
         let is : step m (call_by k n a b c e) ≡ stepped m (asked n (field a) (field b) (field c) (field e)) d = ap (λ (r : Request). stepped m r (decision m r)) request_is ∙ ap (stepped m (asked n (field a) (field b) (field c) (field e))) (decided stray ∙ q) in
         record { code_is = ap (λ (s : Stepped). s.answer.code) is; value_is = ap (λ (s : Stepped). s.answer.value) is; extra_is = ap (λ (s : Stepped). s.answer.extra) is; state = ap (λ (s : Stepped). s.state) is }
 
-  pub normal_not : ((own m k).mode ≡ 3 → ⊥) → normal_mode (own m k) ≡ false
-  normal_not n = ne_eqb (own m k).mode 3 n
+  pub normal_not : (mode_number (own m k).mode ≡ 3 → ⊥) → normal_mode (own m k) ≡ false
+  normal_not n = ne_eqb (mode_number (own m k).mode) 3 n
 
-  pub normal_is : (own m k).mode ≡ 3 → normal_mode (own m k) ≡ true
-  normal_is n = eq-eqb (own m k).mode 3 n
+  pub normal_is : mode_number (own m k).mode ≡ 3 → normal_mode (own m k) ≡ true
+  normal_is n = eq-eqb (mode_number (own m k).mode) 3 n
 
   pub known : (id count : ℕ) → Between 1 count id → unknown id count ≡ false
   known id count b = rw (ne_eqb id 0 (λ z. omega (arith, b.0)), le-ltb count id b.1)

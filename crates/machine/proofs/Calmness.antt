@@ -1,4 +1,5 @@
 -- What a change, a decision and a tick leave of who waits to send, and of its buffer. Assumes nothing.
+use Rattle.machine.specs.declared.Mode.TheVariants.{Normal as NormalMode}
 use Prim.Native.Nat.{ℕ, ◌≤◌, ◌<◌, max, ◌-◌}
 use mathlib.Core.Path.{◌≡◌, refl, ap, sym, ◌∙◌}
 use mathlib.Core.Bool.{true, false, not, ◌&&◌}
@@ -224,7 +225,7 @@ module _ (kind j : ℕ) (of : OfSenders kind) (low : j ≤ 16) where
   change_stays n c p v (Ended o) h g = ended_stays n served (λ _. refl) o p v.lists g
   change_stays n c p v (Handed o m) h g = ended_stays n (handed m) (λ _. refl) o p v.lists g
   change_stays n c p v (LevelSet level holder) h g = record { same = λ _. refl; count = omega arith; waits = λ id. keeps_same n (process id p).wait }
-  change_stays n c p v (Entered d) h g = stays_along n p (with_mode 3 p) _ (record { same = λ _. refl; count = omega arith; waits = λ id. keeps_same n (process id p).wait }) (each_stays n (entered d) (with_mode 3 p) v.lists (entered_keeps n d))
+  change_stays n c p v (Entered d) h g = stays_along n p (with_mode NormalMode p) _ (record { same = λ _. refl; count = omega arith; waits = λ id. keeps_same n (process id p).wait }) (each_stays n (entered d) (with_mode NormalMode p) v.lists (entered_keeps n d))
 
   -- ---------------------------------------------------------------- decisions
   -- a decides for call 1

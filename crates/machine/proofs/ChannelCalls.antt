@@ -1,4 +1,6 @@
 -- Calls 21, 22, 30 and 31, of channels: what is shown of each. Assumes nothing.
+use Rattle.machine.specs.Decisions.{blank_message}
+use Rattle.std.specs.Prelude.{unwrap_or}
 use Prim.Native.Nat.{ℕ, ◌+◌, ◌-◌, ◌≤◌, ◌<◌}
 use mathlib.Core.Path.{◌≡◌, refl, ap}
 use mathlib.Core.Bool.{true, not}
@@ -35,7 +37,7 @@ write_call = laws (λ _ _ _ _ _ _. refl) λ c x r p. checks _ _ refl (λ h. chec
 pub read_call : Laws 22
 unfolding services read channel_checks
 read_call = laws (λ _ _ _ _ _ _. refl) λ c x r p. checks _ _ refl (λ _. checks _ _ refl (λ _. answers refl (λ _ _ s.
-    (omega (arith, s.message.value), by_test (λ (n : ℕ). n ≤ number_limit) (leb (c.time - x.message.written) x.channel.refresh) (λ _. omega arith) (λ _. omega arith)))))
+    (omega (arith, s.message.value), by_test (λ (n : ℕ). n ≤ number_limit) (leb (c.time - (unwrap_or x.message blank_message).written) x.channel.refresh) (λ _. omega arith) (λ _. omega arith)))))
 
 -- at the wanted end of a queuing channel, by the checks
 module _ (x : Port) (wanted : ℕ) (h : Passed (channel_checks x (not (queuing_port x)) wanted)) where

@@ -1,4 +1,5 @@
 -- The account of a queuing channel, for every list of events from the fresh module on. Assumes nothing.
+use Rattle.machine.specs.Mode.{mode_number}
 use Prim.Native.Nat.{ℕ, ◌+◌, ◌-◌, ◌≤◌, ◌<◌}
 use mathlib.Core.Path.{◌≡◌, refl, ap, sym, ◌∙◌, subst}
 use mathlib.Core.Bool.{Bool, true, false, ◌&&◌, ◌||◌, and-false, or-true}
@@ -617,7 +618,7 @@ module _ (m : Module) (s : SoundModule m) (ends : ChannelEnds m) (i : ℕ) (ther
       other_even ne Ticked is h b f = absurd b
       other_even ne (Blocked id y) is h b f = leaves_by (Blocked id y) is (λ z. z) (rw (put_other (k - 1) (from - 1) (stored id y p) m refl (λ z. ne (let w = q.some in omega (arith, from_some)))) same_leaves) refl
       other_even ne (Changed a y v) is h b f = leaves_by (Changed a y v) is (λ z. z) (rw (put_other (k - 1) (from - 1) (applied y (applied a p)) m refl (λ z. ne (let w = q.some in omega (arith, from_some)))) same_leaves) refl
-      other_even ne (Restarted mode) is h b f = restart_even mode h f.0 f.1 sends_not receives_not
+      other_even ne (Restarted mode) is h b f = restart_even (mode_number mode) h f.0 f.1 sends_not receives_not
       other_even ne (Written a y) is h b f = leaves_by (Written a y) is (λ z. z) same_leaves refl
       other_even ne (PassedOn a y v) is h b f = passed_even a y v is b
 
@@ -649,7 +650,7 @@ module _ (m : Module) (s : SoundModule m) (ends : ChannelEnds m) (i : ℕ) (ther
           stored_even at z n (changed_stays 6 (i + 1) of_channels low n ctx sound_ctx p own_valid a y h.0 h.1 f.0 f.1) (change_valid ctx sound_ctx (applied a p) w y h.1).lists
           (part_trans (change_part senders some ctx p own_valid a h.0 g.0) (change_part senders some ctx (applied a p) w y h.1 g.1))
           0 v (not_restarted (Changed a y v) is (λ z. z) to) (λ z. rw (call_at from 5 at z) (or-true (is_tick e)))
-      own_even at (Restarted mode) is h b g f = restart_even mode h f.0 f.1 sends_not receives_not
+      own_even at (Restarted mode) is h b g f = restart_even (mode_number mode) h f.0 f.1 sends_not receives_not
       own_even at (Written a y) is h b g f = leaves_by (Written a y) is (λ z. z) same_leaves refl
       own_even at (PassedOn a y v) is h b g f = passed_even a y v is b
 

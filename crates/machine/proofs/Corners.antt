@@ -1,4 +1,7 @@
 -- The starred corners, from what each call does. Assumes nothing.
+use Rattle.machine.specs.Mode.{mode_number}
+use Rattle.machine.specs.declared.Mode.TheVariants.{Normal as NormalMode}
+use Rattle.machine.specs.declared.Message.{Message}
 use Prim.Native.Nat.{ℕ, suc, ◌+◌, ◌-◌, ◌*◌, ◌/◌, ◌%◌, ◌≤◌, ◌<◌}
 use mathlib.Core.Path.{◌≡◌, refl, sym, ap, ◌∙◌}
 use mathlib.Core.Bool.{Bool, true, false, cond, not, ◌&&◌, ◌||◌, and-false}
@@ -82,8 +85,8 @@ module _ (m : Module) (k : ℕ) (u : SoundModule m) (h : Calling m k) where
   known_id : (id count : ℕ) → Between 1 count id → not (plain_between 1 count (pos id)) ≡ false
   known_id id count b = rw (le-leb 1 id b.0, le-leb id count b.1)
 
-  in_normal : p.mode ≡ 3 → not (eqb p.mode 3) ≡ false
-  in_normal n = rw (eq-eqb p.mode 3 n)
+  in_normal : mode_number p.mode ≡ 3 → not (eqb (mode_number p.mode) 3) ≡ false
+  in_normal n = rw (eq-eqb (mode_number p.mode) 3 n)
 
   -- ---------------------------------------------------------------- creating
   -- neither 4 nor 1 nor 5: what is admitted is created, else 3
@@ -92,7 +95,7 @@ module _ (m : Module) (k : ℕ) (u : SoundModule m) (h : Calling m k) where
   unfolding Checks
   creating name_of name d limit l n s room new e ok q g =
       let r = (g.1 (lt-leb limit n room.less)).1 (new_name name_of name d limit n l s new) in
-      (λ t. (r.1 (rw t)).1 (ne_eqb p.mode 3 room.early), λ f. r.0 (rw f))
+      (λ t. (r.1 (rw t)).1 (ne_eqb (mode_number p.mode) 3 room.early), λ f. r.0 (rw f))
 
   module _ (name priority : ℕ) (period capacity : ℤ) (room : Room p p.process_count process_limit) (new : NewProcess p name) where
     create_process_holds : let e = call_by k 2 (pos name) (pos priority) period capacity in
@@ -200,14 +203,14 @@ module _ (m : Module) (k : ℕ) (u : SoundModule m) (h : Calling m k) where
 
   -- one that is accepted
   module _ (id delay n : ℕ) (b : Between 1 p.process_count id) (off : (process id p).started ≡ false) (e : (process id p).given.period ≡ Some n) (below : delay < n) where
-    delayed_early : (p.mode ≡ 3 → ⊥) → Puts m (call_by k 4 (pos id) (pos delay) (pos 0) (pos 0)) 0 0 k (with_process id (awaits_normal delay (process id p)) p.arrival p)
+    delayed_early : (mode_number p.mode ≡ 3 → ⊥) → Puts m (call_by k 4 (pos id) (pos delay) (pos 0) (pos 0)) 0 0 k (with_process id (awaits_normal delay (process id p)) p.arrival p)
     unfolding Checks
     delayed_early = ((((c.delayed (pos id) (pos delay)).1 (known_id id p.process_count b)).1 fits).1 off).0
       where
         fits : (not (in_d (pos delay)) || too_long delay (process id p).given.period) ≡ false
         fits = rw (from_zero delay, le-leb delay 9999999 (omega (arith, (period_high id n b e).1)), e, lt-leb n delay below)
 
-    delayed_release : (r : ℕ) → p.mode ≡ 3 → Release m.table k m.t r
+    delayed_release : (r : ℕ) → mode_number p.mode ≡ 3 → Release m.table k m.t r
         → Puts m (call_by k 4 (pos id) (pos delay) (pos 0) (pos 0)) 0 0 k (with_process id (awaits_release (r + delay) (process id p).times.delay (process id p).given.base false false (process id p)) p.arrival p)
     unfolding Checks
     delayed_release r normal f = ((((c.delayed (pos id) (pos delay)).1 (known_id id p.process_count b)).1 fits).1 off).2 n r normal e f
@@ -215,12 +218,12 @@ module _ (m : Module) (k : ℕ) (u : SoundModule m) (h : Calling m k) where
         fits : (not (in_d (pos delay)) || too_long delay (process id p).given.period) ≡ false
         fits = rw (from_zero delay, le-leb delay 9999999 (omega (arith, (period_high id n b e).1)), e, lt-leb n delay below)
 
-  delay_early_corner : (id n : ℕ) → Between 1 p.process_count id → (process id p).started ≡ false → (process id p).given.period ≡ Some n → (p.mode ≡ 3 → ⊥)
+  delay_early_corner : (id n : ℕ) → Between 1 p.process_count id → (process id p).started ≡ false → (process id p).given.period ≡ Some n → (mode_number p.mode ≡ 3 → ⊥)
       → Puts m (call_by k 4 (pos id) (pos (n - 1)) (pos 0) (pos 0)) 0 0 k (with_process id (awaits_normal (n - 1) (process id p)) p.arrival p)
       × Refuses m (call_by k 4 (pos id) (pos n) (pos 0) (pos 0)) 3
   delay_early_corner id n b off e early = (delayed_early id (n - 1) n b off e (omega (arith, (period_high id n b e).0)) early, delay_refused id n b e)
 
-  delay_normal_corner : (id n r : ℕ) → Between 1 p.process_count id → (process id p).started ≡ false → (process id p).given.period ≡ Some n → p.mode ≡ 3 → Release m.table k m.t r
+  delay_normal_corner : (id n r : ℕ) → Between 1 p.process_count id → (process id p).started ≡ false → (process id p).given.period ≡ Some n → mode_number p.mode ≡ 3 → Release m.table k m.t r
       → Puts m (call_by k 4 (pos id) (pos (n - 1)) (pos 0) (pos 0)) 0 0 k
       (with_process id (awaits_release (r + (n - 1)) (process id p).times.delay (process id p).given.base false false (process id p)) p.arrival p)
       × Refuses m (call_by k 4 (pos id) (pos n) (pos 0) (pos 0)) 3
@@ -228,7 +231,7 @@ module _ (m : Module) (k : ℕ) (u : SoundModule m) (h : Calling m k) where
 
   -- ---------------------------------------------------------------- a periodic process is released
   module _ (r : ℕ) (f : Release m.table k m.t r) where
-    started_release : (id n : ℕ) → p.mode ≡ 3 → Between 1 p.process_count id → (process id p).started ≡ false → (process id p).given.period ≡ Some n
+    started_release : (id n : ℕ) → mode_number p.mode ≡ 3 → Between 1 p.process_count id → (process id p).started ≡ false → (process id p).given.period ≡ Some n
         → Puts m (call_by k 3 (pos id) (pos 0) (pos 0) (pos 0)) 0 0 k (with_process id (awaits_release r (process id p).times.delay (process id p).given.base false false (process id p)) p.arrival p)
     unfolding Checks
     started_release id n normal b off e =
@@ -236,7 +239,7 @@ module _ (m : Module) (k : ℕ) (u : SoundModule m) (h : Calling m k) where
         rw (add-zero r) at (((((c.start (pos id)).1 (known_id id p.process_count b)).1 (rw (e, lt-leb n 0 (omega arith)))).1 off).2 n r normal e f)
 
     -- the process after START
-    pub started_process : (id n : ℕ) → p.mode ≡ 3 → Between 1 p.process_count id → (process id p).started ≡ false → (process id p).given.period ≡ Some n
+    pub started_process : (id n : ℕ) → mode_number p.mode ≡ 3 → Between 1 p.process_count id → (process id p).started ≡ false → (process id p).given.period ≡ Some n
         → process id (own (step m (call_by k 3 (pos id) (pos 0) (pos 0) (pos 0))).state k) ≡ awaits_release r (process id p).times.delay (process id p).given.base false false (process id p)
     started_process id n normal b off e =
         let x = awaits_release r (process id p).times.delay (process id p).given.base false false (process id p) in
@@ -244,18 +247,18 @@ module _ (m : Module) (k : ℕ) (u : SoundModule m) (h : Calling m k) where
         ap (process id) (own_after m k u h _ (started_release id n normal b off e)) ∙ named_same process_limit blank_process id x p.processes b.0 (omega (arith, b.1)) (omega (arith, b.1, v.lists.numbered.size))
 
     -- entering NORMAL
-    enter_release : (id n : ℕ) → (p.mode ≡ 3 → ⊥) → Between 1 p.process_count id → (process id p).wait ≡ Normal → (process id p).given.period ≡ Some n → let a = call_by k 1 (pos 3) (pos 0) (pos 0) (pos 0) in
+    enter_release : (id n : ℕ) → (mode_number p.mode ≡ 3 → ⊥) → Between 1 p.process_count id → (process id p).wait ≡ Normal → (process id p).given.period ≡ Some n → let a = call_by k 1 (pos 3) (pos 0) (pos 0) (pos 0) in
         let x = process id p in
-        ((step m a).answer.code ≡ 0) × ((own (step m a).state k).mode ≡ 3)
+        ((step m a).answer.code ≡ 0) × (mode_number (own (step m a).state k).mode ≡ 3)
         × (process id (own (step m a).state k) ≡ awaits_release (r + x.times.delay) x.times.delay x.current x.suspended false x)
     unfolding Checks
     enter_release id n early b w e =
-        let g = (((((c.set_mode (pos 3)).1 refl).1 (rw (ne_eqb p.mode 3 early))).1 refl).1 (rw (ne_eqb p.process_count 0 (λ z. omega (arith, b.0, b.1))))).0 refl r f in
-        let q = with_mode_and_lock 3 0 0 p in
+        let g = (((((c.set_mode (pos 3)).1 refl).1 (rw (ne_eqb (mode_number p.mode) 3 early))).1 refl).1 (rw (ne_eqb p.process_count 0 (λ z. omega (arith, b.0, b.1))))).0 refl r f in
+        let q = with_mode_and_lock NormalMode 0 0 p in
         let f = entering m.t r in
         let is = own_after m k u h _ g ∙ sym (each_plain f q v.lists) in (
           g.code_is,
-          ap (λ (q : Partition). q.mode) is ∙ ap (λ (q : Partition). q.mode) (each_rest f q v.lists),
+          ap (λ (q : Partition). (mode_number q.mode)) is ∙ ap (λ (q : Partition). (mode_number q.mode)) (each_rest f q v.lists),
           ap (process id) is ∙ each_process_holds f q v.lists id b ∙ rw (w, e),
         )
 
@@ -268,27 +271,27 @@ module _ (m : Module) (k : ℕ) (u : SoundModule m) (h : Calling m k) where
   -- ---------------------------------------------------------------- reading a channel
   age_corner : (i : ℕ) → let x = message m (i - 1) in
       let refresh = (channel m.table (i - 1)).refresh in
-      Between 1 m.table.channel_count i → (channel m.table (i - 1)).size ≡ 0 → (channel m.table (i - 1)).destination ≡ k → x.present ≡ true
-      → (m.t ≡ x.written + refresh → Gives m (call_by k 22 (pos i) (pos 0) (pos 0) (pos 0)) 0 x.value (Some 1) m)
-      × (m.t ≡ x.written + refresh + 1 → Gives m (call_by k 22 (pos i) (pos 0) (pos 0) (pos 0)) 0 x.value (Some 0) m)
+      Between 1 m.table.channel_count i → (channel m.table (i - 1)).size ≡ 0 → (channel m.table (i - 1)).destination ≡ k → (y : Message) → x ≡ Some y
+      → (m.t ≡ y.written + refresh → Gives m (call_by k 22 (pos i) (pos 0) (pos 0) (pos 0)) 0 y.value (Some 1) m)
+      × (m.t ≡ y.written + refresh + 1 → Gives m (call_by k 22 (pos i) (pos 0) (pos 0) (pos 0)) 0 y.value (Some 0) m)
   unfolding Checks
-  age_corner i b sampling d here =
+  age_corner i b sampling d z here =
       let x = message m (i - 1) in
       let y = channel m.table (i - 1) in
       let at : eqb y.destination k ≡ true = eq-eqb _ _ d in
       let g = (((((c.read (pos i)).1 (known_id i m.table.channel_count b)).1 (rw sampling)).1 (rw at (and-false (not (eqb y.source k))))).1 (rw at)).1 (rw here) in
-      (λ t. rw (le-leb (m.t - x.written) y.refresh (omega arith)) at g, λ t. rw (lt-leb (m.t - x.written) y.refresh (omega arith)) at g)
+      (λ t. rw (here, le-leb (m.t - z.written) y.refresh (omega arith)) at g, λ t. rw (here, lt-leb (m.t - z.written) y.refresh (omega arith)) at g)
 
   -- ---------------------------------------------------------------- time-out 0
-  suspend_self_corner : p.mode ≡ 3 → p.level ≡ 0 → (process (running p) p).given.period ≡ None → Gives m (call_by k 8 (pos 0) (pos 0) (pos 0) (pos 0)) 0 0 (Some 0) m
+  suspend_self_corner : mode_number p.mode ≡ 3 → p.level ≡ 0 → (process (running p) p).given.period ≡ None → Gives m (call_by k 8 (pos 0) (pos 0) (pos 0) (pos 0)) 0 0 (Some 0) m
   unfolding Checks
-  suspend_self_corner n free never = ((((c.suspend_self (pos 0)).1 (rw (eq-eqb p.mode 3 n, never))).1 refl).1 (le-ltb 0 p.level (omega (arith, free)))).0 refl
+  suspend_self_corner n free never = ((((c.suspend_self (pos 0)).1 (rw (eq-eqb (mode_number p.mode) 3 n, never))).1 refl).1 (le-ltb 0 p.level (omega (arith, free)))).0 refl
 
-  timed_wait_corner : p.mode ≡ 3 → p.level ≡ 0 → Puts m (call_by k 9 (pos 0) (pos 0) (pos 0) (pos 0)) 0 0 k (with_processes p.processes p.process_count (at_end (running p) p.arrival) p.waiting p)
+  timed_wait_corner : mode_number p.mode ≡ 3 → p.level ≡ 0 → Puts m (call_by k 9 (pos 0) (pos 0) (pos 0) (pos 0)) 0 0 k (with_processes p.processes p.process_count (at_end (running p) p.arrival) p.waiting p)
   unfolding Checks
   timed_wait_corner n free = ((((c.timed_wait (pos 0)).1 (in_normal n)).1 refl).1 (le-ltb 0 p.level (omega (arith, free)))).0 refl
 
-  wait_semaphore_corner : (j : ℕ) → p.mode ≡ 3 → Between 1 p.semaphore_count j
+  wait_semaphore_corner : (j : ℕ) → mode_number p.mode ≡ 3 → Between 1 p.semaphore_count j
       → ((semaphore j p).value ≡ 0 → Refuses m (call_by k 15 (pos j) (pos 0) (pos 0) (pos 0)) 2)
       × ((n : ℕ) → (semaphore j p).value ≡ suc n → Puts m (call_by k 15 (pos j) (pos 0) (pos 0) (pos 0)) 0 0 k (with_semaphore_at j n p))
   unfolding Checks
@@ -298,26 +301,26 @@ module _ (m : Module) (k : ℕ) (u : SoundModule m) (h : Calling m k) where
         λ r z. let e : (semaphore j p).value - 1 ≡ r = rw z (omega arith) in rw e at (g.0 (lt-ltb 0 (semaphore j p).value (omega (arith, z)))),
       )
 
-  wait_event_corner : (j : ℕ) → p.mode ≡ 3 → Between 1 p.event_count j
+  wait_event_corner : (j : ℕ) → mode_number p.mode ≡ 3 → Between 1 p.event_count j
       → ((event j p).up ≡ false → Refuses m (call_by k 20 (pos j) (pos 0) (pos 0) (pos 0)) 2)
       × ((event j p).up ≡ true → Gives m (call_by k 20 (pos j) (pos 0) (pos 0) (pos 0)) 0 0 (Some 0) m)
   unfolding Checks
   wait_event_corner j n b = let g = (((c.wait_event (pos j) (pos 0)).1 (known_id j p.event_count b)).1 (in_normal n)).1 refl in (λ z. (g.1 z).0 refl, λ z. g.0 z)
 
-  send_buffer_corner : (j x : ℕ) → p.mode ≡ 3 → Between 1 p.buffer_count j → x ≤ duration_limit → (buffer j p).queue.len ≡ (buffer j p).limit → Refuses m (call_by k 24 (pos j) (pos x) (pos 0) (pos 0)) 2
+  send_buffer_corner : (j x : ℕ) → mode_number p.mode ≡ 3 → Between 1 p.buffer_count j → x ≤ duration_limit → (buffer j p).queue.len ≡ (buffer j p).limit → Refuses m (call_by k 24 (pos j) (pos x) (pos 0) (pos 0)) 2
   unfolding Checks
   send_buffer_corner j x n b ok full =
       (((((c.send_buffer (pos j) (pos x) (pos 0)).1 (known_id j p.buffer_count b)).1 (in_normal n)).1 (rw (from_zero x, le-leb x 9999999 ok))).1 (le-ltb (buffer j p).queue.len (buffer j p).limit (omega (arith, full)))).0 refl
 
-  receive_buffer_corner : (j : ℕ) → p.mode ≡ 3 → Between 1 p.buffer_count j → (buffer j p).queue.len ≡ 0 → Refuses m (call_by k 25 (pos j) (pos 0) (pos 0) (pos 0)) 2
+  receive_buffer_corner : (j : ℕ) → mode_number p.mode ≡ 3 → Between 1 p.buffer_count j → (buffer j p).queue.len ≡ 0 → Refuses m (call_by k 25 (pos j) (pos 0) (pos 0) (pos 0)) 2
   unfolding Checks
   receive_buffer_corner j n b none = (((((c.receive_buffer (pos j) (pos 0)).1 (known_id j p.buffer_count b)).1 (in_normal n)).1 refl).1 (rw none)).0 refl
 
-  read_blackboard_corner : (j : ℕ) → p.mode ≡ 3 → Between 1 p.blackboard_count j
-      → ((blackboard j p).shown ≡ false → Refuses m (call_by k 28 (pos j) (pos 0) (pos 0) (pos 0)) 2)
-      × ((blackboard j p).shown ≡ true → Gives m (call_by k 28 (pos j) (pos 0) (pos 0) (pos 0)) 0 (blackboard j p).message (Some 0) m)
+  read_blackboard_corner : (j : ℕ) → mode_number p.mode ≡ 3 → Between 1 p.blackboard_count j
+      → ((blackboard j p).message ≡ None → Refuses m (call_by k 28 (pos j) (pos 0) (pos 0) (pos 0)) 2)
+      × ((x : ℕ) → (blackboard j p).message ≡ Some x → Gives m (call_by k 28 (pos j) (pos 0) (pos 0) (pos 0)) 0 x (Some 0) m)
   unfolding Checks
-  read_blackboard_corner j n b = let g = (((c.read_blackboard (pos j) (pos 0)).1 (known_id j p.blackboard_count b)).1 (in_normal n)).1 refl in (λ z. (g.1 z).0 refl, λ z. g.0 z)
+  read_blackboard_corner j n b = let g = (((c.read_blackboard (pos j) (pos 0)).1 (known_id j p.blackboard_count b)).1 (in_normal n)).1 refl in (λ z. (g.1 (rw z)).0 refl, λ x z. rw z at (g.0 (rw z)))
 
   -- ---------------------------------------------------------------- SIGNAL, PERIODIC_WAIT
   signal_corner : (j : ℕ) → Between 1 p.semaphore_count j → (semaphore j p).value ≡ (semaphore j p).max → Refuses m (call_by k 16 (pos j) (pos 0) (pos 0) (pos 0)) 1
@@ -326,10 +329,10 @@ module _ (m : Module) (k : ℕ) (u : SoundModule m) (h : Calling m k) where
 
   periodic_wait_corner : (r n : ℕ) → let id = running p in
       let x = process id p in
-      p.mode ≡ 3 → p.level ≡ 0 → x.times.release ≡ Some r → x.given.period ≡ Some n
+      mode_number p.mode ≡ 3 → p.level ≡ 0 → x.times.release ≡ Some r → x.given.period ≡ Some n
       → Puts m (call_by k 10 (pos 0) (pos 0) (pos 0) (pos 0)) 7 0 k (with_process id (awaits_next (r + n) x) (without id p.arrival) p)
   unfolding Checks
-  periodic_wait_corner r n normal free e f = (c.periodic_wait.1 (rw (eq-eqb p.mode 3 normal, f))).1 (le-ltb 0 p.level (omega (arith, free))) r n e f
+  periodic_wait_corner r n normal free e f = (c.periodic_wait.1 (rw (eq-eqb (mode_number p.mode) 3 normal, f))).1 (le-ltb 0 p.level (omega (arith, free))) r n e f
 
 pub corners : (m : Module) (k : ℕ) → Calling m k → Corners m k
 corners m k h = let u = calling_sound m k h in record {

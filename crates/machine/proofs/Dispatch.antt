@@ -1,4 +1,5 @@
 -- A law of every event from that law of each place and each call, and a law of the module from that law of each decision. Assumes nothing.
+use Rattle.std.specs.Prelude.{Some}
 use Prim.Native.Nat.{ℕ, ◌-◌, ◌<◌}
 use mathlib.Core.Path.{◌≡◌, refl}
 use mathlib.Core.Bool.{Bool, true, false, ◌&&◌}
@@ -59,7 +60,7 @@ pub by_decision : (m : Module) (k : ℕ) (d : Decision) (P : Module → Type 0)
     → P (tick_module m)
     → P (with_part (k - 1) (partition_after d (part m (k - 1))) m)
     → P (restarted k (partition_after d (part m (k - 1))) m)
-    → ((i : ℕ) (x : Message) → d ≡ Written i x → P (with_message i x m))
+    → ((i : ℕ) (x : Message) → d ≡ Written i x → P (with_message i (Some x) m))
     → ((i : ℕ) (a : Transfer) (v : ℕ) → d ≡ PassedOn i a v → P (passed k i a m))
     → P (module_after m k d)
 by_decision m k (Refused n) P same tick one all put pass = same

@@ -1,4 +1,9 @@
 -- What each call does: its checks in the order written, and the whole record after it. Assumes nothing.
+use Rattle.machine.specs.Mode.{mode_numbered}
+use Rattle.machine.proofs.ModeNumbers.{numbered_back}
+use Rattle.machine.specs.Mode.{mode_number}
+use Rattle.machine.specs.declared.Mode.TheVariants.{Normal as NormalMode}
+use Rattle.std.specs.Prelude.{Option, is_some, unwrap_or}
 use Prim.Native.Nat.{ℕ, zero, suc, ◌+◌, ◌-◌, ◌%◌, ◌≤◌, ◌<◌, max}
 use mathlib.Core.Path.{◌≡◌, refl, sym, ap, ◌∙◌, ap₂}
 use mathlib.Core.Bool.{Bool, true, false, cond, not, ◌&&◌, ◌||◌, and-true, and-false}
@@ -176,17 +181,17 @@ each_alike f g (suc n) id p same =
     let other = process_other p id (g (process id p)) y (λ e. omega arith) in
     rw other (same y (omega arith) (omega arith)))
 
-kept_length : (T : Table) (k n : ℕ) (l : List Message) → length (Ch.kept_to T k n l) ≡ length l
+kept_length : (T : Table) (k n : ℕ) (l : List (Option Message)) → length (Ch.kept_to T k n l) ≡ length l
 unfolding Ch.kept_to
 kept_length T k zero l = refl
-kept_length T k (suc n) l = by_test (λ (r : List Message). length r ≡ length l) (eqb (channel T n).destination k) (λ _. simp length-set (kept_length T k n l)) (λ _. kept_length T k n l)
+kept_length T k (suc n) l = by_test (λ (r : List (Option Message)). length r ≡ length l) (eqb (channel T n).destination k) (λ _. simp length-set (kept_length T k n l)) (λ _. kept_length T k n l)
 
 -- the messages without those on channels into a partition, at each place
-kept_in : (T : Table) (k n : ℕ) (l : List Message) (j : ℕ) → j < length l → get_or (Ch.kept_to T k n l) j D.no_message ≡ cond (ltb j n && eqb (channel T j).destination k) D.no_message (get_or l j D.no_message)
+kept_in : (T : Table) (k n : ℕ) (l : List (Option Message)) (j : ℕ) → j < length l → get_or (Ch.kept_to T k n l) j D.no_message ≡ cond (ltb j n && eqb (channel T j).destination k) D.no_message (get_or l j D.no_message)
 unfolding Ch.kept_to
 kept_in T k zero l j h = rw (le-ltb j 0 (omega arith))
 kept_in T k (suc n) l j h =
-    by_test (λ (r : List Message). get_or r j D.no_message ≡ cond (ltb j (suc n) && eqb (channel T j).destination k) D.no_message (get_or l j D.no_message)) (eqb (channel T n).destination k)
+    by_test (λ (r : List (Option Message)). get_or r j D.no_message ≡ cond (ltb j (suc n) && eqb (channel T j).destination k) D.no_message (get_or l j D.no_message)) (eqb (channel T n).destination k)
     (λ q. ⊎_elim
     (λ (e : j ≡ n). rw (e, lt-ltb n (suc n) (omega arith), q) (get_or-set_same (Ch.kept_to T k n l) n D.no_message D.no_message (rw (kept_length T k n l) (omega arith))))
     (λ (ne : j ≡ n → ⊥). get_or-set_other (Ch.kept_to T k n l) n j D.no_message D.no_message ne ∙ kept_in T k n l j h ∙ ap (λ b. cond (b && eqb (channel T j).destination k) D.no_message (get_or l j D.no_message)) (below ne))
@@ -201,26 +206,26 @@ kept_in T k (suc n) l j h =
         (λ e. rw (e, lt-ltb j (suc n) (omega (arith, ltb-true j n e))))
         (λ e. rw (e, le-ltb j (suc n) (omega (arith, ltb-false j n e, ne))))
 
-pub kept_at : (T : Table) (k n : ℕ) (l : List Message) (j : ℕ) → get_or (Ch.kept_to T k n l) j D.no_message ≡ cond (ltb j n && eqb (channel T j).destination k) D.no_message (get_or l j D.no_message)
+pub kept_at : (T : Table) (k n : ℕ) (l : List (Option Message)) (j : ℕ) → get_or (Ch.kept_to T k n l) j D.no_message ≡ cond (ltb j n && eqb (channel T j).destination k) D.no_message (get_or l j D.no_message)
 kept_at T k n l j = either (ltb j (length l))
     (λ e. kept_in T k n l j (ltb-true j (length l) e))
     (λ e.
     let past = ltb-false j (length l) e in
     get_or-eq_default (Ch.kept_to T k n l) D.no_message (rw (kept_length T k n l) past)
-    ∙ sym (rw (get_or-eq_default l D.no_message past) (by_test (λ (x : Message). x ≡ D.no_message) (ltb j n && eqb (channel T j).destination k) (λ _. refl) (λ _. refl))))
+    ∙ sym (rw (get_or-eq_default l D.no_message past) (by_test (λ (x : Option Message). x ≡ D.no_message) (ltb j n && eqb (channel T j).destination k) (λ _. refl) (λ _. refl))))
 
-without_size : (T : Table) (k i : ℕ) (l : List Message) → length (without_into T k i l) ≡ length l
+without_size : (T : Table) (k i : ℕ) (l : List (Option Message)) → length (without_into T k i l) ≡ length l
 unfolding without_into
 without_size T k i [] = refl
 without_size T k i (x ∷ l) = ap suc (without_size T k (i + 1) l)
 
-without_at : (T : Table) (k i : ℕ) (l : List Message) (j : ℕ) → j < length l → get_or (without_into T k i l) j D.no_message ≡ cond (eqb (channel T (i + j)).destination k) D.no_message (get_or l j D.no_message)
+without_at : (T : Table) (k i : ℕ) (l : List (Option Message)) (j : ℕ) → j < length l → get_or (without_into T k i l) j D.no_message ≡ cond (eqb (channel T (i + j)).destination k) D.no_message (get_or l j D.no_message)
 unfolding without_into
 without_at T k i [] j h = absurd (omega arith)
 without_at T k i (x ∷ l) zero h = let e : i ≡ i + 0 = omega arith in ap (λ n. cond (eqb (channel T n).destination k) D.no_message x) e
 without_at T k i (x ∷ l) (suc j) h = let e : i + 1 + j ≡ i + suc j = omega arith in without_at T k (i + 1) l j (omega arith) ∙ ap (λ n. cond (eqb (channel T n).destination k) D.no_message (get_or l j D.no_message)) e
 
-erased_is : (T : Table) (k : ℕ) (l : List Message) → length l ≡ channel_limit → Ch.kept_to T k channel_limit l ≡ without_into T k 0 l
+erased_is : (T : Table) (k : ℕ) (l : List (Option Message)) → length l ≡ channel_limit → Ch.kept_to T k channel_limit l ≡ without_into T k 0 l
 erased_is T k l size = ext_get_or D.no_message (Ch.kept_to T k channel_limit l) (without_into T k 0 l) (kept_length T k channel_limit l ∙ sym (without_size T k 0 l)) (λ j h.
     let lt : j < length l = rw (kept_length T k channel_limit l) at h in
     let z : 0 + j ≡ j = omega arith in
@@ -319,7 +324,7 @@ module _ (m : Module) (k : ℕ) (u : SoundModule m) (h : Calling m k) where
   timeout_is a = let l = lossless a in rw (l.is_minus_one, l.between 0 duration_limit (omega arith))
 
   -- the caller of a NORMAL partition
-  caller : p.mode ≡ 3 → (Between 1 p.process_count (running p)) × (ready (process (running p) p) ≡ true)
+  caller : mode_number p.mode ≡ 3 → (Between 1 p.process_count (running p)) × (ready (process (running p) p) ≡ true)
   caller n = let c = running_caller p v.lists v.lock (h.runs n) in (c.created, c.is_ready)
 
   suspend_self_law : SuspendSelf m k
@@ -348,8 +353,8 @@ module _ (m : Module) (k : ℕ) (u : SoundModule m) (h : Calling m k) where
   event_at_holds : (j : ℕ) → Between 1 p.event_count j → (up : Bool) → stored_event j (record { name = (event j p).name; up = up }) p ≡ with_event_at j up p
   event_at_holds j b up = let s : max p.event_count j ≡ p.event_count = omega (arith, b.1) in event_in j _ p (within_in event_limit j b.0 (omega (arith, b.1, v.objects.events.numbered.few))) ∙ rw s
 
-  board_at_holds : (j : ℕ) → Between 1 p.blackboard_count j → (shown : Bool) (x : ℕ) → stored_blackboard j (record { name = (blackboard j p).name; shown = shown; message = x }) p ≡ with_board_at j shown x p
-  board_at_holds j b shown x = let s : max p.blackboard_count j ≡ p.blackboard_count = omega (arith, b.1) in blackboard_in j _ p (within_in blackboard_limit j b.0 (omega (arith, b.1, v.objects.blackboards.numbered.few))) ∙ rw s
+  board_at_holds : (j : ℕ) → Between 1 p.blackboard_count j → (x : Option ℕ) → stored_blackboard j (record { name = (blackboard j p).name; message = x }) p ≡ with_board_at j x p
+  board_at_holds j b x = let s : max p.blackboard_count j ≡ p.blackboard_count = omega (arith, b.1) in blackboard_in j _ p (within_in blackboard_limit j b.0 (omega (arith, b.1, v.objects.blackboards.numbered.few))) ∙ rw s
 
   semaphore_at : (j : ℕ) → Between 1 p.semaphore_count j → (n : ℕ) → stored_semaphore j (record { name = (semaphore j p).name; value = n; max = (semaphore j p).max }) p ≡ with_semaphore_at j n p
   semaphore_at j b n = let s : max p.semaphore_count j ≡ p.semaphore_count = omega (arith, b.1) in semaphore_in j _ p (within_in semaphore_limit j b.0 (omega (arith, b.1, v.objects.semaphores.numbered.few))) ∙ rw s
@@ -381,8 +386,8 @@ module _ (m : Module) (k : ℕ) (u : SoundModule m) (h : Calling m k) where
 
   clear_law : Clear m k
   unfolding call_decision services stray_field D.checked Bb.clear
-  clear_law (pos j) = by_id_holds 29 j (pos 0) (pos 0) (pos 0) (omega arith) (omega arith) p.blackboard_count few_blackboards _ _ refl (D.changed (StoredBlackboard j (record { name = (blackboard j p).name; shown = false; message = 0 })))
-      (λ t. rw (unknown_is (pos j) p.blackboard_count few_blackboards, t)) (λ f b. rw (f, known m k u h j p.blackboard_count b)) (λ b _ g. puts_is m k _ _ g (board_at_holds j b false 0))
+  clear_law (pos j) = by_id_holds 29 j (pos 0) (pos 0) (pos 0) (omega arith) (omega arith) p.blackboard_count few_blackboards _ _ refl (D.changed (StoredBlackboard j (record { name = (blackboard j p).name; message = None })))
+      (λ t. rw (unknown_is (pos j) p.blackboard_count few_blackboards, t)) (λ f b. rw (f, known m k u h j p.blackboard_count b)) (λ b _ g. puts_is m k _ _ g (board_at_holds j b None))
   clear_law (negsuc j) = by_none 29 j (pos 0) (pos 0) (pos 0) (omega arith) (omega arith) p.blackboard_count few_blackboards _ _ refl (rw (unknown_is (negsuc j) p.blackboard_count few_blackboards))
 
   signal_law : Signal m k
@@ -400,30 +405,30 @@ module _ (m : Module) (k : ℕ) (u : SoundModule m) (h : Calling m k) where
   show_law : Show m k
   unfolding call_decision services stray_field D.checked Passed Bb.show
   show_law (pos j) b = by_id_holds 27 j b (pos 0) (pos 0) (omega arith) (omega arith) p.blackboard_count few_blackboards _ _ refl
-      (Changed (StoredBlackboard j (record { name = (blackboard j p).name; shown = true; message = number_of (field b) })) (Handed (object (Blackboard j)) (number_of (field b))) 0)
+      (Changed (StoredBlackboard j (record { name = (blackboard j p).name; message = Some (number_of (field b)) })) (Handed (object (Blackboard j)) (number_of (field b))) 0)
       (λ t. rw (unknown_is (pos j) p.blackboard_count few_blackboards, t)) (λ f r. rw (f, known m k u h j p.blackboard_count r, (lossless b).between 0 duration_limit (omega arith))) (λ r q g.
       let o = object (Blackboard j) in
       let is = number_in 0 duration_limit b (omega arith) (not-false _ q.0) in
-      let same = blackboard_queue p v.lists o (λ z. omega arith) j (record { name = (blackboard j p).name; shown = true; message = id_of b }) in
-      puts_is m k _ _ (rw is at g) (rw (same, board_at_holds j r true (id_of b)) (all_plain (handed (id_of b)) (waiters o p) (with_board_at j true (id_of b) p) v.lists (waiters_created p v.lists o))))
+      let same = blackboard_queue p v.lists o (λ z. omega arith) j (record { name = (blackboard j p).name; message = Some (id_of b) }) in
+      puts_is m k _ _ (rw is at g) (rw (same, board_at_holds j r (Some (id_of b))) (all_plain (handed (id_of b)) (waiters o p) (with_board_at j (Some (id_of b)) p) v.lists (waiters_created p v.lists o))))
   show_law (negsuc j) b = by_none 27 j b (pos 0) (pos 0) (omega arith) (omega arith) p.blackboard_count few_blackboards _ _ refl (rw (unknown_is (negsuc j) p.blackboard_count few_blackboards))
 
   -- a call that waits
   module _ (n : ℕ) (x y z e : ℤ) (lo : 1 ≤ n) (hi : n ≤ call_limit) (stray : stray_field (service_of n).fields (asked m k u h n (field x) (field y) (field z) (field e)) ≡ false) where
     waiting : (a : ℤ) (before : List (Bool × ℕ)) (ok available : Bool) (success : Decision) (w : Wait) (S : Type 0)
-        → decides m k u h n x y z e lo hi ≡ D.checked Refused (before ++ ((not (eqb p.mode 3), 5) ∷ (not ok, 3) ∷ [])) (cond available success (D.queued (context_of m k) (field a) w p))
+        → decides m k u h n x y z e lo hi ≡ D.checked Refused (before ++ ((not (eqb (mode_number p.mode) 3), 5) ∷ (not ok, 3) ∷ [])) (cond available success (D.queued (context_of m k) (field a) w p))
         → (ok ≡ true → in_t a ≡ true)
         → (Passed before → ok ≡ true → available ≡ true → Gives m (call_by k n x y z e) (reply_of success).code (reply_of success).value (reply_of success).extra (module_after m k success) → S)
         → MayWait m k (call_by k n x y z e) before ok a available S w
     unfolding Passed D.queued D.blocked D.checked
     waiting a before ok available success w S is t f =
         by_list n x y z e lo hi stray _ (cond available success (D.queued (context_of m k) (field a) w p)) _ is (λ q g.
-        let passed = passed_parts before ((not (eqb p.mode 3), 5) ∷ (not ok, 3) ∷ []) q in
+        let passed = passed_parts before ((not (eqb (mode_number p.mode) 3), 5) ∷ (not ok, 3) ∷ []) q in
         let r = passed.1 in
         let until = until_plain a (t (not-false _ r.1.0)) in (
           λ av. f passed.0 (not-false _ r.1.0) av (rw av at g),
           λ av. by_list n x y z e lo hi stray _ (Blocked (running p) (waiting_for w (plain_later (Some m.t) (time_in a)) (process (running p) p))) _
-              (is ∙ passed_is (before ++ ((not (eqb p.mode 3), 5) ∷ (not ok, 3) ∷ [])) (cond available success (D.queued (context_of m k) (field a) w p)) q ∙ rw (av, until, (lossless a).is_number 0 (omega arith)))
+              (is ∙ passed_is (before ++ ((not (eqb (mode_number p.mode) 3), 5) ∷ (not ok, 3) ∷ [])) (cond available success (D.queued (context_of m k) (field a) w p)) q ∙ rw (av, until, (lossless a).is_number 0 (omega arith)))
               (λ _ g. puts_stored _ 7 (running p) _ (caller (eqb-true _ 3 (not-false _ r.0))).0 g),
         ))
 
@@ -481,7 +486,7 @@ module _ (m : Module) (k : ℕ) (u : SoundModule m) (h : Calling m k) where
   read_blackboard_law : ReadBlackboard m k
   unfolding call_decision services stray_field D.checked D.awaiting Bb.read_blackboard
   read_blackboard_law (pos j) a = by_then 28 j a (pos 0) (pos 0) (omega arith) (omega arith) p.blackboard_count few_blackboards _ _ refl (λ t. rw (unknown_is (pos j) p.blackboard_count few_blackboards, t)) (λ f r.
-      waiting 28 (pos j) a (pos 0) (pos 0) (omega arith) (omega arith) refl a [] (in_t a) (blackboard j p).shown (Unchanged (blackboard j p).message (Some 0)) (Blackboard j) _
+      waiting 28 (pos j) a (pos 0) (pos 0) (omega arith) (omega arith) refl a [] (in_t a) (is_some (blackboard j p).message) (Unchanged (unwrap_or (blackboard j p).message 0) (Some 0)) (Blackboard j) _
       (rw (f, known m k u h j p.blackboard_count r, timeout_is a)) (λ o. o) (λ _ _ _ g. g))
   read_blackboard_law (negsuc j) a = by_none 28 j a (pos 0) (pos 0) (omega arith) (omega arith) p.blackboard_count few_blackboards _ _ refl (rw (unknown_is (negsuc j) p.blackboard_count few_blackboards))
 
@@ -535,7 +540,7 @@ module _ (m : Module) (k : ℕ) (u : SoundModule m) (h : Calling m k) where
   write_law : Write m k
   unfolding call_decision services stray_field D.checked Passed D.awaiting Ch.channel_checks Ch.write
   write_law (pos j) a = by_then 21 j a (pos 0) (pos 0) (omega arith) (omega arith) count few_channels _ _ refl (λ t. rw ((lossless (pos j)).between 1 count few_channels, t)) (λ f r.
-      by_list 21 (pos j) a (pos 0) (pos 0) (omega arith) (omega arith) refl _ (Written (j - 1) (record { present = true; value = number_of (field a); written = m.t })) _
+      by_list 21 (pos j) a (pos 0) (pos 0) (omega arith) (omega arith) refl _ (Written (j - 1) (record { value = number_of (field a); written = m.t })) _
       (rw (f, exists j r, kind j r, (lossless a).between 0 duration_limit (omega arith)))
       (λ q g. rw (number_in 0 duration_limit a (omega arith) (not-false _ q.1.1.1.0)) at g))
   write_law (negsuc j) a = by_none 21 j a (pos 0) (pos 0) (omega arith) (omega arith) count few_channels _ _ refl (rw ((lossless (negsuc j)).between 1 count few_channels))
@@ -545,7 +550,8 @@ module _ (m : Module) (k : ℕ) (u : SoundModule m) (h : Calling m k) where
   read_law (pos j) = by_then 22 j (pos 0) (pos 0) (pos 0) (omega arith) (omega arith) count few_channels _ _ refl (λ t. rw ((lossless (pos j)).between 1 count few_channels, t)) (λ f r.
       let c = channel m.table (j - 1) in
       let x = message m (j - 1) in
-      by_list 22 (pos j) (pos 0) (pos 0) (pos 0) (omega arith) (omega arith) refl _ (Unchanged x.value (Some (cond (leb (m.t - x.written) c.refresh) 1 0))) _
+      let y = unwrap_or x (record { value = 0; written = 0 }) in
+      by_list 22 (pos j) (pos 0) (pos 0) (pos 0) (omega arith) (omega arith) refl _ (Unchanged y.value (Some (cond (leb (m.t - y.written) c.refresh) 1 0))) _
       (either (eqb c.destination k) (λ d. rw (f, exists j r, kind j r, d)) (λ d. rw (f, exists j r, kind j r, d))) (λ _ g. g))
   read_law (negsuc j) = by_none 22 j (pos 0) (pos 0) (pos 0) (omega arith) (omega arith) count few_channels _ _ refl (rw ((lossless (negsuc j)).between 1 count few_channels))
 
@@ -778,7 +784,7 @@ module _ (m : Module) (k : ℕ) (u : SoundModule m) (h : Calling m k) where
   unfolding call_decision services stray_field D.checked Passed Bb.create_blackboard
   create_blackboard_law name =
       let e = next_stored p.blackboard_count in
-      by_list 26 name (pos 0) (pos 0) (pos 0) (omega arith) (omega arith) refl _ (Changed (StoredBlackboard (p.blackboard_count + 1) (record { name = number_of (field name); shown = false; message = 0 })) Nothing (p.blackboard_count + 1)) _
+      by_list 26 name (pos 0) (pos 0) (pos 0) (omega arith) (omega arith) refl _ (Changed (StoredBlackboard (p.blackboard_count + 1) (record { name = number_of (field name); message = None })) Nothing (p.blackboard_count + 1)) _
       (rw (names_are (λ (x : BlackboardT). x.name) name no_blackboard blackboard_limit p.blackboard_count p.blackboards v.objects.blackboards.numbered (λ j b. (v.objects.blackboards.each j b).name.1), (lossless name).between 1 name_limit (omega arith))) (λ q g.
       let ok = not-false _ q.1.1.0 in
       let room : p.blackboard_count < blackboard_limit = leb-false blackboard_limit p.blackboard_count q.0 in
@@ -850,29 +856,29 @@ module _ (m : Module) (k : ℕ) (u : SoundModule m) (h : Calling m k) where
       go None e = rw (aperiodic_is id (process id p).times.delay b low e, e)
       go (Some n) e = rw (released_is r f id (process id p).times.delay n b e low, e)
 
-  entered_normal_holds : (r : ℕ) → Release m.table k m.t r → entered_normal (context_of m k) p ≡ plain_each (entering m.t r) (with_mode_and_lock 3 0 0 p)
+  entered_normal_holds : (r : ℕ) → Release m.table k m.t r → entered_normal (context_of m k) p ≡ plain_each (entering m.t r) (with_mode_and_lock NormalMode 0 0 p)
   unfolding entered_normal
   entered_normal_holds r f =
-      each_alike (entered (context_of m k)) (entering m.t r) p.process_count 1 (with_mode 3 p) (λ y lo hi. entered_is r f y (lo, omega arith))
-      ∙ each_plain (entering m.t r) (with_mode 3 p) v.lists
+      each_alike (entered (context_of m k)) (entering m.t r) p.process_count 1 (with_mode NormalMode p) (λ y lo hi. entered_is r f y (lo, omega arith))
+      ∙ each_plain (entering m.t r) (with_mode NormalMode p) v.lists
 
   -- modes 0, 1, 2
   restarted_is : (mode : ℕ) → mode ≤ mode_limit → restarted k (nothing_created mode) m ≡ restarted_as k mode m
   restarted_is mode low =
       let erased = Ch.erased_to k channel_limit m in
       refilled_all k _ (part_sound erased (erased_sound k channel_limit m (omega arith) u) (k - 1) (calling_place m k u h) (nothing_created mode) (nothing_valid m.table.frame m.t mode low))
-      ∙ ap (λ (l : List Message). plain_refilled_to k m.table.channel_count (with_part (k - 1) (nothing_created mode) (with_messages l m))) (erased_is m.table k m.messages u.messages_size)
+      ∙ ap (λ (l : List (Option Message)). plain_refilled_to k m.table.channel_count (with_part (k - 1) (nothing_created mode) (with_messages l m))) (erased_is m.table k m.messages u.messages_size)
 
   set_mode_law : SetMode m k
   unfolding call_decision services stray_field D.checked Passed C.set_mode
   set_mode_law a =
       let three = (lossless a).is_number 3 (omega arith) in
-      let d = cond (is_number 3 (field a)) (D.changed (Entered (context_of m k))) (Restarted (number_of (field a))) in
+      let d = cond (is_number 3 (field a)) (D.changed (Entered (context_of m k))) (Restarted (mode_numbered (number_of (field a)))) in
       by_list 1 a (pos 0) (pos 0) (pos 0) (omega arith) (omega arith) refl _ d _
       (rw ((lossless a).between 0 3 (omega arith), three, (lossless a).is_number 2 (omega arith))) (λ q g.
       let in_range_holds = not-false _ q.0 in (
         λ z r f. puts_is m k _ _ (rw (three, z) at g) (entered_normal_holds r f),
-        λ z. gives_is (rw (three, z, number_in 0 3 a (omega arith) in_range_holds) at g) (restarted_is (id_of a) (in_modes a in_range_holds)),
+        λ z. gives_is (rw (three, z, number_in 0 3 a (omega arith) in_range_holds, numbered_back (id_of a) (in_modes a in_range_holds)) at g) (restarted_is (id_of a) (in_modes a in_range_holds)),
       ))
 
 -- ---------------------------------------------------------------- every event

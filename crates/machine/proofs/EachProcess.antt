@@ -1,4 +1,5 @@
 -- What an event makes of the record of each process. Assumes nothing.
+use Rattle.machine.specs.Mode.{mode_number}
 use Prim.Native.Nat.{ℕ, ◌+◌, ◌-◌, ◌≤◌, ◌<◌, ◌*◌}
 use mathlib.Core.Path.{◌≡◌, refl, sym, ap, subst, ◌∙◌}
 use mathlib.Core.Bool.{false, cond}
@@ -99,7 +100,7 @@ module _ (m : Module) (s : SoundModule m) (e : EventT) (k : ℕ) (b : Between 1 
   tick_is by =
       subst (Becomes m e 0 k id) (sym (ticked_process (m.t + 1) m.table.frame m.t p here id)) (by_test (Becomes m e 0 k id) (normal_mode p)
       (λ t. Becomes.ticked (by, refl, eqb-true _ 3 t) refl)
-      (λ t. Becomes.same (elsewhere_none m e k id 0 (λ c. not_both _ (eq-eqb p.mode 3 c.2) t) (λ n c. let z = same_number (sym by ∙ c.0) in omega (arith, b.0)) (λ n c. let z = same_number (sym by ∙ c.0.0) in omega (arith, b.0))) refl))
+      (λ t. Becomes.same (elsewhere_none m e k id 0 (λ c. not_both _ (eq-eqb (mode_number p.mode) 3 c.2) t) (λ n c. let z = same_number (sym by ∙ c.0) in omega (arith, b.0)) (λ n c. let z = same_number (sym by ∙ c.0.0) in omega (arith, b.0))) refl))
 
   module _ (by : e.partition ≡ pos k) (call : e.call ≡ pos number) where
     blocked_is : (w : ℕ) (y : Process) → SoundDecision (context_of m k) p (Blocked w y) → Acts (context_of m k) asks p number (Blocked w y) → Is 7 (stored w y p)

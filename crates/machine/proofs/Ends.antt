@@ -1,4 +1,5 @@
 -- Who waits at the ends of queuing channels, on every reached record. Assumes nothing.
+use Rattle.machine.specs.Mode.{mode_number}
 use Prim.Native.Nat.{ℕ, zero, suc, ◌+◌, ◌-◌, ◌≤◌, ◌<◌}
 use mathlib.Core.Path.{◌≡◌, refl, ap, sym, ◌∙◌, subst}
 use mathlib.Core.Bool.{true, false, not, ◌&&◌, and-false}
@@ -340,7 +341,7 @@ module _ (m : Module) (s : SoundModule m) (h : Holds m.table m) where
     decided_holds (Restarted mode) f b g e =
         let q = module_after m k (Restarted mode) in
         let parts : (o : ℕ) (some : o ≡ 0 → ⊥) → Parts m s o some q = λ o some. decided_parts m s o some r c (Restarted mode) f b g tt in
-        holds_parts q parts (open_restarted mode f parts)
+        holds_parts q parts (open_restarted (mode_number mode) f parts)
     decided_holds (Written a y) f b g e =
         let q = module_after m k (Written a y) in
         let parts : (o : ℕ) (some : o ≡ 0 → ⊥) → Parts m s o some q = λ o some. decided_parts m s o some r c (Written a y) f b g tt in

@@ -1,4 +1,6 @@
 -- Entering NORMAL, proved from the whole record that call 1 gives. Assumes nothing.
+use Rattle.machine.specs.Mode.{mode_number}
+use Rattle.machine.specs.declared.Mode.TheVariants.{Normal as NormalMode}
 use Prim.Native.Nat.{ℕ}
 use mathlib.Core.Path.{◌≡◌, refl, sym, ap, ◌∙◌}
 use mathlib.Core.Bool.{false, not, ◌&&◌}
@@ -36,7 +38,7 @@ use Rattle.machine.proofs.Reasons.{not_normal}
 use Rattle.machine.proofs.Terms.{terms}
 use Rattle.machine.proofs.Fairness.{none_in}
 
-module _ (m : Module) (k : ℕ) (u : SoundModule m) (h : Calling m k) (early : (own m k).mode ≡ 3 → ⊥) (some : (own m k).process_count ≡ 0 → ⊥) where
+module _ (m : Module) (k : ℕ) (u : SoundModule m) (h : Calling m k) (early : mode_number (own m k).mode ≡ 3 → ⊥) (some : (own m k).process_count ≡ 0 → ⊥) where
   abbrev p : Partition
   p = own m k
 
@@ -51,11 +53,11 @@ module _ (m : Module) (k : ℕ) (u : SoundModule m) (h : Calling m k) (early : (
   f x = entering m.t r x
 
   abbrev q : Partition
-  q = with_mode_and_lock 3 0 0 p
+  q = with_mode_and_lock NormalMode 0 0 p
 
   gives_all : Puts m (enter k) 0 0 k (plain_each f q)
   unfolding Checks
-  gives_all = ((((((each_call m k h).set_mode (pos 3)).1 refl).1 (rw (ne_eqb p.mode 3 early))).1 refl).1 (rw (ne_eqb p.process_count 0 some))).0 refl r
+  gives_all = ((((((each_call m k h).set_mode (pos 3)).1 refl).1 (rw (ne_eqb (mode_number p.mode) 3 early))).1 refl).1 (rw (ne_eqb p.process_count 0 some))).0 refl r
       (release_earliest m.table u.table m.t k (h.some, calling_low m k u h) u.time)
 
   after_is : own (step m (enter k)).state k ≡ each f q
@@ -69,7 +71,7 @@ module _ (m : Module) (k : ℕ) (u : SoundModule m) (h : Calling m k) (early : (
   none_ready id = not_so _ (λ t.
       let b = process_created ready refl p v.lists id t in
       let w = terms.ready_is (process id p) t in
-      not_both _ (ap waits_for_normal ((v.each_process id b).early w.0 (ne_eqb p.mode 3 early)).wait) (ap waits_for_normal w.2))
+      not_both _ (ap waits_for_normal ((v.each_process id b).early w.0 (ne_eqb (mode_number p.mode) 3 early)).wait) (ap waits_for_normal w.2))
 
   none_arrived : members p.arrival ≡ []
   none_arrived = none_in (members p.arrival) (λ id c. not_both _ (sym (v.lists.arrivals.exact id) ∙ c) (none_ready id))
@@ -86,7 +88,7 @@ module _ (m : Module) (k : ℕ) (u : SoundModule m) (h : Calling m k) (early : (
   enters_is : Enters m k
   enters_is = record {
     code = gives_all.code_is;
-    mode = ap (λ (x : Partition). x.mode) after_is ∙ ap (λ (x : Partition). x.mode) (each_rest f q v.lists);
+    mode = ap (λ (x : Partition). mode_number x.mode) after_is ∙ ap (λ (x : Partition). mode_number x.mode) (each_rest f q v.lists);
     aperiodic = λ id b w never. process_is id b ∙ rw (w, never);
     ready_at = λ id b w never. ap ready (process_is id b) ∙ started_ready (process id p) w never;
     others = λ id b w. process_is id b ∙ rw (not_normal (process id p).wait w);
@@ -94,5 +96,5 @@ module _ (m : Module) (k : ℕ) (u : SoundModule m) (h : Calling m k) (early : (
   }
 
 -- Law. Entering NORMAL.
-pub enters : (m : Module) (k : ℕ) → Calling m k → ((own m k).mode ≡ 3 → ⊥) → ((own m k).process_count ≡ 0 → ⊥) → Enters m k
+pub enters : (m : Module) (k : ℕ) → Calling m k → (mode_number (own m k).mode ≡ 3 → ⊥) → ((own m k).process_count ≡ 0 → ⊥) → Enters m k
 enters m k h = enters_is m k (calling_sound m k h) h

@@ -1,4 +1,6 @@
 -- What a call makes available was so before, or nobody waits for it. Assumes nothing.
+use Rattle.machine.specs.declared.Mode.TheVariants.{Normal as NormalMode}
+use Rattle.std.specs.Prelude.{is_some}
 use Prim.Native.Nat.{ℕ, ◌+◌, ◌-◌, ◌≤◌, ◌<◌}
 use mathlib.Core.Path.{◌≡◌, refl, ap, sym, ◌∙◌}
 use mathlib.Core.Bool.{Bool, true, false}
@@ -81,7 +83,7 @@ objects_stay (StoredBlackboard k b) h p v = absurd h
 objects_stay (Ended o) h p v = rest_objects p _ (changed_rest served (waiters o p) p)
 objects_stay (Handed o m) h p v = rest_objects p _ (changed_rest (handed m) (waiters o p) p)
 objects_stay (LevelSet level holder) h p v = record { semaphores = refl; events = refl; buffers = refl; blackboards = refl }
-objects_stay (Entered c) h p v = along_objects p (with_mode 3 p) _ (record { semaphores = refl; events = refl; buffers = refl; blackboards = refl }) (rest_objects (with_mode 3 p) _ (each_rest (entered c) (with_mode 3 p) v))
+objects_stay (Entered c) h p v = along_objects p (with_mode NormalMode p) _ (record { semaphores = refl; events = refl; buffers = refl; blackboards = refl }) (rest_objects (with_mode NormalMode p) _ (each_rest (entered c) (with_mode NormalMode p) v))
 
 pub available_same : (p q : Partition) → SameObjects p q → (kind k : ℕ) → available kind k q ≡ available kind k p
 available_same p q s kind k = rw (s.semaphores, s.events, s.buffers, s.blackboards)
@@ -143,14 +145,14 @@ module _ (frame t : ℕ) (p : Partition) (v : Valid frame t p) (kind k j : ℕ) 
       (λ u. inl (rw (w, u) (rw (w, u) at g)))))
       (λ e. inl (rw (buffer_out j s p e) at h))
 
-  pub blackboard_available : (s : BlackboardT) → available kind k (stored_blackboard j s p) ≡ true → (available kind k p ≡ true) ⊎ ((kind ≡ 5) × (k ≡ j) × (s.shown ≡ true))
+  pub blackboard_available : (s : BlackboardT) → available kind k (stored_blackboard j s p) ≡ true → (available kind k p ≡ true) ⊎ ((kind ≡ 5) × (k ≡ j) × (is_some s.message ≡ true))
   blackboard_available s h = either (within blackboard_limit j)
       (λ e.
       let g = rw (blackboard_in j s p e) at h in
       either (eqb kind 5)
       (λ w.
       let is = eqb-true kind 5 w in
-      ⊎_elim (λ y. inl (rw is y)) (λ y. inr (is, y.0, y.1)) (stored_test blackboard_limit no_blackboard p.blackboards v.objects.blackboards.numbered.size j k e s (λ (x : BlackboardT). x.shown) (rw is at g)))
+      ⊎_elim (λ y. inl (rw is y)) (λ y. inr (is, y.0, y.1)) (stored_test blackboard_limit no_blackboard p.blackboards v.objects.blackboards.numbered.size j k e s (λ (x : BlackboardT). is_some x.message) (rw is at g)))
       (λ w. inl (rw w (rw w at g))))
       (λ e. inl (rw (blackboard_out j s p e) at h))
 
@@ -167,7 +169,7 @@ available_low kind k p h =
     either (eqb kind 2) (λ w. let is = eqb-true kind 2 w in (omega arith, past_limit event_limit no_event p.events k (λ (x : EventState). x.up) refl (rw is at h), omega arith)) λ w2.
     either (eqb kind 3) (λ w. let is = eqb-true kind 3 w in (omega arith, past_limit buffer_limit no_buffer p.buffers k has_room refl (rw is at h), omega arith)) λ w3.
     either (eqb kind 4) (λ w. let is = eqb-true kind 4 w in (omega arith, past_limit buffer_limit no_buffer p.buffers k holds refl (rw is at h), omega arith)) λ w4.
-    either (eqb kind 5) (λ w. let is = eqb-true kind 5 w in (omega arith, past_limit blackboard_limit no_blackboard p.blackboards k (λ (x : BlackboardT). x.shown) refl (rw is at h), omega arith)) λ w5.
+    either (eqb kind 5) (λ w. let is = eqb-true kind 5 w in (omega arith, past_limit blackboard_limit no_blackboard p.blackboards k (λ (x : BlackboardT). is_some x.message) refl (rw is at h), omega arith)) λ w5.
     not_both _ (rw (w1, w2, w3, w4, w5) at h) refl
 
 -- and nobody waits for one

@@ -1,7 +1,9 @@
 -- Queue order, who waits, and what the calls of all four families do to their queues: the whole. Assumes nothing.
+use Rattle.machine.specs.Mode.{mode_number}
+use Rattle.std.specs.Prelude.{Option}
 use Prim.Native.Nat.{ℕ, suc, ◌-◌, ◌≤◌, ◌<◌, max}
 use mathlib.Core.Path.{◌≡◌, refl, ap, sym, ◌∙◌}
-use mathlib.Core.Bool.{Bool, true}
+use mathlib.Core.Bool.{true}
 use mathlib.Core.List.{List, [], ◌∷◌, ◌++◌}
 use native.Mathlib.Omega.{arith}
 use lib.ListN.{length, get_or, set, drop}
@@ -58,7 +60,7 @@ module _ (m : Module) (k : ℕ) (u : SoundModule m) (h : Calling m k) where
   valid = calling_valid m k u h
 
   -- ---------------------------------------------------------------- buffers
-  module _ (j : ℕ) (normal : p.mode ≡ 3) (b : Between 1 p.buffer_count j) where
+  module _ (j : ℕ) (normal : mode_number p.mode ≡ 3) (b : Between 1 p.buffer_count j) where
     is_field : field (pos j) ≡ Number j
     is_field = field_number j (omega (arith, b.1, valid.objects.buffers.numbered.few))
 
@@ -83,7 +85,7 @@ module _ (m : Module) (k : ℕ) (u : SoundModule m) (h : Calling m k) where
       unfolding call_decision services stray_field send_buffer awaiting checked
       send_gives l e room =
           gives m k u h 24 (pos j) (pos x) a (pos 0) (omega arith) (omega arith) refl (changed (Moved j (sent (get_or l 0 0) x)))
-          (rw (is_field, field_number x (omega arith), known m k u h j p.buffer_count b, eq-eqb p.mode 3 normal, a_message x ok, time_out a t, room, e))
+          (rw (is_field, field_number x (omega arith), known m k u h j p.buffer_count b, eq-eqb (mode_number p.mode) 3 normal, a_message x ok, time_out a t, room, e))
 
       send_first_holds : (id : ℕ) (rest : List ℕ) → waiters (object (Receiving j)) p ≡ id ∷ rest → FirstServed m k sends (object (Receiving j)) id rest x × SameObjects p (own (step m sends).state k)
       unfolding sent
@@ -121,7 +123,7 @@ module _ (m : Module) (k : ℕ) (u : SoundModule m) (h : Calling m k) where
       takes_as : (w : List ℕ) (d : Decision) → waiters (object (Sending j 0)) p ≡ w → receives (get_or w 0 0) j p ≡ d → decides m k u h 25 (pos j) a (pos 0) (pos 0) (omega arith) (omega arith) ≡ d
       unfolding call_decision services receive_buffer awaiting checked
       takes_as w d e is =
-          rw (is_field, known m k u h j p.buffer_count b, eq-eqb p.mode 3 normal, time_out a t, lt-ltb 0 (buffer j p).queue.len some, e) is
+          rw (is_field, known m k u h j p.buffer_count b, eq-eqb (mode_number p.mode) 3 normal, time_out a t, lt-ltb 0 (buffer j p).queue.len some, e) is
 
       receive_first_holds : (id : ℕ) (rest : List ℕ) → waiters (object (Sending j 0)) p ≡ id ∷ rest
           → FirstServed m k takes (object (Sending j 0)) id rest (has m k id) × ((step m takes).answer.value ≡ x) × (held (buffer j (own (step m takes).state k)).queue ≡ l ++ (carried (process id p) ∷ []))
@@ -163,8 +165,8 @@ module _ (m : Module) (k : ℕ) (u : SoundModule m) (h : Calling m k) where
     the_field = field_number j (omega (arith, low))
 
     -- the blackboard stored
-    abbrev board : Bool → ℕ → BlackboardT
-    board shown x = record { name = (blackboard j p).name; shown = shown; message = x }
+    abbrev board : Option ℕ → BlackboardT
+    board x = record { name = (blackboard j p).name; message = x }
 
     stored_is : (s : BlackboardT) → stored_blackboard j s p ≡ with_blackboards (set p.blackboards (j - 1) s) (max p.blackboard_count j) p
     stored_is s = blackboard_in j s p (within_in blackboard_limit j b.0 low)
@@ -173,12 +175,12 @@ module _ (m : Module) (k : ℕ) (u : SoundModule m) (h : Calling m k) where
     stored_has s = rw (stored_is s) (named_same blackboard_limit no_blackboard j s p.blackboards b.0 low (omega (arith, low, valid.objects.blackboards.numbered.size)))
 
     show_all : (x : ℕ) → x ≤ duration_limit → let e = call_by k 27 (pos j) (pos x) (pos 0) (pos 0) in
-        AllServed m k e (object (Blackboard j)) (λ _. x) × (blackboard j (own (step m e).state k) ≡ board true x)
+        AllServed m k e (object (Blackboard j)) (λ _. x) × (blackboard j (own (step m e).state k) ≡ board (Some x))
     unfolding call_decision services stray_field show checked
     show_all x ok =
         let o = object (Blackboard j) in
         let e = call_by k 27 (pos j) (pos x) (pos 0) (pos 0) in
-        let s = board true x in
+        let s = board (Some x) in
         let r = stored_blackboard j s p in
         let q = changed_all (handed x) (waiters o r) r in
         let g = gives m k u h 27 (pos j) (pos x) (pos 0) (pos 0) (omega arith) (omega arith) refl (Changed (StoredBlackboard j s) (Handed o x) 0) (rw (the_field, field_number x (omega arith), known m k u h j p.blackboard_count b, a_message x ok)) in (

@@ -1,5 +1,6 @@
 -- Folds over a list of ids, over the ids of a partition and over the partitions of a module, as a loop goes through them: what is left from
 -- a place on, or what is done up to it. Assumes nothing.
+use Rattle.std.specs.Prelude.{Option}
 use Prim.Native.Nat.{ℕ, suc, ◌+◌, ◌-◌, ◌≤◌, ◌<◌}
 use mathlib.Core.Path.{◌≡◌, refl}
 use mathlib.Core.List.{List}
@@ -65,7 +66,7 @@ module _ (m : Module) where
   tick_to_none = refl
 
 -- the messages on the first channels
-module _ (T : Table) (k n : ℕ) (l : List Message) where
+module _ (T : Table) (k n : ℕ) (l : List (Option Message)) where
   pub kept_erased : (channel T n).destination ≡ k → set (kept_to T k n l) n no_message ≡ kept_to T k (n + 1) l
   unfolding kept_to
   kept_erased e = rw (add-one n, kept_to, eq-eqb _ _ e)
@@ -74,6 +75,6 @@ module _ (T : Table) (k n : ℕ) (l : List Message) where
   unfolding kept_to
   kept_same e = rw (add-one n, kept_to, ne_eqb _ _ e)
 
-pub kept_none : (T : Table) (k : ℕ) (l : List Message) → l ≡ kept_to T k 0 l
+pub kept_none : (T : Table) (k : ℕ) (l : List (Option Message)) → l ≡ kept_to T k 0 l
 unfolding kept_to
 kept_none T k l = refl

@@ -1,4 +1,5 @@
 -- Demand 3, proved: one event of each kind (`step_free`, `step_both`), and by `two_runs` whole lists. Assumes nothing.
+use Rattle.std.specs.Prelude.{Option, Some}
 use Prim.Native.Nat.{ℕ, zero, suc, ◌+◌, ◌-◌, ◌<◌, ◌≤◌}
 use mathlib.Core.Path.{◌≡◌, refl, sym, ap, ap₂, ◌∙◌, subst}
 use mathlib.Core.Bool.{Bool, true, false, cond, not, ◌&&◌, ◌||◌, true≢false}
@@ -136,7 +137,7 @@ module _ (T : Table) (S : ℕ → Bool) (closed : Closed T S) where
       i = number_of r.a - 1
 
       same : Ch.seen_at k (M.channel m.table i) (M.message m i) ≡ Ch.seen_at k (M.channel n.table i) (M.message n i)
-      same = by_tests (λ (x y : Message). x ≡ y) _ _ (ap (λ (x : Table). eqb (M.channel x i).destination k) (tables m n a))
+      same = by_tests (λ (x y : Option Message). x ≡ y) _ _ (ap (λ (x : Table). eqb (M.channel x i).destination k) (tables m n a))
           (λ q. a.inbound i (ap (λ (x : Table). S (M.channel x i).destination) (sym a.left) ∙ ap S (eqb-true _ k q) ∙ s))
           (λ q. refl)
 
@@ -166,7 +167,7 @@ module _ (T : Table) (S : ℕ → Bool) (closed : Closed T S) where
   after_both m n k (Blocked id x) a p = part_both T S m n (k - 1) _ _ a (λ s. ap (partition_after (Blocked id x)) (p s))
   after_both m n k (Changed x y v) a p = part_both T S m n (k - 1) _ _ a (λ s. ap (partition_after (Changed x y v)) (p s))
   after_both m n k (Restarted mode) a p = refill_both T S closed k channel_limit _ _ (part_both T S _ _ (k - 1) _ _ (erase_both T S k channel_limit m n a) (λ s. refl))
-  after_both m n k (Written i x) a p = message_both T S m n i x x a (λ s. refl)
+  after_both m n k (Written i x) a p = message_both T S m n i (Some x) (Some x) a (λ s. refl)
   after_both m n k (Passed i x v) a p = passed_both T S m n k i x a
 
   -- ------------------------------------------------------------ a free event on one side
@@ -229,7 +230,7 @@ module _ (T : Table) (S : ℕ → Bool) (closed : Closed T S) where
       body_free m k r (Blocked id y) a f g w = part_free T S m m (k - 1) _ a g
       body_free m k r (Changed b y v) a f g w = part_free T S m m (k - 1) _ a g
       body_free m k r (Restarted mode) a f g w = refill_free T S closed k channel_limit _ m (part_free T S _ m (k - 1) _ (erase_free T S k channel_limit m m a f) g) f
-      body_free m k r (Written i y) a f g w = message_free T S m m i y a (unseen m k r i a.left f w)
+      body_free m k r (Written i y) a f g w = message_free T S m m i (Some y) a (unseen m k r i a.left f w)
       body_free m k r (Passed i y v) a f g w = let h = apart_from m k r i y v a.left f w in passed_free T S m m k i y a h.0 h.1
 
   -- ------------------------------------------------------------ the answer's last three numbers

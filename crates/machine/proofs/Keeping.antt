@@ -1,4 +1,5 @@
 -- What storing processes, semaphores and events does to a partition's lists, one at a time or over a list of ids. Assumes nothing.
+use Rattle.machine.specs.Mode.{mode_number}
 use Prim.Native.Nat.{ℕ, zero, suc, ◌+◌, ◌-◌, ◌≤◌, ◌<◌, max}
 use mathlib.Core.Path.{◌≡◌, refl, ap, sym, ◌∙◌}
 use mathlib.Core.Bool.{Bool, true, false, cond, ◌&&◌, and-true, and-false, or-true}
@@ -219,7 +220,7 @@ module _ (p : Partition) (v : ListedIn p) (id : ℕ) (h : ready (process id p) �
   }
 
 -- ---------------------------------------------------------------- a valid partition, from its parts
-pub valid_of : (frame t : ℕ) (p q : Partition) → Rest p q → p.mode ≤ 3 → LockIn p → (0 < p.level → ready (process p.holder q) ≡ true) → ObjectsIn p → ListedIn q → ((id : ℕ) → Between 1 p.process_count id → SoundProcess (setting_of frame t p) (process id q)) → Valid frame t q
+pub valid_of : (frame t : ℕ) (p q : Partition) → Rest p q → mode_number p.mode ≤ 3 → LockIn p → (0 < p.level → ready (process p.holder q) ≡ true) → ObjectsIn p → ListedIn q → ((id : ℕ) → Between 1 p.process_count id → SoundProcess (setting_of frame t p) (process id q)) → Valid frame t q
 valid_of frame t p q e mode lock held objects lists sound = rw e (record { mode = mode; lock = record { few = lock.few; free = lock.free; normal = lock.normal; held = held }; lists = rw (rest_count p q e) at lists; objects = objects; each_process = sound })
 
 -- one process stored

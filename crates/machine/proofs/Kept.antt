@@ -1,4 +1,8 @@
 -- The tick, every sound change and every sound decision keep a partition valid, and one with nothing created is valid. Assumes nothing.
+use Rattle.machine.proofs.ModeNumbers.{numbered_back}
+use Rattle.machine.specs.Mode.{mode_number}
+use Rattle.machine.specs.declared.Mode.TheVariants.{Normal as NormalMode}
+use Rattle.std.specs.Prelude.{Option, unwrap_or}
 use Prim.Native.Nat.{ℕ, zero, suc, ◌+◌, ◌-◌, ◌%◌, ◌≤◌, ◌<◌, max}
 use mathlib.Core.Path.{◌≡◌, refl, ap, sym, ◌∙◌}
 use mathlib.Core.Bool.{Bool, true, false, not, ◌||◌, or-true}
@@ -79,7 +83,7 @@ tick_valid frame t p v = by_test (Valid frame (t + 1)) (normal_mode p)
 pub nothing_valid : (frame t mode : ℕ) → mode ≤ mode_limit → Valid frame t (nothing_created mode)
 unfolding contains Distinct
 nothing_valid frame t mode h = record {
-  mode = h;
+  mode = let b = numbered_back mode h in omega (arith, h, b);
   lock = no_lock _ _;
   lists = record {
     numbered = none process_limit blank_process;
@@ -326,7 +330,7 @@ module _ (c : Context) (p : Partition) (v : Valid c.frame c.time p) where
   entered_valid : c.time ≤ time_limit → c.frame ≤ frame_limit → c.release ≤ c.time + c.frame → normal_mode p ≡ false → Valid c.frame c.time (entered_normal c p)
   unfolding entered_normal
   entered_valid ends frame near e =
-      let q = with_mode 3 p in
+      let q = with_mode NormalMode p in
       let f = entered c in
       valid_of c.frame c.time q (each f q) (each_rest f q v.lists) (omega arith) (no_lock _ _) (λ some. absurd (omega arith)) v.objects (each_listed f q v.lists) (λ id b.
       rw (each_process_holds f q v.lists id b) (entered_sound c ends frame near true refl _ c.time (normal_mode p) e (process id p) (v.each_process id b)))
@@ -377,7 +381,7 @@ decision_valid c p k v (Unchanged n e) h = v
 decision_valid c p k v Ticked h = v
 decision_valid c p k v (Blocked id x) h = change_valid c k p v (Stored id x) h
 decision_valid c p k v (Changed a b n) h = change_valid c k (applied a p) (change_valid c k p v a h.0) b h.1
-decision_valid c p k v (Restarted mode) h = nothing_valid c.frame c.time mode h
+decision_valid c p k v (Restarted mode) h = nothing_valid c.frame c.time (mode_number mode) h
 decision_valid c p k v (Written i x) h = v
 decision_valid c p k v (PassedOn i a n) h = v
 
@@ -477,8 +481,8 @@ module _ (c : Context) (p : Partition) (v : Valid c.frame c.time p) (k : SoundCo
       value_sound j b (one_more (semaphore j p).value) (by_test (λ (n : ℕ). n ≤ (semaphore j p).max) (ltb (semaphore j p).value greatest_value) (λ _. omega (arith, s.value)) (λ _. s.value))
   signalled_sound (id ∷ l) j b below on all = let i : (eqb id id || contains id l) ≡ true = rw (eq-eqb id id refl) in (all id i, ended_sound _ (process id p) (v.each_process id (all id i)) (on id i), not_holder p v.lock id _ (object_not_ready (process id p) (on id i)))
 
-  pub blackboard_known : (j : ℕ) → Between 1 p.blackboard_count j → (shown : Bool) (m : ℕ) → m ≤ duration_limit → (shown ≡ false → m ≡ 0) → SoundChange c p (StoredBlackboard j (record { name = (blackboard j p).name; shown = shown; message = m }))
-  blackboard_known j b shown m few blank = (known_next blackboard_limit p.blackboard_count j b v.objects.blackboards.numbered.few, record { name = (v.objects.blackboards.each j b).name; message = few; blank = blank })
+  pub blackboard_known : (j : ℕ) → Between 1 p.blackboard_count j → (m : Option ℕ) → unwrap_or m 0 ≤ duration_limit → SoundChange c p (StoredBlackboard j (record { name = (blackboard j p).name; message = m }))
+  blackboard_known j b m few = (known_next blackboard_limit p.blackboard_count j b v.objects.blackboards.numbered.few, record { name = (v.objects.blackboards.each j b).name; message = few })
 
 -- what a call sees of a channel is sound: the message of a sampling one, the first of a queuing one
 pub record SoundPort (t : ℕ) (x : Port) : Type 0 where

@@ -1,7 +1,8 @@
 -- What the latest accepted call left, proved. Assumes nothing.
+use Rattle.std.specs.Prelude.{Option, Some, None}
 use Prim.Native.Nat.{ℕ, ◌+◌, ◌-◌, ◌≤◌, ◌<◌}
 use mathlib.Core.Path.{◌≡◌, refl, ap, sym, ◌∙◌}
-use mathlib.Core.Bool.{Bool, true, false}
+use mathlib.Core.Bool.{true, false}
 use mathlib.Core.List.{List, [], ◌∷◌}
 use native.Mathlib.Omega.{arith}
 use lib.ListN.{length, set}
@@ -38,7 +39,7 @@ use Rattle.machine.proofs.Sampling.{along_list, done_by, done_at, done_zero, sam
 -- ---------------------------------------------------------------- an accepted call
 module _ (m : Module) (h : Reached m) (e : EventT) (k j : ℕ) (some : 1 ≤ k) where
   -- SHOW, CLEAR
-  shown : Between 1 (own m k).blackboard_count j → done k 27 j (answered_event m e) ≡ true → let b = blackboard j (own (step m e).state k) in (b.shown ≡ true) × (b.message ≡ message_in e.b)
+  shown : Between 1 (own m k).blackboard_count j → done k 27 j (answered_event m e) ≡ true → (blackboard j (own (step m e).state k)).message ≡ Some (message_in e.b)
   unfolding Passed
   shown b t =
       let z = done_zero m e k 27 j t in
@@ -47,9 +48,9 @@ module _ (m : Module) (h : Reached m) (e : EventT) (k j : ℕ) (some : 1 ≤ k) 
       let d = plain_in 0 duration_limit e.b (not-false _ f.1.0) in
       let is : e ≡ call_by k 27 (pos j) (pos (id_of e.b)) (pos 0) (pos 0) = u.is ∙ ap (λ (a : ℤ). call_by k 27 a e.b (pos 0) (pos 0)) (done_at m e k 27 j t) ∙ ap (λ (a : ℤ). call_by k 27 (pos j) a (pos 0) (pos 0)) d.0 in
       let g = rw (← is) at ((queues.messages m k u.calling j).show (id_of e.b) b d.1.1).1 in
-      (ap (λ (x : BlackboardT). x.shown) g, ap (λ (x : BlackboardT). x.message) g)
+      ap (λ (x : BlackboardT). x.message) g
 
-  cleared : Between 1 (own m k).blackboard_count j → done k 29 j (answered_event m e) ≡ true → let b = blackboard j (own (step m e).state k) in (b.shown ≡ false) × (b.message ≡ 0)
+  cleared : Between 1 (own m k).blackboard_count j → done k 29 j (answered_event m e) ≡ true → (blackboard j (own (step m e).state k)).message ≡ None
   cleared b t =
       let z = done_zero m e k 29 j t in
       let u = accepted m h e k 29 some (done_by m e k 29 j t) z in
@@ -58,8 +59,8 @@ module _ (m : Module) (h : Reached m) (e : EventT) (k j : ℕ) (some : 1 ≤ k) 
       let v = (calling_valid m k s u.calling).objects.blackboards.numbered in
       let g = (checks_passed m e _ refl (rw (← u.is) at ((each_call m k u.calling).clear e.a)) z).1 in
       let at : id_of e.a ≡ j = ap id_of (done_at m e k 29 j t) in
-      let is : blackboard j (own (step m e).state k) ≡ record { name = (blackboard j p).name; shown = false; message = 0 } = ap (λ (x : Partition). blackboard j x) (own_after m k s u.calling _ g) ∙ rw at (named_same blackboard_limit no_blackboard j _ p.blackboards b.0 (omega (arith, b.1, v.few)) (omega (arith, b.1, v.few, v.size))) in
-      (ap (λ (x : BlackboardT). x.shown) is, ap (λ (x : BlackboardT). x.message) is)
+      let is : blackboard j (own (step m e).state k) ≡ record { name = (blackboard j p).name; message = None } = ap (λ (x : Partition). blackboard j x) (own_after m k s u.calling _ g) ∙ rw at (named_same blackboard_limit no_blackboard j _ p.blackboards b.0 (omega (arith, b.1, v.few)) (omega (arith, b.1, v.few, v.size))) in
+      ap (λ (x : BlackboardT). x.message) is
 
   -- SET_EVENT, RESET_EVENT
   up : Between 1 (own m k).event_count j → done k 18 j (answered_event m e) ≡ true → (event j (own (step m e).state k)).up ≡ true
@@ -82,8 +83,8 @@ module _ (m : Module) (h : Reached m) (e : EventT) (k j : ℕ) (some : 1 ≤ k) 
 
 -- ---------------------------------------------------------------- one event
 -- what blackboard j of partition k shows
-abbrev board_at : ℕ → ℕ → Module → Bool × ℕ
-board_at k j q = let x = blackboard j (own q k) in (x.shown, x.message)
+abbrev board_at : ℕ → ℕ → Module → Option ℕ
+board_at k j q = (blackboard j (own q k)).message
 
 module _ (m : Module) (h : Reached m) (e : EventT) (k j : ℕ) (b : Between 1 m.table.size k) (lasts : erases k m e ≡ false) where
   left : LeftBy m e k (own m k) (own (step m e).state k)
@@ -94,10 +95,10 @@ module _ (m : Module) (h : Reached m) (e : EventT) (k j : ℕ) (b : Between 1 m.
 
   board_step : Between 1 (own m k).blackboard_count j → board_at k j (next m e) ≡ shows k j (answered_event m e) (board_at k j m)
   board_step known = either (done k 27 j (answered_event m e))
-      (λ t. let g = shown m h e k j b.0 known t in rw t (λ i. (g.0 i, g.1 i)))
+      (λ t. rw t (shown m h e k j b.0 known t))
       (λ t. either (done k 29 j (answered_event m e))
-      (λ u. let g = cleared m h e k j b.0 known u in rw (t, u) (λ i. (g.0 i, g.1 i)))
-      (λ u. rw (t, u) (ap (λ (x : BlackboardT). (x.shown, x.message)) (left.boards j known t u))))
+      (λ u. rw (t, u) (cleared m h e k j b.0 known u))
+      (λ u. rw (t, u) (ap (λ (x : BlackboardT). x.message) (left.boards j known t u))))
 
   event_step : Between 1 (own m k).event_count j → (event j (own (next m e) k)).up ≡ sets k j (answered_event m e) (event j (own m k)).up
   event_step known = either (done k 18 j (answered_event m e))
@@ -129,7 +130,7 @@ module _ (m : Module) (h : Reached m) (k j : ℕ) (name : ℤ) where
 
   board_created : let e = call_by k 26 name (pos 0) (pos 0) (pos 0) in
       (step m e).answer.code ≡ 0 → (step m e).answer.value ≡ j
-      → Between 1 (own (next m e) k).blackboard_count j × ((blackboard j (own (next m e) k)).shown ≡ false) × ((blackboard j (own (next m e) k)).message ≡ 0)
+      → Between 1 (own (next m e) k).blackboard_count j × ((blackboard j (own (next m e) k)).message ≡ None)
   unfolding Passed
   board_created code value =
       let e = call_by k 26 name (pos 0) (pos 0) (pos 0) in
@@ -139,8 +140,8 @@ module _ (m : Module) (h : Reached m) (k j : ℕ) (name : ℤ) where
       let is : p.blackboard_count + 1 ≡ j = sym f.1.value_is ∙ value in
       let q = own_after m k s c _ f.1 in
       let room = leb-false 8 p.blackboard_count f.0.0 in
-      let at = next_named blackboard_limit no_blackboard (record { name = id_of name; shown = false; message = 0 }) p.blackboards p.blackboard_count j (calling_valid m k s c).objects.blackboards.numbered.size room is in
-      (rw q (omega arith, omega arith), ap (λ (x : Partition). (blackboard j x).shown) q ∙ ap (λ (x : BlackboardT). x.shown) at, ap (λ (x : Partition). (blackboard j x).message) q ∙ ap (λ (x : BlackboardT). x.message) at)
+      let at = next_named blackboard_limit no_blackboard (record { name = id_of name; message = None }) p.blackboards p.blackboard_count j (calling_valid m k s c).objects.blackboards.numbered.size room is in
+      (rw q (omega arith, omega arith), ap (λ (x : Partition). (blackboard j x).message) q ∙ ap (λ (x : BlackboardT). x.message) at)
 
   event_created : let e = call_by k 17 name (pos 0) (pos 0) (pos 0) in
       (step m e).answer.code ≡ 0 → (step m e).answer.value ≡ j → Between 1 (own (next m e) k).event_count j × ((event j (own (next m e) k)).up ≡ false)
@@ -199,7 +200,7 @@ module _ (input : List ℕ) (before : List EventT) (k j : ℕ) (name : ℤ) (es 
       let on = first_lasts _ k j e es q h in
       (board_step q h.reached e k j h.inside on h.known, lasts_on _ k j e es q h (λ l. (left q h.reached e k j h.inside l).board_count)))
       es (made 26) (begins 26 (omega arith) _ since c.0) in
-      (g.0 ∙ ap (λ x. along (shows k j) x (answers (made 26) es)) (λ i. (c.1 i, c.2 i)), g.1)
+      (g.0 ∙ ap (λ x. along (shows k j) x (answers (made 26) es)) c.1, g.1)
 
   event_run : Since m k 17 j name es → ((event j (own (after (made 17) es) k)).up ≡ last_set (made 17) k j es) × Lasts (λ (p : Partition). p.event_count) k j [] (after (made 17) es)
   event_run since =
@@ -219,10 +220,8 @@ latest = record {
       let m = (read_table input).state in
       let T = after_table m es in
       rw T at (read_message (after m es) k i (last_written m i es) (rw T l) (rw T size) (rw T to) h (sampling input i es l));
-  board = λ input before k j name es since. let g = (board_run input before k j name es since).0 in (ap (λ (x : Bool × ℕ). x.0) g, ap (λ (x : Bool × ℕ). x.1) g);
+  board = λ input before k j name es since. (board_run input before k j name es since).0;
   set = λ input before k j name es since. (event_run input before k j name es since).0;
-  read_board = λ input before k j name a es since c.
-      let g = (board_run input before k j name es since).0 in
-      rw (ap (λ (y : Bool × ℕ). y.0) g, ap (λ (y : Bool × ℕ). y.1) g) at ((each_call _ k c).read_blackboard (pos j) a);
+  read_board = λ input before k j name a es since c. rw (board_run input before k j name es since).0 at ((each_call _ k c).read_blackboard (pos j) a);
   wait_event = λ input before k j name a es since c. rw (event_run input before k j name es since).0 at ((each_call _ k c).wait_event (pos j) a);
 }

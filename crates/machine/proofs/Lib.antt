@@ -83,6 +83,7 @@ pub mod PerPartition
 pub mod Stores
 pub mod Accepted
 pub mod ModeKept
+pub mod ModeNumbers
 pub mod Modes
 pub mod Names
 pub mod Sampling

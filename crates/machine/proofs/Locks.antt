@@ -1,4 +1,6 @@
 -- The preemption lock, proved. Assumes nothing.
+use Rattle.machine.specs.Mode.{mode_number}
+use Rattle.machine.specs.declared.Mode.TheVariants.{Normal as NormalMode}
 use Prim.Native.Nat.{ℕ, ◌+◌, ◌-◌, ◌≤◌, ◌<◌}
 use mathlib.Core.Path.{◌≡◌, refl, sym, ap, ◌∙◌}
 use mathlib.Core.Bool.{true, false, or-true}
@@ -107,7 +109,7 @@ change_lock c p (StoredBlackboard k b) h = left p _ (by_test (SameLock p) (withi
 change_lock c p (Ended o) h = left p _ (rest_lock p _ (changed_rest served (waiters o p) p))
 change_lock c p (Handed o m) h = left p _ (rest_lock p _ (changed_rest (handed m) (waiters o p) p))
 change_lock c p (LevelSet level holder) h = record { same = λ e. not_both _ e refl; holding = h.1 }
-change_lock c p (Entered d) h = record { same = λ e. not_both _ e refl; holding = λ _ more. absurd (let z = (each_lock (entered d) (with_mode 3 p)).level in omega (arith, more, z)) }
+change_lock c p (Entered d) h = record { same = λ e. not_both _ e refl; holding = λ _ more. absurd (let z = (each_lock (entered d) (with_mode NormalMode p)).level in omega (arith, more, z)) }
 
 -- ---------------------------------------------------------------- an event
 module _ (m : Module) (s : SoundModule m) (e : EventT) where
@@ -187,7 +189,7 @@ holds m s k b =
     let l = v.lock in
     record {
       few = l.few;
-      outside = λ early. either (ltb 0 p.level) (λ e. absurd (early (eqb-true p.mode 3 (l.normal (ltb-true 0 p.level e))))) (λ e. let z = ltb-false 0 p.level e in omega arith);
+      outside = λ early. either (ltb 0 p.level) (λ e. absurd (early (eqb-true (mode_number p.mode) 3 (l.normal (ltb-true 0 p.level e))))) (λ e. let z = ltb-false 0 p.level e in omega arith);
       free = l.free;
       held = l.held;
       runs = λ some now. rw (now, ne_eqb k 0 (λ z. omega (arith, b.0))) (holder_runs p v.lists (l.normal some) some);

@@ -1,4 +1,5 @@
 -- What leaves the mode of a partition, and that a partition in IDLE stays as it is, over one event. Assumes nothing.
+use Rattle.machine.specs.Mode.{mode_number}
 use Prim.Native.Nat.{ℕ, zero, suc, ◌+◌, ◌<◌}
 use mathlib.Core.Path.{◌≡◌, refl, ap, ◌∙◌}
 use mathlib.Core.Bool.{false}
@@ -83,7 +84,7 @@ decided_mode n r p (PassedOn i a v) h ne = refl
 
 -- ---------------------------------------------------------------- a partition in IDLE
 -- outside NORMAL nobody waits on an object
-idle_off : (frame t : ℕ) (p : Partition) → Valid frame t p → p.mode ≡ 0 → (id : ℕ) → on_object (process id p) ≡ false
+idle_off : (frame t : ℕ) (p : Partition) → Valid frame t p → mode_number p.mode ≡ 0 → (id : ℕ) → on_object (process id p) ≡ false
 idle_off frame t p v z id = not_so (on_object (process id p)) (λ on.
     let b = process_created on_object refl p v.lists id on in
     let x = process id p in
@@ -92,7 +93,7 @@ idle_off frame t p v z id = not_so (on_object (process id p)) (λ on.
     let w : object x.wait ≡ 0 = either x.started (λ s. ap object (h.early s off).wait) (λ s. ap object (h.dormant s).wait) in
     not_both _ on (rw w))
 
-idle_unwaited : (frame t : ℕ) (p : Partition) → Valid frame t p → p.mode ≡ 0 → (o size : ℕ) → take size (waiters o p) ≡ []
+idle_unwaited : (frame t : ℕ) (p : Partition) → Valid frame t p → mode_number p.mode ≡ 0 → (o size : ℕ) → take size (waiters o p) ≡ []
 unfolding waiters kept
 idle_unwaited frame t p v z o size =
     let e : members p.waiting ≡ [] = none_in _ (λ id c. not_both _ c (v.lists.waitings.exact id ∙ idle_off frame t p v z id)) in
@@ -103,19 +104,19 @@ idle_unwaited frame t p v z o size =
     none (suc n) = refl
 
 -- a wait that a transfer ends is none of its own
-idle_end : (frame t : ℕ) (p : Partition) → Valid frame t p → p.mode ≡ 0 → (a : Transfer) → SoundEnd p a → ended_by a p ≡ p
+idle_end : (frame t : ℕ) (p : Partition) → Valid frame t p → mode_number p.mode ≡ 0 → (a : Transfer) → SoundEnd p a → ended_by a p ≡ p
 idle_end frame t p v z (Put m) h = refl
 idle_end frame t p v z (HandedTo id m) h = not_both _ h.1 (idle_off frame t p v z id)
 idle_end frame t p v z Taken h = refl
 idle_end frame t p v z (LetIn id m) h = not_both _ h.1 (idle_off frame t p v z id)
 
-idle_tick : (t : ℕ) (p : Partition) → p.mode ≡ 0 → tick_partition t p ≡ p
+idle_tick : (t : ℕ) (p : Partition) → mode_number p.mode ≡ 0 → tick_partition t p ≡ p
 unfolding tick_partition
 idle_tick t p z = rw z
 
 module _ (m : Module) (s : SoundModule m) (e : EventT) where
   abbrev Left : ℕ → Partition → Type 0
-  Left i q = (sets_mode (i + 1) m e ≡ false → SameMode (part m i) q) × ((part m i).mode ≡ 0 → q ≡ part m i)
+  Left i q = (sets_mode (i + 1) m e ≡ false → SameMode (part m i) q) × (mode_number (part m i).mode ≡ 0 → q ≡ part m i)
 
   pub event_mode : (i : ℕ) → i < m.table.size → Left i (part (step m e).state i)
   unfolding changed_all
@@ -128,6 +129,6 @@ module _ (m : Module) (s : SoundModule m) (e : EventT) where
       ))
       (λ i l o size frame t p v h. (
         λ ne. rest_mode p _ (changed_rest served (take size (waiters o p)) p) ∙ h.0 ne,
-        λ z. rw (idle_unwaited frame t p v (ap (λ (x : Partition). x.mode) (h.1 z) ∙ z) o size) (h.1 z),
+        λ z. rw (idle_unwaited frame t p v (ap (λ (x : Partition). mode_number x.mode) (h.1 z) ∙ z) o size) (h.1 z),
       ))
       (λ i l a h. (λ _. ended_mode a (part m i), λ z. idle_end m.table.frame m.t (part m i) (s.each_partition i l) z a h))

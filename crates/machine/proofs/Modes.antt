@@ -1,4 +1,7 @@
 -- The modes of a partition, proved. Assumes nothing.
+use Rattle.machine.proofs.ModeNumbers.{numbered_back}
+use Rattle.machine.specs.Mode.{mode_number}
+use Rattle.machine.specs.declared.Mode.TheVariants.{Normal as NormalMode}
 use Prim.Native.Nat.{ℕ, zero, suc, ◌+◌, ◌-◌, ◌≤◌}
 use mathlib.Core.Path.{◌≡◌, refl, ap, sym, ◌∙◌}
 use mathlib.Core.Bool.{Bool, true, false, ◌&&◌}
@@ -102,23 +105,23 @@ module _ (m : Module) (k : ℕ) (u : SoundModule m) (h : Calling m k) (a : ℤ) 
   later = own (step m asks).state k
 
   abbrev Set : Type 0
-  Set = (a ≡ pos later.mode) × (contains later.mode (leads_to p.mode) ≡ true) × (later.mode ≡ 3 → 1 ≤ p.process_count)
+  Set = (a ≡ pos (mode_number later.mode)) × (contains (mode_number later.mode) (leads_to (mode_number p.mode)) ≡ true) × (mode_number later.mode ≡ 3 → 1 ≤ p.process_count)
 
   record ModeSet (d : Decision) : Type 0 where
     is : Gives m asks (reply_of d).code (reply_of d).value (reply_of d).extra (module_after m k d) → (reply_of d).code ≡ 0 → Set
 
-  mode_in : Between 1 3 p.mode
+  mode_in : Between 1 3 (mode_number p.mode)
   mode_in = let some = h.active in (omega arith, (calling_valid m k u h).mode)
 
-  entered_set : later.mode ≡ 3 → is_number 3 (field a) ≡ true → normal_mode p ≡ false → eqb p.process_count 0 ≡ false → Set
-  entered_set e three off some = rw e (number_is a 3 three, leads_to_holds p.mode 3 mode_in (omega arith) (λ _. eqb-false _ 3 off) (λ z. absurd (omega arith)), λ _. let ne = eqb-false p.process_count 0 some in omega arith)
+  entered_set : mode_number later.mode ≡ 3 → is_number 3 (field a) ≡ true → normal_mode p ≡ false → eqb p.process_count 0 ≡ false → Set
+  entered_set e three off some = rw e (number_is a 3 three, leads_to_holds (mode_number p.mode) 3 mode_in (omega arith) (λ _. eqb-false _ 3 off) (λ z. absurd (omega arith)), λ _. let ne = eqb-false p.process_count 0 some in omega arith)
 
-  restarted_set : later.mode ≡ number_of (field a) → between 0 mode_limit (field a) ≡ true → is_number 3 (field a) ≡ false → (is_number 2 (field a) && eqb p.mode 1) ≡ false → Set
+  restarted_set : mode_number later.mode ≡ number_of (field a) → between 0 mode_limit (field a) ≡ true → is_number 3 (field a) ≡ false → (is_number 2 (field a) && eqb (mode_number p.mode) 1) ≡ false → Set
   restarted_set e some other cold =
       let n = number_of (field a) in
       let is = field_is mode_limit (field a) some in
       let no3 : n ≡ 3 → ⊥ = λ z. not_both _ (rw z at is) other in
-      rw e (number_is a n is, leads_to_holds p.mode n mode_in (in_limits 0 mode_limit (field a) some).1 (λ z. absurd (no3 z)) (λ z w. not_both _ (rw (rw z at is, w)) cold), λ z. absurd (no3 z))
+      rw e (number_is a n is, leads_to_holds (mode_number p.mode) n mode_in (in_limits 0 mode_limit (field a) some).1 (λ z. absurd (no3 z)) (λ z w. not_both _ (rw (rw z at is, w)) cold), λ z. absurd (no3 z))
 
   mode_set : ModeSet (set_mode (context_of m k) (field a) p)
   unfolding set_mode Passed entered_normal
@@ -126,12 +129,15 @@ module _ (m : Module) (k : ℕ) (u : SoundModule m) (h : Calling m k) (a : ℤ) 
       (λ c e. record { is = λ g z. not_both _ e (rw z) })
       (λ f. by_test ModeSet (is_number 3 (field a))
       (λ three. record {
-        is = λ g _. entered_set (ap (λ (y : Partition). y.mode) (own_after m k u h (entered_normal (context_of m k) p) g) ∙ each_mode (entered (context_of m k)) (with_mode 3 p)) three (rw three at f.1.0) (rw three at f.1.1.1.0);
+        is = λ g _. entered_set (ap (λ (y : Partition). mode_number y.mode) (own_after m k u h (entered_normal (context_of m k) p) g) ∙ ap mode_number (each_mode (entered (context_of m k)) (with_mode NormalMode p))) three (rw three at f.1.0) (rw three at f.1.1.1.0);
       })
       (λ other. record {
         is = λ g _.
             let b = not-false _ f.0 in
-            restarted_set (ap (λ (y : Partition). y.mode) (ap (λ (x : Module). own x k) g.state ∙ own_restarted m k u h (number_of (field a)) (in_limits 0 mode_limit (field a) b).1)) b other f.1.1.0;
+            let n = number_of (field a) in
+            let few = (in_limits 0 mode_limit (field a) b).1 in
+            let back = numbered_back n few in
+            restarted_set (ap (λ (y : Partition). mode_number y.mode) (ap (λ (x : Module). own x k) (rw back at g.state) ∙ own_restarted m k u h n few) ∙ back) b other f.1.1.0;
       }))
 
   mode_gives : (step m asks).answer.code ≡ 0 → Set
@@ -159,26 +165,26 @@ mode_after m h e k b =
 not_and : (a b : Bool) → (a ≡ true → b ≡ true → ⊥) → (a && b) ≡ false
 not_and a b h = not_so (a && b) (λ t. h (and_left a b t) (and_right a b t))
 
-mode_accepted : (m : Module) (k : ℕ) → Calling m k → (mode : ℕ) → contains mode (leads_to (own m k).mode) ≡ true → (mode ≡ 3 → 1 ≤ (own m k).process_count)
+mode_accepted : (m : Module) (k : ℕ) → Calling m k → (mode : ℕ) → contains mode (leads_to (mode_number (own m k).mode)) ≡ true → (mode ≡ 3 → 1 ≤ (own m k).process_count)
     → (step m (call_by k 1 (pos mode) (pos 0) (pos 0) (pos 0))).answer.code ≡ 0
 unfolding Checks
 mode_accepted m k h mode c some =
     let p = own m k in
-    let o = leads_back p.mode mode c in
+    let o = leads_back (mode_number p.mode) mode c in
     let g = (((((each_call m k h).set_mode (pos mode)
     ).1 (rw (from_zero mode, le-leb mode 3 o.0))
-    ).1 (not_and (eqb mode 3) (eqb p.mode 3) (λ x y. o.1 (eqb-true mode 3 x) (eqb-true _ 3 y)))
-    ).1 (not_and (eqb mode 2) (eqb p.mode 1) (λ x y. o.2 (eqb-true mode 2 x) (eqb-true _ 1 y)))
+    ).1 (not_and (eqb mode 3) (eqb (mode_number p.mode) 3) (λ x y. o.1 (eqb-true mode 3 x) (eqb-true _ 3 y)))
+    ).1 (not_and (eqb mode 2) (eqb (mode_number p.mode) 1) (λ x y. o.2 (eqb-true mode 2 x) (eqb-true _ 1 y)))
     ).1 (not_and (eqb mode 3) (eqb p.process_count 0) (λ x y. let z = eqb-true p.process_count 0 y in let l = some (eqb-true mode 3 x) in omega arith)) in
     either (eqb mode 3) (λ t. (g.0 t _ (releases m k h).some).code_is) (λ t. (g.1 t).code_is)
 
 -- ---------------------------------------------------------------- IDLE
-idle_stays : (k : ℕ) (es : List EventT) (m : Module) → Reached m → Between 1 m.table.size k → (own m k).mode ≡ 0 → own (after m es) k ≡ own m k
+idle_stays : (k : ℕ) (es : List EventT) (m : Module) → Reached m → Between 1 m.table.size k → mode_number (own m k).mode ≡ 0 → own (after m es) k ≡ own m k
 idle_stays k [] m h b z = refl
 idle_stays k (e ∷ es) m h b z =
     let s = valid_sound m (reached_valid m h) (k - 1) (omega (arith, b.0, b.1)) in
     let same = (event_mode m s e (k - 1) (omega (arith, b.0, b.1))).1 z in
-    idle_stays k es (next m e) (Reached.stepped m e h) (rw (step_size m e) b) (ap (λ (x : Partition). x.mode) same ∙ z) ∙ same
+    idle_stays k es (next m e) (Reached.stepped m e h) (rw (step_size m e) b) (ap (λ (x : Partition). mode_number x.mode) same ∙ z) ∙ same
 
 -- Law. The modes of a partition.
 pub modes : Modes

@@ -1,4 +1,6 @@
 -- Names differ, in every reached record. Assumes nothing.
+use Rattle.machine.specs.Mode.{mode_number}
+use Rattle.machine.specs.declared.Mode.TheVariants.{Normal as NormalMode}
 use Prim.Native.Nat.{ℕ, ◌+◌, ◌-◌, ◌≤◌, ◌<◌, max}
 use mathlib.Core.Path.{◌≡◌, refl, ap, sym, ◌∙◌}
 use mathlib.Core.Bool.{true}
@@ -185,7 +187,7 @@ change_names n r frame t p v (StoredBlackboard k s) g h = either (within blackbo
 change_names n r frame t p v (Ended o) g h = all_names served (λ _. refl) (waiters o p) p v.lists (waiters_created p v.lists o) (waiters_distinct p v.lists o) h
 change_names n r frame t p v (Handed o m) g h = all_names (handed m) (λ _. refl) (waiters o p) p v.lists (waiters_created p v.lists o) (waiters_distinct p v.lists o) h
 change_names n r frame t p v (LevelSet level holder) g h = record { processes = h.processes; semaphores = h.semaphores; events = h.events; buffers = h.buffers; blackboards = h.blackboards }
-change_names n r frame t p v (Entered c) g h = each_names (entered c) (entered_given c) (with_mode 3 p) v.lists (record { processes = h.processes; semaphores = h.semaphores; events = h.events; buffers = h.buffers; blackboards = h.blackboards })
+change_names n r frame t p v (Entered c) g h = each_names (entered c) (entered_given c) (with_mode NormalMode p) v.lists (record { processes = h.processes; semaphores = h.semaphores; events = h.events; buffers = h.buffers; blackboards = h.blackboards })
 
 nothing_names : (mode : ℕ) → NamesDiffer (nothing_created mode)
 nothing_names mode = record { processes = λ i j a b e. absurd (omega (arith, a.0, a.1)); semaphores = λ i j a b e. absurd (omega (arith, a.0, a.1)); events = λ i j a b e. absurd (omega (arith, a.0, a.1)); buffers = λ i j a b e. absurd (omega (arith, a.0, a.1)); blackboards = λ i j a b e. absurd (omega (arith, a.0, a.1)) }
@@ -196,7 +198,7 @@ decided_names n r c p s v (Unchanged value x) f g h = h
 decided_names n r c p s v Ticked f g h = h
 decided_names n r c p s v (Blocked id x) f g h = stored_names p v.lists id x g h
 decided_names n r c p s v (Changed a b value) f g h = change_names n r c.frame c.time (applied a p) (change_valid c s p v a f.0) b g.1 (change_names n r c.frame c.time p v a g.0 h)
-decided_names n r c p s v (Restarted mode) f g h = nothing_names mode
+decided_names n r c p s v (Restarted mode) f g h = nothing_names (mode_number mode)
 decided_names n r c p s v (Written i x) f g h = h
 decided_names n r c p s v (PassedOn i a value) f g h = h
 

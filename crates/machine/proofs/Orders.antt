@@ -1,4 +1,5 @@
 -- What a change makes of a queue, and what it means that a call decides in order: over the number of an object. Assumes nothing.
+use Rattle.machine.specs.declared.Mode.TheVariants.{Normal as NormalMode}
 use Prim.Native.Nat.{ℕ, ◌+◌}
 use mathlib.Core.Path.{◌≡◌, refl, ap, sym, ◌∙◌}
 use mathlib.Core.Bool.{Bool, true, false, cond, not, ◌&&◌, and-true, and-false, or-true}
@@ -291,7 +292,7 @@ module _ (p : Partition) (v : ListedIn p) (o : ℕ) (some : o ≡ 0 → ⊥) whe
 entered_queue : (p : Partition) → ListedIn p → (o : ℕ) → (o ≡ 0 → ⊥) → (c : Context) → waiters o (entered_normal c p) ≡ waiters o p
 unfolding entered_normal
 entered_queue p v o some c =
-    let q = with_mode 3 p in
+    let q = with_mode NormalMode p in
     each_queue_holds q v o some (entered c) (entered_ends c)
     ∙ kept_all _ (waiters o q) (λ y h. let is = in_queue q v o some y h in rw (entered_on c (process y q) (λ z. some (sym is ∙ z))) (eq-eqb _ o is))
     ∙ same_queue o p q refl (λ _. refl)

@@ -1,5 +1,6 @@
 -- A law of the record of each partition after an event, from that law of each way in which an event reaches it; and an event that comes to the body of
 -- its call, told from its answer. Assumes nothing.
+use Rattle.machine.specs.Mode.{mode_number}
 use Prim.Native.Nat.{ℕ, ◌+◌, ◌-◌, ◌≤◌, ◌<◌}
 use mathlib.Core.Path.{◌≡◌, refl}
 use mathlib.Core.Bool.{true}
@@ -73,8 +74,8 @@ module _ (m : Module) (s : SoundModule m) (e : EventT) (P : ℕ → Partition �
     decided (Changed x y v) h b g = puts m refl (k - 1) here _ g
     decided (Restarted mode) h b g =
         let u = erased_to k channel_limit m in
-        let p = nothing_created mode in
-        refilled_keeps P k (with_part (k - 1) p u) (part_sound u (erased_sound k channel_limit m (omega arith) s) (k - 1) here p (nothing_valid m.table.frame m.t mode h)) channel_limit
+        let p = nothing_created (mode_number mode) in
+        refilled_keeps P k (with_part (k - 1) p u) (part_sound u (erased_sound k channel_limit m (omega arith) s) (k - 1) here p (nothing_valid m.table.frame m.t (mode_number mode) h)) channel_limit
         (λ i _ f size frame t p v h.
         let b = (s.table.each_channel i f.there).source in
         let l : (channel m.table i).source - 1 < m.table.size = omega (arith, b.0, b.1) in

@@ -1,4 +1,5 @@
 -- Strict periods: what an event makes of a release, and every list. Assumes nothing.
+use Rattle.machine.specs.Mode.{mode_number}
 use Prim.Native.Nat.{ℕ, ◌+◌, ◌-◌, ◌*◌}
 use mathlib.Core.Path.{◌≡◌, refl, sym, ap, ◌∙◌}
 use mathlib.Core.Bool.{true, false, cond}
@@ -35,7 +36,7 @@ use Rattle.machine.proofs.EachProcess.{each_process_holds}
 use Rattle.machine.proofs.Priorities.{number_at, between_after}
 
 -- ---------------------------------------------------------------- one event
-module _ (m : Module) (e : EventT) (k id : ℕ) (normal : (own m k).mode ≡ 3) where
+module _ (m : Module) (e : EventT) (k id : ℕ) (normal : mode_number (own m k).mode ≡ 3) where
   abbrev code : ℕ
   code = (step m e).answer.code
 
@@ -114,7 +115,7 @@ module _ (frame t : ℕ) (p : Partition) (v : Valid frame t p) (id : ℕ) (on : 
   has_release n normal per = release_some t n (class_of (process id p).wait) _ (rw per at (sound.going on normal).release)
 
   -- where it has one, the mode is NORMAL
-  in_normal : (r : ℕ) → (process id p).times.release ≡ Some r → p.mode ≡ 3
+  in_normal : (r : ℕ) → (process id p).times.release ≡ Some r → mode_number p.mode ≡ 3
   in_normal r is = either (normal_mode p) (λ t. eqb-true _ 3 t) (λ f. not_both _ (ap is_never (sym is ∙ (sound.early on f).times.release)) refl)
 
 -- ---------------------------------------------------------------- every list
@@ -123,13 +124,13 @@ module _ (m : Module) (h : Reached m) (k id : ℕ) (b : Between 1 m.table.size k
   valid = (valid_sound m (reached_valid m h) (k - 1) (omega (arith, b.0, b.1))).each_partition (k - 1) (omega (arith, b.0, b.1))
 
   lasts : (e : EventT) → (process id (own m k)).started ≡ true → let code = (step m e).answer.code in
-      (StopOf m e code k id → ⊥) → (Erasure m e code k id → ⊥) → (normal : (own m k).mode ≡ 3) → Lasts m e k id normal (process id (own (step m e).state k))
+      (StopOf m e code k id → ⊥) → (Erasure m e code k id → ⊥) → (normal : mode_number (own m k).mode ≡ 3) → Lasts m e k id normal (process id (own (step m e).state k))
   lasts e on stop erase normal = lasts_by m e k id normal on (not_early m.table.frame m.t (own m k) valid id on (eq-eqb _ 3 normal)) stop erase _ (each_process_holds m h e k id b)
 
 times : (n c : ℕ) → n * (1 + c) ≡ n + n * c
 times n c = mul-add n 1 c ∙ ap (λ j. j + n * c) (mul-one n)
 
-list_strict : (k id n : ℕ) (es : List EventT) (m : Module) → Reached m → Between 1 m.table.size k → (r : ℕ) → (own m k).mode ≡ 3 → (process id (own m k)).started ≡ true → (process id (own m k)).given.period ≡ Some n
+list_strict : (k id n : ℕ) (es : List EventT) (m : Module) → Reached m → Between 1 m.table.size k → (r : ℕ) → mode_number (own m k).mode ≡ 3 → (process id (own m k)).started ≡ true → (process id (own m k)).given.period ≡ Some n
     → (process id (own m k)).times.release ≡ Some r → NeverStopped k id m es → (process id (own (after m es) k)).times.release ≡ Some (r + n * period_waits k id m es)
 unfolding NeverStopped period_waits
 list_strict k id n [] m h b r normal on per is never = is ∙ ap Some (omega (arith, mul-zero n))

@@ -1,4 +1,6 @@
 -- On a reached record no bound and no cap acts at any event: the definitions are document 01's plain ones there. Assumes nothing.
+use Rattle.machine.specs.Mode.{mode_number}
+use Rattle.machine.specs.declared.Mode.TheVariants.{Normal as NormalMode}
 use Prim.Native.Nat.{ℕ, zero, suc, ◌+◌, ◌-◌, ◌≤◌, ◌<◌, max}
 use mathlib.Core.Path.{◌≡◌, refl, ap, ap₂, sym, ◌∙◌}
 use mathlib.Core.Bool.{true, false, cond, not, ◌&&◌, and-false, or-true}
@@ -132,7 +134,7 @@ module _ (c : Context) {o : Partition} (k : SoundContext c o) where
   change_plain p v (Ended o) h = all_plain served (waiters o p) p v.lists (waiters_created p v.lists o)
   change_plain p v (Handed o m) h = all_plain (handed m) (waiters o p) p v.lists (waiters_created p v.lists o)
   change_plain p v (LevelSet level holder) h = refl
-  change_plain p v (Entered d) h = each_plain (entered d) (with_mode 3 p) v.lists
+  change_plain p v (Entered d) h = each_plain (entered d) (with_mode NormalMode p) v.lists
 
   -- and what it stores has its place
   pub change_in_place : (p : Partition) → Valid c.frame c.time p → (a : Change) → SoundChange c p a → InPlace a p
@@ -274,7 +276,7 @@ module _ (m : Module) (s : SoundModule m) (r : Request) (q : Calls m r) where
   decided_plain Ticked h b = absurd b
   decided_plain (Blocked id x) h b = rw (one_plain (Stored id x) h)
   decided_plain (Changed x y n) h b = rw (change_plain (context_of m k) (context_sound m s r q) (applied x now) (after_one x h.0) y h.1, one_plain x h.0)
-  decided_plain (Restarted mode) h b = refilled_all k _ (part_sound (erased_to k channel_limit m) (erased_sound k channel_limit m (omega arith) s) (k - 1) (place m s r q) _ (nothing_valid m.table.frame m.t mode h))
+  decided_plain (Restarted mode) h b = refilled_all k _ (part_sound (erased_to k channel_limit m) (erased_sound k channel_limit m (omega arith) s) (k - 1) (place m s r q) _ (nothing_valid m.table.frame m.t (mode_number mode) h))
   decided_plain (Written i x) h b = refl
   decided_plain (Passed i a n) h b =
       let t = transfer_sound m s r q i a n b in

@@ -1,4 +1,5 @@
 -- Calls 1 to 13: what is shown of each. Assumes nothing.
+use Rattle.machine.proofs.ModeNumbers.{numbered_back}
 use Prim.Native.Nat.{ℕ}
 use mathlib.Core.Path.{◌≡◌, refl, ap, sym, ◌∙◌}
 use mathlib.Core.Bool.{true, false, cond, and-false}
@@ -53,12 +54,12 @@ set_mode_holds = laws (λ s _ _ _ _ _. absurd (s.0 refl)) λ c x r p. checks _ _
     })
     (λ e. record {
       codes = refl;
-      sound = λ _ _ _. (in_limits 0 mode_limit r.a (not-false _ h.0)).1;
+      sound = λ _ _ _. let b = (in_limits 0 mode_limit r.a (not-false _ h.0)).1 in rw (numbered_back _ b) b;
       order = tt;
       fair = λ _ _. tt;
       calm = λ _ _ _ _ _. (refl, below_three r.a (not-false _ h.0) e);
       stores = λ _. (refl, below_three r.a (not-false _ h.0) e);
-      acts = λ _. let m = mode_low r.a (not-false _ h.0) e in (refl, m.0, m.1);
+      acts = λ _. let m = mode_low r.a (not-false _ h.0) e in rw (numbered_back (number_of r.a) (in_limits 0 mode_limit r.a (not-false _ h.0)).1) (refl, m.0, m.1);
     }))
 
 pub create_process_holds : Laws 2

@@ -1,4 +1,5 @@
 -- The states of a process: which changes there are and by what alone, what a tick leaves, SUSPEND and RESUME. Assumes nothing.
+use Rattle.machine.specs.Mode.{mode_number}
 use Prim.Native.Nat.{ℕ, ◌+◌, ◌-◌, ◌≤◌}
 use mathlib.Core.Path.{◌≡◌, refl, sym, ap, ◌∙◌}
 use mathlib.Core.Bool.{Bool, true, false, cond, not, ◌&&◌, ◌||◌, and-false}
@@ -69,13 +70,13 @@ module _ (m : Module) (h : Reached m) (e : EventT) (low : (step m e).answer.code
       let eight = sym g.eight ∙ ne_eqb (step m e).answer.code 8 (λ z. omega arith) in
       let nine = sym g.nine ∙ ne_eqb (step m e).answer.code 9 (λ z. omega arith) in
       let now : eqb k (current m) ≡ true = not-false _ (rw (bad, by, from) at eight) in
-      let can : (eqb (own m k).mode 0 || (eqb (own m k).mode 3 && eqb (running (own m k)) 0)) ≡ false = rw (bad, by, from, now) at nine in
+      let can : (eqb (mode_number (own m k).mode) 0 || (eqb (mode_number (own m k).mode) 3 && eqb (running (own m k)) 0)) ≡ false = rw (bad, by, from, now) at nine in
       record {
         reached = h;
         some = let z = eqb-false k 0 from in omega arith;
         now = sym (eqb-true k (current m) now);
         active = eqb-false _ 0 (or_left _ _ can);
-        runs = λ z w. not_both _ (rw (z, w)) (or_right (eqb (own m k).mode 0) _ can);
+        runs = λ z w. not_both _ (rw (z, w)) (or_right (eqb (mode_number (own m k).mode) 0) _ can);
       }
 
 -- ---------------------------------------------------------------- SUSPEND and RESUME
@@ -263,7 +264,7 @@ tick_leaves m s e by z k b =
     let is = tick_state m e by z in
     let p = own m k in
     record {
-      partition = λ early. ap (λ (q : Module). own q k) is ∙ ticked_part m s k b ∙ rw (ne_eqb p.mode 3 early);
+      partition = λ early. ap (λ (q : Module). own q k) is ∙ ticked_part m s k b ∙ rw (ne_eqb (mode_number p.mode) 3 early);
       process = λ id w d. ap (λ (q : Module). process id (own q k)) is ∙ tick_process m s k b id ∙ either (normal_mode p) (λ t. rw t (rw (w, d))) (λ t. rw t);
     }
 

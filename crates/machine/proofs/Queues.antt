@@ -1,5 +1,6 @@
 -- Queues: a waiter joins its object's queue last, ended waits leave it and the others keep their order, and the first is served first: over
 -- an object's number, for each change, for every event of every reached record, and for the calls. Assumes nothing.
+use Rattle.machine.specs.Mode.{mode_number}
 use Prim.Native.Nat.{ℕ, zero, suc, ◌+◌, ◌-◌, ◌≤◌, ◌<◌, max}
 use mathlib.Core.Path.{◌≡◌, refl, ap, sym, ◌∙◌}
 use mathlib.Core.Bool.{Bool, true, false, cond, and-false, or-true, ◌&&◌, and-true, not}
@@ -146,10 +147,10 @@ module _ (m : Module) (s : SoundModule m) (o : ℕ) (some : o ≡ 0 → ⊥) whe
         (part_trans (change_part o some (context_of m k) now now_valid x h.0 g.0) (change_part o some (context_of m k) (applied x now) v y h.1 g.1))
     decided_parts (Restarted mode) h b g f =
         let u = erased_to k channel_limit m in
-        let v = nothing_valid m.table.frame m.t mode h in
-        let p = nothing_created mode in
+        let v = nothing_valid m.table.frame m.t (mode_number mode) h in
+        let p = nothing_created (mode_number mode) in
         refilled_keeps (λ i x. ListedIn x × Part (waiters o (part m i)) (waiters o x)) k (with_part (k - 1) p u) (part_sound u (erased_sound k channel_limit m (omega arith) s) (k - 1) here p v) channel_limit (λ i _ _. let_in_parts ((channel m.table i).source - 1) i)
-        (store_parts u same_parts s.partitions_size (k - 1) here p v.lists (restart_part mode))
+        (store_parts u same_parts s.partitions_size (k - 1) here p v.lists (restart_part (mode_number mode)))
     decided_parts (Written j x) h b g f = same_parts
     decided_parts (PassedOn j a n) h b g f =
         let t = transfer_sound m s r c j a n b in

@@ -1,4 +1,6 @@
 -- Every record that a run reaches is valid. Assumes nothing.
+use Rattle.std.specs.Prelude.{Some}
+use Rattle.std.specs.Prelude.{Option}
 use Prim.Native.Nat.{ℕ, zero, suc, ◌+◌, ◌-◌, ◌≤◌, ◌<◌}
 use mathlib.Core.Path.{◌≡◌, refl, ap, sym, ◌∙◌}
 use mathlib.Core.Bool.{true, false, not, ◌&&◌, and-true, and-false}
@@ -77,7 +79,7 @@ module _ (m : Module) (s : SoundModule m) where
         each_queue = s.each_queue;
       }
 
-  pub message_sound : (j : ℕ) → j < channel_limit → (x : Message) → SoundMessage m.t x → SoundModule (with_message j x m)
+  pub message_sound : (j : ℕ) → j < channel_limit → (x : Option Message) → SoundMessage m.t x → SoundModule (with_message j x m)
   message_sound j h x v = record {
     table = s.table;
     partitions_size = s.partitions_size;
@@ -163,7 +165,7 @@ unfolding kept_to
 erased_sound k zero m h s = s
 erased_sound k (suc n) m h s =
     let e = erased_sound k n m (omega arith) s in
-    by_test (λ (l : List Message). SoundModule (with_messages l m)) (leads_into k (channel m.table n))
+    by_test (λ (l : List (Option Message)). SoundModule (with_messages l m)) (leads_into k (channel m.table n))
     (λ _. message_sound (erased_to k n m) e n (omega arith) no_message (no_message_holds (erased_to k n m).t))
     (λ _. e)
 
@@ -356,7 +358,7 @@ module _ (m : Module) (s : SoundModule m) (r : Request) (q : Calls m r) where
       refilled_sound caller channel_limit _ (part_sound (erased_to caller channel_limit m) (erased_sound caller channel_limit m (omega arith) s) (caller - 1) place _ (valid (Restarted mode) h))
   applied_sound (Written i x) h b =
       let c = in_limits 1 m.table.channel_count r.a b.there in
-      message_sound m s i (omega (arith, b.place, c.0, c.1, s.table.channel_count)) x h
+      message_sound m s i (omega (arith, b.place, c.0, c.1, s.table.channel_count)) (Some x) h
   applied_sound (Passed i a n) h b = let t = transfer_sound i a n b in passed_sound m s caller i a t.0 t.1 t.2
 
 pub decided_sound : (m : Module) → SoundModule m → (r : Request) → SoundModule (module_after m (number_of r.partition) (decision m r))

@@ -1,4 +1,5 @@
 -- What the events of a list leave, one after the other; and of that the message of a sampling channel. Assumes nothing.
+use Rattle.std.specs.Prelude.{Option, None}
 use Prim.Native.Nat.{ℕ, ◌+◌, ◌-◌, ◌<◌}
 use mathlib.Core.Path.{◌≡◌, refl, ap, sym, ◌∙◌}
 use mathlib.Core.Bool.{true, false, cond, not, and-false}
@@ -110,21 +111,21 @@ module _ (m : Module) (s : SoundModule m) (e : EventT) (i : ℕ) (inside : i < m
       left (Blocked id x) b g is = refl
       left (Changed x y v) b g is = refl
       left (Restarted mode) b g is =
-          ap (λ (l : List Message). get_or l i no_message) (refilled_messages k channel_limit _)
+          ap (λ (l : List (Option Message)). get_or l i no_message) (refilled_messages k channel_limit _)
           ∙ erased_other k channel_limit m i (not_so (eqb c.destination k) (λ t. not_both _ (rw (eqb-true _ k t) (restart_told m e q g.0 g.1 is)) lasts))
-      left (Written j x) b g is = get_or-set_other m.messages j i x no_message (λ z. not_both _ (writes b.source b.call (let l = in_limits 1 m.table.channel_count r.a b.there in omega (arith, l.0, b.place)) is) unwritten)
+      left (Written j x) b g is = get_or-set_other m.messages j i (Some x) no_message (λ z. not_both _ (writes b.source b.call (let l = in_limits 1 m.table.channel_count r.a b.there in omega (arith, l.0, b.place)) is) unwritten)
       left (PassedOn j a v) b g is = by_test (λ (x : Module). message x i ≡ message m i) (ends_wait a) (λ _. refl) (λ _. refl)
 
     message_left : message (step m e).state i ≡ message m i
     unfolding step
     message_left = by_event m r (λ (d : Decision). code_at m e ≡ (reply_of d).code → message (module_after m k d) i ≡ message m i)
         (λ _ _ _. refl)
-        (λ _ _ _ _. ap (λ (l : List Message). get_or l i no_message) (tick_messages (partition_count m.table) (with_time (m.t + 1) m)))
+        (λ _ _ _ _. ap (λ (l : List (Option Message)). get_or l i no_message) (tick_messages (partition_count m.table) (with_time (m.t + 1) m)))
         (λ q is. left q (made m s r q) (made_body m s r q) (made_stores m s e q) is)
         refl
 
   -- a WRITE of its source
-  message_written : Reached m → done c.source 21 (i + 1) here ≡ true → message (step m e).state i ≡ record { present = true; value = message_in e.b; written = (step m e).answer.t }
+  message_written : Reached m → done c.source 21 (i + 1) here ≡ true → message (step m e).state i ≡ Some (record { value = message_in e.b; written = (step m e).answer.t })
   message_written h t =
       let is-i = done_at m e c.source 21 (i + 1) t in
       let z = done_zero m e c.source 21 (i + 1) t in
@@ -133,9 +134,9 @@ module _ (m : Module) (s : SoundModule m) (e : EventT) (i : ℕ) (inside : i < m
       let place : id_of e.a - 1 ≡ i = ap (λ (y : ℤ). id_of y - 1) is-i ∙ one_less in
       let time : m.t ≡ (step m e).answer.t = sym ((each_event m h e).shown.0 ∙ ap (λ (x : Module). x.t) g.state) in
       ap (λ (x : Module). message x i) g.state
-      ∙ ap (λ j. get_or (set m.messages j (record { present = true; value = id_of e.b; written = m.t })) i no_message) place
+      ∙ ap (λ j. get_or (set m.messages j (Some (record { value = id_of e.b; written = m.t }))) i no_message) place
       ∙ get_or-set_same m.messages i _ no_message (omega (arith, inside, s.table.channel_count, s.messages_size))
-      ∙ ap (λ t. record { present = true; value = id_of e.b; written = t }) time
+      ∙ ap (λ t. Some (record { value = id_of e.b; written = t })) time
     where
       one_less : i + 1 - 1 ≡ i
       one_less = omega arith
@@ -147,7 +148,7 @@ module _ (m : Module) (s : SoundModule m) (e : EventT) (i : ℕ) (inside : i < m
       let g = restart_gives m c.destination (calling_sound m c.destination u.calling) u.calling (id_of e.a) u.few u.warm in
       ap (λ (x : EventT). message (step m x).state i) u.is
       ∙ ap (λ (x : Module). message x i) g.state
-      ∙ ap (λ (l : List Message). get_or l i no_message) (refilled_messages c.destination channel_limit _)
+      ∙ ap (λ (l : List (Option Message)). get_or l i no_message) (refilled_messages c.destination channel_limit _)
       ∙ erased_own c.destination channel_limit m i (omega (arith, inside, s.table.channel_count)) refl
 
   message_step : Reached m → message (next m e) i ≡ written c i here (message m i)
@@ -181,11 +182,11 @@ sampling input i es l =
     ∙ ap (λ x. along (written (channel m.table i) i) x (answers m es)) (fresh_message input i l)
 
 -- READ of a message that is known
-pub read_message : (q : Module) (k i : ℕ) (x : Message) → let c = channel q.table i in
+pub read_message : (q : Module) (k i : ℕ) (x : Option Message) → let c = channel q.table i in
     let e = call_by k 22 (pos (i + 1)) (pos 0) (pos 0) (pos 0) in
     i < q.table.channel_count → c.size ≡ 0 → c.destination ≡ k → Calling q k → message q i ≡ x
-    → (x.present ≡ false → Refuses q e 1)
-    × (x.present ≡ true → Gives q e 0 x.value (Some (cond (leb (q.t - x.written) c.refresh) 1 0)) q)
+    → (x ≡ None → Refuses q e 1)
+    × ((y : Message) → x ≡ Some y → Gives q e 0 y.value (Some (cond (leb (q.t - y.written) c.refresh) 1 0)) q)
 unfolding Checks
 read_message q k i x l size to h is =
     let c = channel q.table i in
@@ -197,4 +198,4 @@ read_message q k i x l size to h is =
     ).1 (rw (place, here) (and-false (not (eqb c.source k))))
     ).1 (rw (place, here)) in
     let f = rw (place, is) at g in
-    (λ z. f.0 (rw z), λ z. f.1 (rw z))
+    (λ z. f.0 (rw z), λ y z. rw z at (f.1 (rw z)))

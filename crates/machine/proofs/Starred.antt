@@ -1,4 +1,8 @@
 -- The mistakes to shut out, proved, and the whole list of starred cases. Assumes nothing.
+use Rattle.machine.specs.Mode.{mode_numbered}
+use Rattle.machine.proofs.ModeNumbers.{numbered_back}
+use Rattle.machine.specs.Mode.{mode_number}
+use Rattle.std.specs.Prelude.{Option}
 use Prim.Native.Nat.{ℕ, zero, suc, ◌+◌, ◌-◌, ◌*◌, ◌≤◌, ◌<◌}
 use mathlib.Core.Path.{◌≡◌, refl, sym, ap, ◌∙◌}
 use mathlib.Core.Bool.{Bool, true, false, cond, not, ◌||◌, and-false, or-true, ◌&&◌}
@@ -125,7 +129,7 @@ restart_keeps m e i w d =
     let made = call_decision (St.context_of m k) x (number_of r.call) r (M.part m (k - 1)) in
     let body = (call_body x (number_of r.call) (St.context_of m k) r (M.part m (k - 1)) u.0 u.1).is in
     by_decision m k made (λ (y : Module). M.message y i ≡ M.message m i) refl ticked refl
-    (ap (λ (l : List Message). get_or l i D.no_message) (refilled_messages k channel_limit _) ∙ erased_other k channel_limit m i (ne_eqb _ k (λ s. d (number_of_holds e.partition q.some ∙ ap pos (sym s)))))
+    (ap (λ (l : List (Option Message)). get_or l i D.no_message) (refilled_messages k channel_limit _) ∙ erased_other k channel_limit m i (ne_eqb _ k (λ s. d (number_of_holds e.partition q.some ∙ ap pos (sym s)))))
     (λ j y s. absurd (w (number_of_holds e.call (λ z. omega (arith, u.0)) ∙ ap pos (left_by x (number_of r.call) made j y s body).call)))
     (λ j a v s. by_test (λ (y : Module). M.message y i ≡ M.message m i) (ends_wait a) (λ _. refl) (λ _. refl))
   where
@@ -263,12 +267,12 @@ tick_formed : (m : Module) → 1 ≤ m.table.size → Pl.malformed m.table (requ
 unfolding Pl.stray_field
 tick_formed m h = rw (ne_eqb m.table.size 0 (λ z. omega arith), from_zero m.table.size)
 
-module _ (m : Module) (u : SoundModule m) (room : m.t < time_limit) (k id : ℕ) (b : Between 1 m.table.size k) (normal : (own m k).mode ≡ 3) (c : Between 1 (own m k).process_count id) where
+module _ (m : Module) (u : SoundModule m) (room : m.t < time_limit) (k id : ℕ) (b : Between 1 m.table.size k) (normal : mode_number (own m k).mode ≡ 3) (c : Between 1 (own m k).process_count id) where
   ticked_process : process id (own (Ti.tick_module m) k) ≡ ticked (m.t + 1) (process id (own m k))
   unfolding tick_partition
   ticked_process =
       ap (process id) (tick_each m u (k - 1) (omega (arith, b.0, b.1)))
-      ∙ rw (eq-eqb (own m k).mode 3 normal) (each_process_holds (ticked (m.t + 1)) (own m k) (u.each_partition (k - 1) (omega (arith, b.0, b.1))).lists id c)
+      ∙ rw (eq-eqb (mode_number (own m k).mode) 3 normal) (each_process_holds (ticked (m.t + 1)) (own m k) (u.each_partition (k - 1) (omega (arith, b.0, b.1))).lists id c)
 
   never_frozen : ((St.step m tick).answer.code ≡ 0) × Ticks (m.t + 1) (process id (own m k)) (process id (own (St.step m tick).state k))
   unfolding St.step
@@ -289,19 +293,19 @@ module _ (m : Module) (k : ℕ) (u : SoundModule m) (h : Calling m k) where
       refilled_part_other k (M.with_part (k - 1) p erased) w channel_limit (k - 1) place (λ i f z. let c = u.table.each_channel i f.there in c.apart (omega (arith, c.source.0, c.destination.0, f.into)))
       ∙ get_or-set_same m.partitions (k - 1) p M.no_partition (omega (arith, place, u.partitions_size, u.table.size.1))
 
-  module _ (mode : ℕ) (low : mode ≤ 2) (warm : mode ≡ 2 → (own m k).mode ≡ 1 → ⊥) where
+  module _ (mode : ℕ) (low : mode ≤ 2) (warm : mode ≡ 2 → mode_number (own m k).mode ≡ 1 → ⊥) where
     pub restart_gives : Gives m (call_by k 1 (pos mode) (pos 0) (pos 0) (pos 0)) 0 0 (Some 0) (St.restarted k (nothing_created mode) m)
     unfolding call_decision services Pl.stray_field C.set_mode D.checked
-    restart_gives =
-        gives m k u h 1 (pos mode) (pos 0) (pos 0) (pos 0) (omega arith) (omega arith) refl (Restarted mode)
-        (rw (field_number mode (omega arith), from_zero mode, le-leb mode 3 (omega arith), ne_eqb mode 3 (λ e. omega arith), not_warm))
+    restart_gives = rw (numbered_back mode (omega arith)) at
+        (gives m k u h 1 (pos mode) (pos 0) (pos 0) (pos 0) (omega arith) (omega arith) refl (Restarted (mode_numbered mode))
+        (rw (field_number mode (omega arith), from_zero mode, le-leb mode 3 (omega arith), ne_eqb mode 3 (λ e. omega arith), not_warm)))
       where
-        not_warm : (eqb mode 2 && eqb (own m k).mode 1) ≡ false
-        not_warm = not_so _ (λ t. warm (eqb-true mode 2 (and_left (eqb mode 2) _ t)) (eqb-true (own m k).mode 1 (and_right (eqb mode 2) _ t)))
+        not_warm : (eqb mode 2 && eqb (mode_number (own m k).mode) 1) ≡ false
+        not_warm = not_so _ (λ t. warm (eqb-true mode 2 (and_left (eqb mode 2) _ t)) (eqb-true (mode_number (own m k).mode) 1 (and_right (eqb mode 2) _ t)))
 
     restart_is : let e = call_by k 1 (pos mode) (pos 0) (pos 0) (pos 0) in
         ((St.step m e).answer.code ≡ 0) × (own (St.step m e).state k ≡ nothing_created mode)
-        × ((i : ℕ) → i < m.table.channel_count → (M.channel m.table i).destination ≡ k → (M.message (St.step m e).state i).present ≡ false)
+        × ((i : ℕ) → i < m.table.channel_count → (M.channel m.table i).destination ≡ k → M.message (St.step m e).state i ≡ None)
         × ((i : ℕ) → ((M.channel m.table i).destination ≡ k → ⊥) → M.message (St.step m e).state i ≡ M.message m i)
         × ((i : ℕ) → i < m.table.channel_count → ((M.channel m.table i).size ≡ 0 → ⊥) → (M.channel m.table i).destination ≡ k
         → let c = M.channel m.table i in
@@ -326,8 +330,8 @@ module _ (m : Module) (k : ℕ) (u : SoundModule m) (h : Calling m k) where
         get_or-set_other m.partitions (k - 1) ((M.channel m.table i).source - 1) p M.no_partition (λ z. c.apart (omega (arith, c.source.0, c.destination.0, d))) in (
           g.code_is,
           ap (λ (n : Module). own n k) g.state ∙ own_restarted mode (omega arith),
-          λ i b d. ap (λ (n : Module). (M.message n i).present) g.state ∙ ap (λ (l : List Message). (get_or l i D.no_message).present) messages ∙ ap (λ (x : Message). x.present) (erased_own k channel_limit m i (omega (arith, u.table.channel_count)) d),
-          λ i ne. ap (λ (n : Module). M.message n i) g.state ∙ ap (λ (l : List Message). get_or l i D.no_message) messages ∙ erased_other k channel_limit m i (ne_eqb _ k ne),
+          λ i b d. ap (λ (n : Module). M.message n i) g.state ∙ ap (λ (l : List (Option Message)). get_or l i D.no_message) messages ∙ (erased_own k channel_limit m i (omega (arith, u.table.channel_count)) d),
+          λ i ne. ap (λ (n : Module). M.message n i) g.state ∙ ap (λ (l : List (Option Message)). get_or l i D.no_message) messages ∙ erased_other k channel_limit m i (ne_eqb _ k ne),
           λ i b full d.
               let f = fills i b full d in
               ap (λ (n : Module). held (M.queue n i)) g.state ∙ ap held (refilled_queue k q w i f channel_limit f.few) ∙ held_queue_of _ ∙ ap (λ (x : Partition). map (λ id. carried (process id x)) (take (M.channel m.table i).size (waiters (object (Source (i + 1) 0)) x))) (source i b d),

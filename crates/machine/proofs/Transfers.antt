@@ -1,4 +1,5 @@
 -- What SEND and RECEIVE on a queuing channel do, said about step. Assumes nothing.
+use Rattle.machine.specs.Mode.{mode_number}
 use Prim.Native.Nat.{ℕ, suc, ◌+◌, ◌-◌, ◌≤◌, ◌<◌}
 use mathlib.Core.Path.{◌≡◌, refl, ap, sym, ◌∙◌}
 use mathlib.Core.Bool.{true, false}
@@ -48,7 +49,7 @@ use Rattle.machine.proofs.Ends.{channel_ends}
 place : (i : ℕ) → i + 1 - 1 ≡ i
 place i = omega arith
 
-module _ (m : Module) (k : ℕ) (u : SoundModule m) (h : Calling m k) (normal : (own m k).mode ≡ 3) (i : ℕ) (there : i < m.table.channel_count) (some : (channel m.table i).size ≡ 0 → ⊥) where
+module _ (m : Module) (k : ℕ) (u : SoundModule m) (h : Calling m k) (normal : mode_number (own m k).mode ≡ 3) (i : ℕ) (there : i < m.table.channel_count) (some : (channel m.table i).size ≡ 0 → ⊥) where
   abbrev p : Partition
   p = own m k
 
@@ -120,7 +121,7 @@ module _ (m : Module) (k : ℕ) (u : SoundModule m) (h : Calling m k) (normal : 
       unfolding call_decision services stray_field send awaiting checked channel_checks
       send_gives l e room =
           gives m k u h 30 (pos (i + 1)) (pos x) a (pos 0) (omega arith) (omega arith) refl (Passed i (sent (get_or l 0 0) x) 0)
-          (rw (number, field_number x (omega arith), place i, exists, lt-ltb i T.channel_count there, kind, lt-ltb i channel_limit low, eq-eqb c.source k from, eq-eqb p.mode 3 normal, a_message x ok, time_out a t, lt-ltb (queue m i).len c.size room, e))
+          (rw (number, field_number x (omega arith), place i, exists, lt-ltb i T.channel_count there, kind, lt-ltb i channel_limit low, eq-eqb c.source k from, eq-eqb (mode_number p.mode) 3 normal, a_message x ok, time_out a t, lt-ltb (queue m i).len c.size room, e))
 
       send_first_holds : (id : ℕ) (rest : List ℕ) → waiters receivers (own m to) ≡ id ∷ rest
           → FirstServed m to sends receivers id rest x × (held (queue (step m sends).state i) ≡ messages) × (own (step m sends).state k ≡ own m k)
@@ -169,7 +170,7 @@ module _ (m : Module) (k : ℕ) (u : SoundModule m) (h : Calling m k) (normal : 
       unfolding call_decision services stray_field receive awaiting checked channel_checks
       receive_gives w e =
           gives m k u h 31 (pos (i + 1)) a (pos 0) (pos 0) (omega arith) (omega arith) refl (Passed i (received (get_or w 0 0) (carried (process (get_or w 0 0) (own m from)))) x)
-          (rw (number, place i, exists, lt-ltb i T.channel_count there, kind, lt-ltb i channel_limit low, other, eq-eqb c.destination k to, eq-eqb p.mode 3 normal, time_out a t, lt-ltb 0 (queue m i).len held_some, e, value_is_holds))
+          (rw (number, place i, exists, lt-ltb i T.channel_count there, kind, lt-ltb i channel_limit low, other, eq-eqb c.destination k to, eq-eqb (mode_number p.mode) 3 normal, time_out a t, lt-ltb 0 (queue m i).len held_some, e, value_is_holds))
 
       receive_first_holds : (id : ℕ) (rest : List ℕ) → waiters senders (own m from) ≡ id ∷ rest
           → FirstServed m from takes senders id rest (has m from id) × ((step m takes).answer.value ≡ x) × (held (queue (step m takes).state i) ≡ l ++ (carried (process id (own m from)) ∷ [])) × (own (step m takes).state k ≡ own m k)

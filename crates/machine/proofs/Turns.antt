@@ -1,4 +1,6 @@
 -- What a call makes of the record of a process of its own partition. Assumes nothing.
+use Rattle.machine.specs.Mode.{mode_number}
+use Rattle.machine.specs.declared.Mode.TheVariants.{Normal as NormalMode}
 use Prim.Native.Nat.{ℕ, ◌*◌, ◌-◌, ◌≤◌, ◌+◌}
 use mathlib.Core.Path.{◌≡◌, refl, sym, ap, subst, ◌∙◌}
 use mathlib.Core.Bool.{true, false}
@@ -210,7 +212,7 @@ module _ (m : Module) (s : SoundModule m) (e : EventT) (k : ℕ) (id : ℕ) (n :
       let st = ⊎_elim (λ (i : n ≡ 3). inl (of 3 i b a)) (λ (i : n ≡ 4). inr (of 4 i b a)) is in
       to y_is (by_test After (normal_mode p)
       (λ t. let g = starts_as c delay x in Becomes.started st off g.is (λ _. g.wait) (λ early. absurd (early (eqb-true _ 3 t))))
-      (λ t. Becomes.started st off refl (λ z. not_both _ (eq-eqb p.mode 3 z) t) (λ _. refl)))
+      (λ t. Becomes.started st off refl (λ z. not_both _ (eq-eqb (mode_number p.mode) 3 z) t) (λ _. refl)))
   put y b v (StoredBy.stops is a on y_is) = to y_is (Becomes.stopped (inl (of 5 is b a)) refl)
   put y b v (StoredBy.stops_self is self normal y_is) = to y_is (Becomes.stopped (inr (calls 6 is, eqb-true _ 3 normal, self)) refl)
   put y b v (StoredBy.marks is a on off y_is) = to y_is (Becomes.suspended (of 7 is b a) on off refl)
@@ -298,7 +300,7 @@ module _ (m : Module) (s : SoundModule m) (e : EventT) (k : ℕ) (id : ℕ) (n :
         (λ _. off 27 g.0 refl)
     turned (LevelSet level holder) q al u h g none = Becomes.same (none refl) (alike_process p q al id)
     turned (Entered d) q al u h g none =
-        let w = with_mode 3 q in
+        let w = with_mode NormalMode q in
         to (ap (process id) (each_changed (entered d) q.process_count 1 w))
         (all_turn (entered d) (ids_from q.process_count 1) w (record { processes = al.processes; waiting = al.waiting }) u.lists (λ y t. let b = from_range q.process_count 1 y t in (b.0, omega arith)) (distinct_from q.process_count 1)
         (λ _. ⊎_elim

@@ -1,4 +1,5 @@
 -- Calls 26 to 29, on blackboards: functions of what the call sees (Context), of the request's fields and of the partition's own record.
+use Rattle.std.specs.Prelude.{is_some, unwrap_or}
 use Rattle.std.specs.Prelude.{ℕ, ◌+◌, Bool, true, not, List, [], ◌∷◌, take, leb}
 use Rattle.machine.specs.declared.Blackboard.{Blackboard as BlackboardT}
 use Rattle.machine.specs.declared.Partition.{Partition}
@@ -28,7 +29,7 @@ create_blackboard name p =
 
 -- blackboard k shows this message, or none
 abbrev pub showing : ℕ → ℕ → Partition → Change
-showing k m p = StoredBlackboard k (record { name = (blackboard k p).name; shown = true; message = m })
+showing k m p = StoredBlackboard k (record { name = (blackboard k p).name; message = Some m })
 
 abbrev pub cleared : ℕ → Partition → Change
 cleared k p = StoredBlackboard k (empty_blackboard (blackboard k p).name)
@@ -47,7 +48,7 @@ show k m p =
 unfoldable pub read_blackboard : Context → ℕ → Field → Partition → Decision
 read_blackboard c k a p =
     awaiting c ((unknown k p.blackboard_count, 3) ∷ []) true [] a
-    (blackboard k p).shown (Unchanged (blackboard k p).message (Some 0)) (Blackboard k) p
+    (is_some (blackboard k p).message) (Unchanged (unwrap_or (blackboard k p).message 0) (Some 0)) (Blackboard k) p
 
 -- 29 CLEAR id.
 unfoldable pub clear : ℕ → Partition → Decision

@@ -1,5 +1,6 @@
 -- Calls 1 to 13 and 32 to 34: functions of what the call sees (Context), of the request's fields and of the partition's own record. The checks
 -- stand in the order of documents 01 and 02, then what an accepted call does. Defined for every record.
+use Rattle.machine.specs.Mode.{mode_number, mode_numbered}
 use Rattle.std.specs.Prelude.{ℕ, ◌+◌, ◌-◌, ◌%◌, Bool, true, false, cond, not, ◌&&◌, ◌||◌, List, [], ◌∷◌, take, leb, ltb, eqb}
 use Rattle.machine.specs.declared.Process.{Process}
 use Rattle.machine.specs.declared.Partition.{Partition}
@@ -25,10 +26,10 @@ set_mode c a p =
     checked Refused
     ((not (between 0 mode_limit a), 3)
     ∷ (is_number 3 a && normal_mode p, 1)
-    ∷ (is_number 2 a && eqb p.mode 1, 5)
+    ∷ (is_number 2 a && eqb (mode_number p.mode) 1, 5)
     ∷ (is_number 3 a && eqb p.process_count 0, 5)
     ∷ [])
-    (cond (is_number 3 a) (changed (Entered c)) (Restarted (number_of a)))
+    (cond (is_number 3 a) (changed (Entered c)) (Restarted (mode_numbered (number_of a))))
 
 abbrev pub process_named : Field → List Process → Bool
 process_named name l = name_taken (λ (x : Process). x.given.name) name l

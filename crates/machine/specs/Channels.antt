@@ -1,5 +1,7 @@
 -- Channels: what a call sees of the channel that it names (Port), the sampling calls 21 and 22 and the queuing calls 30 and 31 as functions of it,
 -- and what a transfer and a restart make of the module.
+use Rattle.machine.specs.Decisions.{blank_message}
+use Rattle.std.specs.Prelude.{Option, is_none, unwrap_or}
 use Rattle.std.specs.Prelude.{ℕ, zero, suc, ◌+◌, ◌-◌, Bool, true, cond, not, ◌&&◌, List, [], ◌∷◌, map, set, take, leb, ltb, eqb}
 use Rattle.machine.specs.declared.Channel.{Channel}
 use Rattle.machine.specs.declared.Message.{Message}
@@ -36,7 +38,7 @@ abbrev pub queuing_at : Table → ℕ → Bool
 queuing_at T i = ltb i T.channel_count && queuing (channel T i)
 
 -- what is seen at partition k of a channel that holds x: the message at the destination alone
-abbrev pub seen_at : ℕ → Channel → Message → Message
+abbrev pub seen_at : ℕ → Channel → Option Message → Option Message
 seen_at k c x = cond (eqb c.destination k) x no_message
 
 -- at neither end
@@ -67,7 +69,7 @@ traffic_at m k i =
     cond (sees_traffic m.table k i) (traffic_of (queue m i) (other_queue k i c) (part m (other_end k c - 1))) no_traffic
 
 -- what partition k sees of the channel that a names, on which x lies, with this traffic
-abbrev pub port_at : Table → ℕ → Field → Message → Traffic → Port
+abbrev pub port_at : Table → ℕ → Field → Option Message → Traffic → Port
 port_at T k a x y =
     let i = number_of a - 1 in
     record { own = k; place = i; exists = between 1 T.channel_count a; channel = channel T i; message = seen_at k (channel T i) x; traffic = y }
@@ -90,7 +92,7 @@ unfoldable pub write : Context → Port → Field → Decision
 write c x a =
     checked Refused (channel_checks x (queuing x.channel) x.channel.source)
     (checked Refused ((not (is_duration a), 3) ∷ [])
-    (Written x.place (record { present = true; value = number_of a; written = c.time })))
+    (Written x.place (record { value = number_of a; written = c.time })))
 
 -- extra 1 if t − written ≤ refresh, else 0
 abbrev pub freshness : ℕ → Message → Channel → Time
@@ -100,8 +102,8 @@ freshness t x c = Some (cond (leb (t - x.written) c.refresh) 1 0)
 unfoldable pub read : Context → Port → Decision
 read c x =
     checked Refused (channel_checks x (queuing x.channel) x.channel.destination)
-    (checked Refused ((not x.message.present, 1) ∷ [])
-    (Unchanged x.message.value (freshness c.time x.message x.channel)))
+    (checked Refused ((is_none x.message, 1) ∷ [])
+    (let y = unwrap_or x.message blank_message in Unchanged y.value (freshness c.time y x.channel)))
 
 -- ---------------------------------------------------------------- queuing
 -- the channel that a call names is queuing. Bound: it is one that the record has a place for.
@@ -134,7 +136,7 @@ abbrev pub leads_into : ℕ → Channel → Bool
 leads_into k c = eqb c.destination k
 
 -- the messages without those on the first n channels into partition k
-unfoldable pub kept_to : Table → ℕ → ℕ → List Message → List Message
+unfoldable pub kept_to : Table → ℕ → ℕ → List (Option Message) → List (Option Message)
 kept_to T k zero l = l
 kept_to T k (suc n) l = cond (leads_into k (channel T n)) (set (kept_to T k n l) n no_message) (kept_to T k n l)
 

@@ -1,4 +1,5 @@
 -- What an event decides: replies, checks in the order written, and the checks that several calls share.
+use Rattle.std.specs.Prelude.{Option, None}
 use Rattle.std.specs.Prelude.{ℕ, Bool, false, cond, not, ◌&&◌, ◌||◌, List, [], ◌∷◌, ◌++◌, eqb, ltb}
 use Rattle.machine.specs.declared.Process.{Process}
 use Rattle.machine.specs.declared.Partition.{Partition}
@@ -34,8 +35,12 @@ abbrev pub code_of : List (Bool × ℕ) → ℕ
 code_of l = checked (λ n. n) l 0
 
 -- ---------------------------------------------------------------- decisions
-abbrev pub no_message : Message
-no_message = record { present = false; value = 0; written = 0 }
+abbrev pub no_message : Option Message
+no_message = None
+
+-- what stands for the message where there is none
+abbrev pub blank_message : Message
+blank_message = record { value = 0; written = 0 }
 
 -- the numbers of each decision
 abbrev pub reply_of : Decision → Reply

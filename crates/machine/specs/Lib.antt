@@ -1,6 +1,7 @@
 pub mod Limits
 pub mod Time
 pub mod Refusals
+pub mod Mode
 pub mod Fields
 pub mod Ids
 pub mod Messages

@@ -1,4 +1,6 @@
 -- The module: records with nothing in them, reading the record, and the only four ways to change it.
+use Rattle.machine.specs.declared.Mode.TheVariants.{Idle}
+use Rattle.std.specs.Prelude.{Option}
 use Rattle.std.specs.Prelude.{ℕ, ◌-◌, cond, List, [], get_or, set, replicate, eqb}
 use Rattle.machine.specs.declared.Partition.{Partition}
 use Rattle.machine.specs.Limits.{partition_limit, window_limit, channel_limit}
@@ -19,7 +21,7 @@ no_channel = record { source = 0; destination = 0; refresh = 0; size = 0 }
 -- what stands past the end of a list of partitions
 abbrev pub no_partition : Partition
 no_partition = record {
-  mode = 0;
+  mode = Idle;
   level = 0;
   holder = 0;
   processes = [];
@@ -62,7 +64,7 @@ channel T i = get_or T.channels i no_channel
 abbrev pub part : Module → ℕ → Partition
 part m i = get_or m.partitions i no_partition
 
-abbrev pub message : Module → ℕ → Message
+abbrev pub message : Module → ℕ → Option Message
 message m i = get_or m.messages i no_message
 
 abbrev pub queue : Module → ℕ → Queue
@@ -84,10 +86,10 @@ running_in k m = cond (eqb k 0) 0 (running (part m (k - 1)))
 abbrev pub with_part : ℕ → Partition → Module → Module
 with_part i p m = record { table = m.table; t = m.t; messages = m.messages; queues = m.queues; partitions = set m.partitions i p }
 
-abbrev pub with_messages : List Message → Module → Module
+abbrev pub with_messages : List (Option Message) → Module → Module
 with_messages l m = record { table = m.table; t = m.t; messages = l; queues = m.queues; partitions = m.partitions }
 
-abbrev pub with_message : ℕ → Message → Module → Module
+abbrev pub with_message : ℕ → Option Message → Module → Module
 with_message i x m = with_messages (set m.messages i x) m
 
 abbrev pub with_queue : ℕ → Queue → Module → Module

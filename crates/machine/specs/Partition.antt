@@ -1,4 +1,8 @@
 -- A partition: its two lists follow the records of its processes.
+use Rattle.machine.specs.Mode.{mode_number, mode_numbered}
+use Rattle.machine.specs.declared.Mode.TheVariants.{Normal as NormalMode}
+use Rattle.machine.specs.declared.Mode.{Mode}
+use Rattle.std.specs.Prelude.{None}
 use Rattle.std.specs.Prelude.{ℕ, zero, suc, ◌+◌, ◌-◌, max, Bool, false, cond, ◌&&◌, ◌||◌, List, [], ◌∷◌, get_or, set, replicate, leb, ltb, eqb}
 use Rattle.machine.specs.declared.Ids.{Ids}
 use Rattle.machine.specs.declared.Process.{Process}
@@ -22,10 +26,10 @@ use Rattle.machine.specs.Process.{blank_process, ready, object, on_object, ticke
 
 -- IDLE 0, COLD_START 1, WARM_START 2, NORMAL 3
 abbrev pub idle_mode : Partition → Bool
-idle_mode p = eqb p.mode 0
+idle_mode p = eqb (mode_number p.mode) 0
 
 abbrev pub normal_mode : Partition → Bool
-normal_mode p = eqb p.mode 3
+normal_mode p = eqb (mode_number p.mode) 3
 
 -- the preemption lock is held: its level is above 0
 abbrev pub locked : ℕ → Bool
@@ -42,7 +46,7 @@ abbrev pub empty_buffer : ℕ → ℕ → Buffer
 empty_buffer name limit = record { name = name; limit = limit; queue = no_queue }
 
 abbrev pub empty_blackboard : ℕ → BlackboardT
-empty_blackboard name = record { name = name; shown = false; message = 0 }
+empty_blackboard name = record { name = name; message = None }
 
 abbrev pub no_buffer : Buffer
 no_buffer = empty_buffer 0 0
@@ -53,7 +57,7 @@ no_blackboard = empty_blackboard 0
 -- a partition in this mode with nothing created, and nothing locked
 abbrev pub nothing_created : ℕ → Partition
 nothing_created mode = record {
-  mode = mode;
+  mode = mode_numbered mode;
   level = 0;
   holder = 0;
   processes = replicate process_limit blank_process;
@@ -97,7 +101,7 @@ abbrev pub blackboard : ℕ → Partition → BlackboardT
 blackboard k p = by_id blackboard_limit no_blackboard k p.blackboards
 
 -- this mode, and the preemption lock with this level and this holder
-abbrev pub with_mode_and_lock : ℕ → ℕ → ℕ → Partition → Partition
+abbrev pub with_mode_and_lock : Mode → ℕ → ℕ → Partition → Partition
 with_mode_and_lock mode level holder p = record {
   mode = mode;
   level = level;
@@ -117,7 +121,7 @@ with_mode_and_lock mode level holder p = record {
 }
 
 -- mode set; a mode change brings the level to 0
-abbrev pub with_mode : ℕ → Partition → Partition
+abbrev pub with_mode : Mode → Partition → Partition
 with_mode mode p = with_mode_and_lock mode 0 0 p
 
 abbrev pub with_lock : ℕ → ℕ → Partition → Partition
@@ -310,7 +314,7 @@ tick_partition t p = cond (normal_mode p) (each (ticked t) p) p
 
 -- Mode 3: mode set; every process waiting for NORMAL, by id, takes the start rule with its delay
 unfoldable pub entered_normal : Context → Partition → Partition
-entered_normal c p = each (entered c) (with_mode 3 p)
+entered_normal c p = each (entered c) (with_mode NormalMode p)
 
 -- what each change does
 abbrev pub applied : Change → Partition → Partition
@@ -335,7 +339,7 @@ partition_after (Unchanged value extra) p = p
 partition_after Ticked p = p
 partition_after (Blocked id x) p = stored id x p
 partition_after (Changed a b value) p = applied b (applied a p)
-partition_after (Restarted mode) p = nothing_created mode
+partition_after (Restarted mode) p = nothing_created (mode_number mode)
 partition_after (Written i x) p = p
 partition_after (Passed i a value) p = p
 

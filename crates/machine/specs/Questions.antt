@@ -1,4 +1,7 @@
 -- What the code asks of a decision, for the contracts of `decisions`. The machine asks none of it.
+use Rattle.machine.specs.declared.Mode.TheVariants.{Idle}
+use Rattle.machine.specs.declared.Mode.{Mode}
+use Rattle.std.specs.Prelude.{Option, Some}
 use Rattle.std.specs.Prelude.{ℕ, Bool, true, false}
 use Rattle.machine.specs.declared.Change.{Change}
 use Rattle.machine.specs.declared.Change.TheVariants.{Nothing, Stored}
@@ -33,15 +36,15 @@ restarts (Written i x) = false
 restarts (Passed i a value) = false
 
 -- the mode then
-abbrev pub mode_of : Decision → ℕ
-mode_of (Refused code) = 0
-mode_of (Unchanged value extra) = 0
-mode_of Ticked = 0
-mode_of (Blocked id x) = 0
-mode_of (Changed a b value) = 0
+abbrev pub mode_of : Decision → Mode
+mode_of (Refused code) = Idle
+mode_of (Unchanged value extra) = Idle
+mode_of Ticked = Idle
+mode_of (Blocked id x) = Idle
+mode_of (Changed a b value) = Idle
 mode_of (Restarted mode) = mode
-mode_of (Written i x) = 0
-mode_of (Passed i a value) = 0
+mode_of (Written i x) = Idle
+mode_of (Passed i a value) = Idle
 
 -- the two changes that it makes otherwise, in order
 abbrev pub first_change : Decision → Change
@@ -76,14 +79,14 @@ message_at (Written i x) = i
 message_at (Passed i a value) = channel_limit
 
 -- the message that it leaves there
-abbrev pub message_of : Decision → Message
+abbrev pub message_of : Decision → Option Message
 message_of (Refused code) = no_message
 message_of (Unchanged value extra) = no_message
 message_of Ticked = no_message
 message_of (Blocked id x) = no_message
 message_of (Changed a b value) = no_message
 message_of (Restarted mode) = no_message
-message_of (Written i x) = x
+message_of (Written i x) = Some x
 message_of (Passed i a value) = no_message
 
 -- the place of the channel on which it makes a transfer; past the last for none

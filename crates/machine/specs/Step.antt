@@ -1,4 +1,5 @@
 -- An event: what it decides, what the decision makes of the module, and the answer.
+use Rattle.std.specs.Prelude.{Some}
 use Rattle.std.specs.Prelude.{ℕ, ◌-◌, Bool, cond, ◌||◌}
 use Rattle.machine.specs.declared.Module.{Module}
 use Rattle.machine.specs.declared.Partition.{Partition}
@@ -47,7 +48,7 @@ module_after m k Ticked = tick_module m
 module_after m k (Blocked id x) = with_part (k - 1) (partition_after (Blocked id x) (part m (k - 1))) m
 module_after m k (Changed a b value) = with_part (k - 1) (partition_after (Changed a b value) (part m (k - 1))) m
 module_after m k (Restarted mode) = restarted k (partition_after (Restarted mode) (part m (k - 1))) m
-module_after m k (Written i x) = with_message i x m
+module_after m k (Written i x) = with_message i (Some x) m
 module_after m k (Passed i a value) = passed k i a m
 
 -- The last reads 0 where the event's partition is neither 0 nor current, whichever code it gets.

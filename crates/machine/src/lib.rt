@@ -1,12 +1,17 @@
 // The record of the executive, by value, and every limit, named once with the module.
 #![tactic(auto)]
 
-ghost use Rattle.std.specs.Prelude.{◌≡◌};
+ghost use Rattle.std.specs.Prelude.{◌≡◌, eqb, replicate};
+ghost use Rattle.machine.specs.Mode.{mode_number, mode_numbered};
 ghost use Rattle.machine.specs.Refusals.{code};
+ghost use Rattle.machine.specs.Limits.{channel_limit, partition_limit};
 ghost use Rattle.machine.specs.Messages.{no_queue};
+ghost use Rattle.machine.specs.Decisions.{no_message};
 ghost use Rattle.machine.specs.Process.{blank_process};
 ghost use Rattle.machine.specs.Partition.{no_buffer, fresh_partition, empty_partition};
 ghost use Rattle.machine.specs.Module.{empty_table, fresh_module, empty_module};
+
+mod conversions;
 
 // A time in ticks; −1 of document 01, which is never, is None.
 pub type Time = Option<u32>;
@@ -95,19 +100,63 @@ pub struct Buffer {
     pub queue: Queue,
 }
 
-// The message is 0 where none is shown.
 #[derive(Clone, Copy)]
 pub struct Blackboard {
     pub name: u16,
-    pub shown: bool,
-    pub message: u32,
+    pub message: Option<u32>,
+}
+
+// The mode of a partition: IDLE 0, COLD_START 1, WARM_START 2, NORMAL 3.
+#[derive(Clone, Copy, Debug, PartialEq, Eq)]
+pub enum Mode {
+    Idle,
+    ColdStart,
+    WarmStart,
+    Normal,
+}
+
+impl Mode {
+    pub fn number(self) -> u8
+        ensures { result ≡ mode_number self }
+    {
+        match self {
+            Mode::Idle => 0,
+            Mode::ColdStart => 1,
+            Mode::WarmStart => 2,
+            Mode::Normal => 3,
+        }
+    }
+
+    pub fn is_idle(self) -> bool
+        ensures { result ≡ eqb (mode_number self) 0 }
+    {
+        self == Mode::Idle
+    }
+
+    pub fn is_normal(self) -> bool
+        ensures { result ≡ eqb (mode_number self) 3 }
+    {
+        self == Mode::Normal
+    }
+
+    // NORMAL for every number past those of the others.
+    pub fn numbered(n: u32) -> Mode
+        ensures { result ≡ mode_numbered n }
+    {
+        match n {
+            0 => Mode::Idle,
+            1 => Mode::ColdStart,
+            2 => Mode::WarmStart,
+            _ => Mode::Normal,
+        }
+    }
 }
 
 // level: that of the preemption lock; holder: the process that raised it from 0, 0 at level 0. arrival: the READY processes. waiting: those
 // that wait on an object, in the order in which they began; the queue of an object is the part of it that waits for this object.
 #[derive(Clone, Copy)]
 pub struct Partition {
-    pub mode: u8,
+    pub mode: Mode,
     pub level: u8,
     pub holder: u8,
     pub processes: [Process; Module::PROCESSES],
@@ -152,10 +201,9 @@ pub struct Table {
     pub channel_count: u8,
 }
 
-// What a sampling channel holds.
+// The message on a sampling channel, and when it was written.
 #[derive(Clone, Copy)]
 pub struct Message {
-    pub present: bool,
     pub value: u32,
     pub written: u32,
 }
@@ -164,7 +212,7 @@ pub struct Message {
 pub struct Module {
     pub table: Table,
     pub t: u32,
-    pub messages: [Message; Module::CHANNELS],
+    pub messages: [Option<Message>; Module::CHANNELS],
     pub queues: [Queue; Module::CHANNELS],
     pub partitions: [Partition; Module::PARTITIONS],
 }
@@ -326,7 +374,7 @@ pub struct Port {
     pub place: u32,
     pub exists: bool,
     pub channel: Channel,
-    pub message: Message,
+    pub message: Option<Message>,
     pub traffic: Traffic,
 }
 
@@ -369,7 +417,7 @@ pub enum Decision {
     Ticked,
     Blocked(u8, Process),
     Changed(Change, Change, u32),
-    Restarted(u8),
+    Restarted(Mode),
     Written(u32, Message),
     Passed(u32, Transfer, u32),
 }
@@ -459,46 +507,37 @@ impl Module {
     // No limit of document 01: the greatest semaphore value that the record holds.
     pub const GREATEST: u16 = 65535;
     // The record that reading an accepted table gives.
+    #[tactic(auto, unfolding(crate::specs::Module::fresh_module))]
     pub fn fresh(table: Table) -> Module
         ensures { result ≡ fresh_module table }
     {
-        let p = Partition::fresh();
-        let q = Queue::empty();
-        Module {
-            table,
-            t: 0,
-            messages: [Message {
-                present: false,
-                value: 0,
-                written: 0,
-            }; Module::CHANNELS],
-            queues: [q; Module::CHANNELS],
-            partitions: [p; Module::PARTITIONS],
-        }
+        Module::of_alike(table, Partition::fresh())
     }
 
     // The record that a refused table leaves: M, P and all else 0.
+    #[tactic(auto, unfolding(crate::specs::Module::empty_module))]
     pub fn empty() -> Module
         ensures { result ≡ empty_module }
     {
-        let t = Table::empty();
-        let p = Partition::empty();
-        let q = Queue::empty();
+        Module::of_alike(Table::empty(), Partition::empty())
+    }
+
+    // At time 0, with this partition at every place and nothing on a channel.
+    fn of_alike(table: Table, partition: Partition) -> Module
+        ensures { result ≡ record { table = table; t = 0; messages = replicate channel_limit no_message; queues = replicate channel_limit no_queue; partitions = replicate partition_limit partition } }
+    {
         Module {
-            table: t,
+            table,
             t: 0,
-            messages: [Message {
-                present: false,
-                value: 0,
-                written: 0,
-            }; Module::CHANNELS],
-            queues: [q; Module::CHANNELS],
-            partitions: [p; Module::PARTITIONS],
+            messages: [None; Module::CHANNELS],
+            queues: [Queue::empty(); Module::CHANNELS],
+            partitions: [partition; Module::PARTITIONS],
         }
     }
 }
 
 impl Table {
+    #[tactic(auto, unfolding(crate::specs::Module::empty_table))]
     pub fn empty() -> Table
         ensures { result ≡ empty_table }
     {
@@ -566,26 +605,24 @@ impl Buffer {
     pub fn blank() -> Buffer
         ensures { result ≡ no_buffer }
     {
-        let queue = Queue::empty();
         Buffer {
             name: 0,
             limit: 0,
-            queue,
+            queue: Queue::empty(),
         }
     }
 }
 
 impl Partition {
+    #[tactic(auto, unfolding(crate::specs::Partition::empty_partition))]
     pub fn empty() -> Partition
         ensures { result ≡ empty_partition }
     {
-        let x = Process::blank();
-        let b = Buffer::blank();
         Partition {
-            mode: 0,
+            mode: Mode::Idle,
             level: 0,
             holder: 0,
-            processes: [x; Module::PROCESSES],
+            processes: [Process::blank(); Module::PROCESSES],
             process_count: 0,
             semaphores: [Semaphore {
                 name: 0,
@@ -595,12 +632,11 @@ impl Partition {
             semaphore_count: 0,
             events: [EventState { name: 0, up: false }; Module::EVENTS],
             event_count: 0,
-            buffers: [b; Module::BUFFERS],
+            buffers: [Buffer::blank(); Module::BUFFERS],
             buffer_count: 0,
             blackboards: [Blackboard {
                 name: 0,
-                shown: false,
-                message: 0,
+                message: None,
             }; Module::BLACKBOARDS],
             blackboard_count: 0,
             arrival: Ids {
@@ -615,10 +651,13 @@ impl Partition {
     }
 
     // A partition in COLD_START in which nothing has been created.
+    #[tactic(auto, unfolding(crate::specs::Partition::fresh_partition, crate::specs::Partition::empty_partition))]
     pub fn fresh() -> Partition
         ensures { result ≡ fresh_partition }
     {
-        let p = Partition::empty();
-        Partition { mode: 1, ..p }
+        Partition {
+            mode: Mode::ColdStart,
+            ..Partition::empty()
+        }
     }
 }

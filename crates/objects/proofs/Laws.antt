@@ -1,18 +1,7 @@
--- What the checks of the calls on semaphores and events settle. Assumes nothing.
-use Prim.Native.Nat.{ℕ, ◌≤◌}
+-- The first who waits for an object. Assumes nothing.
+use Prim.Native.Nat.{ℕ}
 use mathlib.Core.Path.{◌≡◌, refl, sym, ap, ◌∙◌}
-use mathlib.Core.Bool.{Bool, true, false, cond, ◌&&◌, true≢false}
-use native.Mathlib.Omega.{arith}
-use lib.Dec.{leb}
-use borrow.Author.Tests.{le-leb}
-use Rattle.machine.specs.declared.Field.{Field}
-use Rattle.machine.specs.declared.Request.{Request}
-use Rattle.machine.specs.Limits.{name_limit, value_limit}
-use Rattle.machine.specs.Fields.{is_name, between, number_of}
-use Rattle.machine.specs.Decisions.{unknown}
-use Rattle.machine.proofs.Tests.{and_left, and_right}
-use Rattle.machine.proofs.Bounds.{known_id}
-use Rattle.machine.proofs.Fields.{in_limits}
+use mathlib.Core.Bool.{Bool, false, true≢false}
 use mathlib.Core.List.{List, [], ◌∷◌}
 use lib.ListN.{get_or}
 use borrow.Author.Tests.{ne_eqb}
@@ -26,27 +15,6 @@ use Rattle.machine.specs.Objects.{with_value, one_more, signalled}
 use Rattle.machine.proofs.Bounds.{named_out}
 use Rattle.machine.proofs.Either.{either}
 
-pub named_low : (f : Field) → is_name f ≡ true → number_of f ≤ name_limit
-named_low f h = (in_limits 1 name_limit f h).1
-
--- what CREATE_SEMAPHORE admits fits the record
-pub record Admitted (r : Request) : Type 0 where
-  pub name : number_of r.a ≤ name_limit
-  pub start : number_of r.b ≤ value_limit
-  pub max : number_of r.c ≤ value_limit
-
-pub admitted : (r : Request) → (is_name r.a && (between 1 value_limit r.c && between 0 (number_of r.c) r.b)) ≡ true → Admitted r
-admitted r h =
-    let k = and_right (is_name r.a) _ h in
-    let m = in_limits 1 value_limit r.c (and_left (between 1 value_limit r.c) _ k) in
-    let s = in_limits 0 (number_of r.c) r.b (and_right (between 1 value_limit r.c) _ k) in
-    record { name = named_low r.a (and_left (is_name r.a) _ h); start = omega arith; max = m.1 }
-
--- the id of an object that exists
-pub short_known : (k n count : ℕ) → n ≡ cond (leb k 255) k 0 → count ≤ 255 → unknown k count ≡ false → n ≡ k
-short_known k n count e low h = let r = known_id k count h in rw (le-leb k 255 (omega arith)) at e
-
--- ---------------------------------------------------------------- the first who waits
 -- none of a list of which f says true, where the first would be 0, of which it says false
 kept_first : (f : ℕ → Bool) (l : List ℕ) → get_or (kept f l) 0 0 ≡ 0 → f 0 ≡ false → kept f l ≡ []
 unfolding kept

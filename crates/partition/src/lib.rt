@@ -5,6 +5,7 @@ ghost use Rattle.std.specs.Prelude.{◌≡◌, ◌≤◌, max, cond, ◌||◌, m
 ghost use Rattle.partition.specs.Places.{slot_of, in_byte};
 ghost use Rattle.partition.specs.Soonest.{sooner, soonest_of};
 ghost use Rattle.partition.specs.Waits.{served_with, ended_id, ended_as};
+ghost use Rattle.machine.specs.Mode.{mode_number};
 ghost use Rattle.machine.specs.Limits.{process_limit};
 ghost use Rattle.machine.specs.Ids.{members, ids_of, appended, removed, follow};
 ghost use Rattle.machine.specs.Messages.{queue_of};
@@ -13,7 +14,7 @@ ghost use Rattle.machine.specs.Process.{carried, due, ready, on_object, ticked, 
 ghost use Rattle.machine.specs.Partition.{by_id, process, stored, arrived_last, preferred, running, waiters, first_waiter, changed_all, tick_partition, entered_normal, nothing_created, stored_event, stored_buffer, empty_buffer, created, ended_by, applied, partition_after};
 
 use machine::{
-    Buffer, Choice, Context, EventState, Ids, Module, Partition, Process, Queue, Time, Transfer,
+    Buffer, Choice, Context, EventState, Ids, Mode, Module, Partition, Process, Queue, Time, Transfer,
 };
 
 fn wide(id: u8) -> u32
@@ -143,7 +144,7 @@ pub fn or_later(c: Choice, id: u8, priority: u8) -> Choice
 pub fn running_process(p: Partition) -> u8
     ensures { result ≡ running p }
 {
-    if p.mode != 3 {
+    if !p.mode.is_normal() {
         return 0;
     }
     if 0 < p.level {
@@ -458,7 +459,7 @@ fn is_touched(x: Process, t: u32) -> bool
 pub fn ticked(p: Partition, t: u32) -> Partition
     ensures { result ≡ tick_partition t p }
 {
-    if p.mode != 3 {
+    if !p.mode.is_normal() {
         return p;
     }
     let n = wide(p.process_count);
@@ -491,7 +492,7 @@ pub fn enter_normal(p: Partition, c: Context) -> Partition
 {
     let n = wide(p.process_count);
     let mut q = p;
-    q.mode = 3;
+    q.mode = Mode::Normal;
     q.level = 0;
     q.holder = 0;
     let mut id: u32 = 0;
@@ -503,8 +504,9 @@ pub fn enter_normal(p: Partition, c: Context) -> Partition
 }
 
 // A partition in this mode with nothing created.
-pub fn nothing_created(mode: u8) -> Partition
-    ensures { result ≡ nothing_created mode }
+#[tactic(auto, unfolding(machine::specs::Partition::empty_partition))]
+pub fn nothing_created(mode: Mode) -> Partition
+    ensures { result ≡ nothing_created (mode_number mode) }
 {
     let p = Partition::empty();
     Partition { mode, ..p }

@@ -31,7 +31,6 @@ use Rattle.machine.proofs.Tests.{codes_in, Passed, and_left, and_right}
 use Rattle.machine.proofs.Bounds.{within_out}
 use Rattle.machine.proofs.Either.{either}
 use Rattle.machine.proofs.Reached.{refilled_table}
-use Rattle.decisions.proofs.Laws.{by_code}
 use Rattle.queuing.specs.Ports.{number_at}
 
 -- ---------------------------------------------------------------- places
@@ -63,38 +62,6 @@ none_at_zero T i = either (queuing_at T i)
     let d = within_out partition_limit (channel T i).destination (and_right (within partition_limit (channel T i).source) _ g) in
     rw (e, ne_eqb (channel T i).source 0 (λ z. omega (arith, s.0)), ne_eqb (channel T i).destination 0 (λ z. omega (arith, d.0))))
     (λ e. rw e)
-
--- ---------------------------------------------------------------- checks
--- the code of two lists of checks, one after the other
-codes_joined : (l k : List (Bool × ℕ)) (n : ℕ) → n ≡ code_of l → codes_in (leb 1) l ≡ true → cond (eqb n 0) (code_of k) n ≡ code_of (l ++ k)
-unfolding checked
-codes_joined [] k n e some = rw e
-codes_joined ((true, code) ∷ l) k n e some = let low = leb-true 1 code (and_left (leb 1 code) _ some) in rw (e, ne_eqb code 0 (λ z. omega arith))
-codes_joined ((false, code) ∷ l) k n e some = codes_joined l k n e (and_right (leb 1 code) _ some)
-
--- what a call at the end wanted decides: ends is the code of the checks on the channel, n that of all, number the channel's
-module _ (c : Context) (x : Port) (a : Field) (p : Partition) (ends n number : ℕ) (t : Transfer) (named : number ≡ number_at x.place) where
-  abbrev kind_checks : ℕ → List (Bool × ℕ)
-  kind_checks wanted = channel_checks x (not (queuing_port x)) wanted
-
-  decided : (wanted : ℕ) (admitted : Bool) (d y : Decision) → ends ≡ code_of (kind_checks wanted) → n ≡ cond (eqb ends 0) (code_of (wait_checks [] (start_mode p) admitted [])) ends
-      → (number ≡ x.place + 1 → d ≡ y) → cond (eqb n 0) d (Refused n) ≡ checked Refused (wait_checks (kind_checks wanted) (start_mode p) admitted []) y
-  unfolding channel_checks Passed
-  decided wanted admitted d y e en h =
-      by_code _ n d y (en ∙ codes_joined (kind_checks wanted) (wait_checks [] (start_mode p) admitted []) ends e refl) refl
-      (λ passed. h (numbered x.place number named (ltb-true x.place channel_limit (and_right (queuing x.channel) _ (not-false _ passed.1.0)))))
-
-  pub sends : (m : Field) → ends ≡ code_of (kind_checks x.channel.source) → n ≡ cond (eqb ends 0) (code_of (wait_checks [] (start_mode p) (is_message m && is_timeout a) [])) ends
-      → t ≡ sent x.traffic.waiter (number_of m)
-      → cond (eqb n 0) (cond (ltb x.traffic.len x.channel.size) (PassedOn x.place t 0) (queued c a (Source number (number_of m)) p)) (Refused n) ≡ send c x m a p
-  unfolding send awaiting
-  sends m e en et = decided x.channel.source (is_message m && is_timeout a) _ _ e en (λ z. rw (et, z))
-
-  pub receives : ends ≡ code_of (kind_checks x.channel.destination) → n ≡ cond (eqb ends 0) (code_of (wait_checks [] (start_mode p) (is_timeout a) [])) ends
-      → t ≡ received x.traffic.waiter x.traffic.carried
-      → cond (eqb n 0) (cond (ltb 0 x.traffic.len) (PassedOn x.place t x.traffic.first) (queued c a (Destination number) p)) (Refused n) ≡ receive c x a p
-  unfolding receive awaiting
-  receives e en et = decided x.channel.destination (is_timeout a) _ _ e en (λ z. rw (et, z))
 
 -- ---------------------------------------------------------------- restarts
 pub refilled_none : (k : ℕ) (m : Module) → m ≡ refilled_to k 0 m

@@ -1,20 +1,18 @@
 // Queuing channels: what a call sees of their traffic, calls 30 and 31, and queues that a restart fills anew.
 #![tactic(auto)]
 
-ghost use Rattle.std.specs.Prelude.{◌≡◌, ℕ, ◌-◌, cond, ◌&&◌, [], eqb, ltb};
+ghost use Rattle.std.specs.Prelude.{◌≡◌, ℕ, ◌-◌, cond, ◌&&◌, ltb};
 ghost use Rattle.machine.specs.Limits.{partition_limit, channel_limit};
 ghost use Rattle.machine.specs.Messages.{ends_wait};
-ghost use Rattle.machine.specs.Decisions.{code_of, wait_checks};
 ghost use Rattle.machine.specs.Module.{channel};
 ghost use Rattle.machine.specs.Channels.{queuing_at, sees_traffic, other_end, other_queue, no_traffic, traffic_of, queuing_port, send, receive, leads_into, refilled_at, refilled_to};
 ghost use Rattle.machine.specs.declared.Table.{Table as TableT};
 ghost use Rattle.queuing.specs.Ports.{number_at};
-ghost use Rattle.machine.specs.declared.Partition.{Partition as PartitionT};
-ghost use Rattle.decisions.specs.Views.{Shows};
+ghost use Rattle.decisions.specs.Views.{Follows};
 
 use decisions::View;
 use machine::{
-    Channel, Context, Decision, Field, Module, Partition, Port, Queue, Table, Traffic, Transfer,
+    Channel, Decision, Field, Module, Partition, Port, Queue, Refusal, Table, Traffic, Transfer,
     Wait,
 };
 
@@ -23,50 +21,31 @@ use machine::{
 fn is_queuing_at(table: Table, i: usize) -> bool
     ensures { result ≡ queuing_at table i }
 {
-    if table.channel_count as usize <= i {
-        return false;
-    }
-    channels::is_queuing(channels::channel_at(table, i))
+    i < table.channel_count as usize && channels::is_queuing(channels::channel_at(table, i))
 }
 
 // Whether partition k sees the traffic of the channel at this place, which is this one of so many.
 fn sees_traffic(count: u8, c: Channel, k: u32, place: usize) -> bool
     ensures { (T : TableT) → T.channel_count ≡ count → c ≡ channel T place → result ≡ sees_traffic T k place }
 {
-    if count as usize <= place {
-        return false;
-    }
-    if channels::is_queuing(c) {
-        return !channels::is_apart(c, k);
-    }
-    false
+    place < count as usize && channels::is_queuing(c) && !channels::is_apart(c, k)
 }
 
 fn other_end(c: Channel, k: u32) -> u8
     ensures { result ≡ other_end k c }
 {
     if c.source as u32 == k {
-        return c.destination;
+        c.destination
+    } else {
+        c.source
     }
-    c.source
 }
 
 // Where the partition at the other end of a channel lies.
 fn end_slot(c: Channel, k: u32) -> usize
     ensures { result ≡ other_end k c - 1 }
 {
-    let n = other_end(c, k);
-    if n == 0 {
-        return 0;
-    }
-    (n - 1) as usize
-}
-
-// Where the partition at the other end of the channel at this place lies.
-fn other_slot(table: Table, k: u32, place: usize) -> usize
-    ensures { result ≡ other_end k (channel table place) - 1 }
-{
-    end_slot(channels::channel_at(table, place), k)
+    usize::from(other_end(c, k)).saturating_sub(1)
 }
 
 // Where the partition at the other end lies, if partition k sees the traffic of the channel at this place, which is this one of so many;
@@ -74,13 +53,11 @@ fn other_slot(table: Table, k: u32, place: usize) -> usize
 pub fn seen_slot(count: u8, c: Channel, k: u32, place: usize) -> usize
     ensures { (T : TableT) → T.channel_count ≡ count → c ≡ channel T place → result ≡ cond (sees_traffic T k place) (other_end k (channel T place) - 1) partition_limit }
 {
-    if k == 0 {
-        return Module::PARTITIONS;
+    if k != 0 && sees_traffic(count, c, k, place) {
+        end_slot(c, k)
+    } else {
+        Module::PARTITIONS
     }
-    if sees_traffic(count, c, k, place) {
-        return end_slot(c, k);
-    }
-    Module::PARTITIONS
 }
 
 // Where it lies, if this transfer of partition k ends a wait there; past the last if not.
@@ -88,9 +65,10 @@ pub fn ended_slot(table: Table, k: u32, place: usize, a: Transfer) -> usize
     ensures { result ≡ cond (ends_wait a) (other_end k (channel table place) - 1) partition_limit }
 {
     if messages::ends_wait(a) {
-        return other_slot(table, k, place);
+        end_slot(channels::channel_at(table, place), k)
+    } else {
+        Module::PARTITIONS
     }
-    Module::PARTITIONS
 }
 
 // The number of the channel at this place; 0 past the last.
@@ -98,9 +76,10 @@ fn number_at(place: usize) -> u8
     ensures { result ≡ number_at place }
 {
     if place < Module::CHANNELS {
-        return (place + 1) as u8;
+        place as u8 + 1
+    } else {
+        0
     }
-    0
 }
 
 // The object that those wait for who wait there, where this is the channel at the place; 0 past the last channel.
@@ -111,10 +90,11 @@ pub fn other_object(c: Channel, k: u32, place: usize) -> u16
         return 0;
     }
     let n = number_at(place);
-    if c.source as u32 == k {
-        return process::object_of(Wait::Destination(n));
-    }
-    process::object_of(Wait::Source(n, 0))
+    process::object_of(if c.source as u32 == k {
+        Wait::Destination(n)
+    } else {
+        Wait::Source(n, 0)
+    })
 }
 
 pub fn no_traffic() -> Traffic
@@ -147,51 +127,35 @@ pub fn traffic_of(q: Queue, object: u16, other: Partition) -> Traffic
 fn is_queuing_port(x: Port) -> bool
     ensures { result ≡ queuing_port x }
 {
-    if channels::is_queuing(x.channel) {
-        return (x.place as usize) < Module::CHANNELS;
-    }
-    false
-}
-
-// The code of the checks of a wait, by that of the checks before them.
-fn code_after(before: u8, start: bool, admitted: bool) -> u8
-    ensures { result ≡ cond (eqb before 0) (code_of (wait_checks [] start admitted [])) before }
-{
-    if before != 0 {
-        return before;
-    }
-    decisions::wait_code(false, start, admitted)
+    channels::is_queuing(x.channel) && (x.place as usize) < Module::CHANNELS
 }
 
 // 30 SEND
-pub fn send_channel(v: View, c: Context, x: Port, m: Field, a: Field) -> Decision
-    ensures { (p : PartitionT) (id : ℕ) → Shows v c id p → result ≡ send c x m a p }
+#[tactic(auto, unfolding(machine::specs::Decisions::checked, machine::specs::Decisions::awaiting, machine::specs::Channels::channel_checks, machine::specs::Channels::send))]
+pub fn send_channel(v: View, x: Port, m: Field, a: Field) -> Result<Decision, Refusal>
+    ensures { (id : ℕ) → Follows v id result (send v.context x m a) }
 {
-    let channel = x.channel;
-    let traffic = x.traffic;
-    let ends = channels::end_code(x, !is_queuing_port(x), channel.source);
-    let code = code_after(ends, v.mode != 3, objects::is_sending_admitted(m, a));
+    channels::check_end(x, !is_queuing_port(x), x.channel.source)?;
     let n = fields::number_of(m);
-    let success = Decision::Passed(x.place, messages::sent_to(traffic.waiter, n), 0);
+    let success = Decision::Passed(x.place, messages::sent_to(x.traffic.waiter, n), 0);
+    let has_room = x.traffic.len < x.channel.size;
     let wait = Wait::Source(number_at(x.place as usize), n);
-    objects::awaited(v, c, code, a, traffic.len < channel.size, success, wait)
+    objects::awaited(v, fields::is_message(m), a, has_room, success, wait)
 }
 
 // 31 RECEIVE
-pub fn receive_channel(v: View, c: Context, x: Port, a: Field) -> Decision
-    ensures { (p : PartitionT) (id : ℕ) → Shows v c id p → result ≡ receive c x a p }
+#[tactic(auto, unfolding(machine::specs::Decisions::checked, machine::specs::Decisions::awaiting, machine::specs::Channels::channel_checks, machine::specs::Channels::receive))]
+pub fn receive_channel(v: View, x: Port, a: Field) -> Result<Decision, Refusal>
+    ensures { (id : ℕ) → Follows v id result (receive v.context x a) }
 {
-    let channel = x.channel;
-    let traffic = x.traffic;
-    let ends = channels::end_code(x, !is_queuing_port(x), channel.destination);
-    let code = code_after(ends, v.mode != 3, fields::is_timeout(a));
+    channels::check_end(x, !is_queuing_port(x), x.channel.destination)?;
     let success = Decision::Passed(
         x.place,
-        messages::received_from(traffic.waiter, traffic.carried),
-        traffic.first,
+        messages::received_from(x.traffic.waiter, x.traffic.carried),
+        x.traffic.first,
     );
     let wait = Wait::Destination(number_at(x.place as usize));
-    objects::awaited(v, c, code, a, 0 < traffic.len, success, wait)
+    objects::awaited(v, true, a, 0 < x.traffic.len, success, wait)
 }
 
 // ---------------------------------------------------------------- restarts
@@ -199,11 +163,7 @@ pub fn receive_channel(v: View, c: Context, x: Port, a: Field) -> Decision
 fn is_refilled(table: Table, k: u32, i: usize) -> bool
     ensures { result ≡ queuing_at table i && leads_into k (channel table i) }
 {
-    if is_queuing_at(table, i) {
-        let c = channels::channel_at(table, i);
-        return c.destination as u32 == k;
-    }
-    false
+    is_queuing_at(table, i) && channels::channel_at(table, i).destination as u32 == k
 }
 
 // The queuing channel at this place holds the messages of its first waiting senders, whose waits end.
@@ -227,17 +187,15 @@ fn refill_at(m: Module, i: usize) -> Module
 }
 
 // The queues into partition k filled anew, channels by ascending number.
+#[tactic(auto, using(crate::proofs::Laws::refilled_none, crate::proofs::Laws::refilled_here, crate::proofs::Laws::refilled_past))]
 pub fn refill(m: Module, k: u32) -> Module
     ensures { result ≡ refilled_to k channel_limit m }
 {
-    let table = m.table;
     let mut r = m;
-    let mut i: usize = 0;
-    while i < Module::CHANNELS {
-        if is_refilled(table, k, i) {
+    for i in 0..Module::CHANNELS {
+        if is_refilled(m.table, k, i) {
             r = refill_at(r, i);
         }
-        i = i + 1;
     }
     r
 }

@@ -1,6 +1,10 @@
 -- What every event answers before its body, and what each call does, as claims about `step`: its checks in the order written, then the answer and the
 -- whole record after it. The premises speak of the event's numbers and of the record in which the call comes to its body. Each call stands here once,
 -- in the order of the documents; what the claims share with the machine's definitions is said in `Terms`.
+use Rattle.machine.specs.Mode.{mode_number}
+use Rattle.machine.specs.declared.Mode.TheVariants.{Normal as NormalMode}
+use Rattle.std.specs.Prelude.{is_none}
+use Rattle.std.specs.Prelude.{Option, is_some, unwrap_or}
 use Rattle.std.specs.Prelude.{ℕ, ◌+◌, ◌-◌, ◌%◌, ◌<◌, ◌≡◌, Bool, true, false, cond, not, ◌&&◌, ◌||◌, List, [], ◌∷◌, ◌++◌, map, get_or, set, take, leb, ltb, eqb, ℤ, pos, negsuc}
 use Rattle.machine.specs.declared.Process.{Process}
 use Rattle.machine.specs.declared.Partition.{Partition}
@@ -83,7 +87,7 @@ pub record EachEvent (m : Module) (e : EventT) : Type 0 where
   pub ten : eqb (step m e).answer.code 10 ≡ (not (malformed_at m.table.size e) && (plain_number 0 e.partition && leb 99999999 m.t))
   pub eight : eqb (step m e).answer.code 8 ≡ (not (malformed_at m.table.size e) && (not (plain_number 0 e.partition) && not (plain_number (current m) e.partition)))
   pub nine : let p = own m (id_of e.partition) in
-      eqb (step m e).answer.code 9 ≡ (not (malformed_at m.table.size e) && (not (plain_number 0 e.partition) && (plain_number (current m) e.partition && (eqb p.mode 0 || (eqb p.mode 3 && eqb (running p) 0)))))
+      eqb (step m e).answer.code 9 ≡ (not (malformed_at m.table.size e) && (not (plain_number 0 e.partition) && (plain_number (current m) e.partition && (eqb (mode_number p.mode) 0 || (eqb (mode_number p.mode) 3 && eqb (running p) 0)))))
   pub same : ((step m e).answer.code ≡ 0 → ⊥) → ((step m e).answer.code ≡ 7 → ⊥) → (step m e).state ≡ m
   pub ticked : malformed_at m.table.size e ≡ false → plain_number 0 e.partition ≡ true → m.t < 99999999 → Gives m e 0 0 (Some 0) (plain_ticked m)
   pub shown : let q = (step m e).state in
@@ -130,8 +134,8 @@ with_event_at j up p = with_events (set p.events (j - 1) (record { name = (event
 abbrev pub with_buffer_at : ℕ → List ℕ → Partition → Partition
 with_buffer_at j l p = with_buffers (set p.buffers (j - 1) (record { name = (buffer j p).name; limit = (buffer j p).limit; queue = queue_of l })) p.buffer_count p
 
-abbrev pub with_board_at : ℕ → Bool → ℕ → Partition → Partition
-with_board_at j shown m p = with_blackboards (set p.blackboards (j - 1) (record { name = (blackboard j p).name; shown = shown; message = m })) p.blackboard_count p
+abbrev pub with_board_at : ℕ → Option ℕ → Partition → Partition
+with_board_at j message p = with_blackboards (set p.blackboards (j - 1) (record { name = (blackboard j p).name; message = message })) p.blackboard_count p
 
 -- ---------------------------------------------------------------- modes
 -- what entering NORMAL at t makes of a process, where r is its partition's next release point
@@ -144,9 +148,9 @@ entering t r x =
     x
 
 -- messages on channels into partition k erased, from channel number i + 1 on
-unfoldable pub without_into : Table → ℕ → ℕ → List Message → List Message
+unfoldable pub without_into : Table → ℕ → ℕ → List (Option Message) → List (Option Message)
 without_into T k i [] = []
-without_into T k i (x ∷ l) = cond (eqb (channel T i).destination k) (record { present = false; value = 0; written = 0 }) x ∷ without_into T k (i + 1) l
+without_into T k i (x ∷ l) = cond (eqb (channel T i).destination k) None x ∷ without_into T k (i + 1) l
 
 -- Modes 0, 1, 2: nothing is created in partition k, no message lies on a sampling channel into it; queuing channels into it are emptied, and waiting senders
 -- let in until it is full, channels by ascending number
@@ -160,15 +164,15 @@ Starts m k e id delay =
     let p = own m k in
     let x = process (id_of id) p in
     Checks m e ((not (plain_between 1 p.process_count id), 3) ∷ (not (in_d delay) || too_long (id_of delay) x.given.period, 3) ∷ (x.started, 1) ∷ [])
-    (((p.mode ≡ 3 → ⊥) → Puts m e 0 0 k (with_process (id_of id) (awaits_normal (id_of delay) x) p.arrival p))
-    × (p.mode ≡ 3 → x.given.period ≡ None → Puts m e 0 0 k (plain_stored (id_of id) (started_at m.t (id_of delay) x.given.base false x) p))
-    × ((n r : ℕ) → p.mode ≡ 3 → x.given.period ≡ Some n → Release m.table k m.t r
+    (((mode_number p.mode ≡ 3 → ⊥) → Puts m e 0 0 k (with_process (id_of id) (awaits_normal (id_of delay) x) p.arrival p))
+    × (mode_number p.mode ≡ 3 → x.given.period ≡ None → Puts m e 0 0 k (plain_stored (id_of id) (started_at m.t (id_of delay) x.given.base false x) p))
+    × ((n r : ℕ) → mode_number p.mode ≡ 3 → x.given.period ≡ Some n → Release m.table k m.t r
     → Puts m e 0 0 k (with_process (id_of id) (awaits_release (r + id_of delay) x.times.delay x.given.base false false x) p.arrival p)))
 
 -- creating: 4: all exist. 1: name exists among its kind. 3: not admitted. 5: NORMAL. Value: id
 abbrev pub Creates : Module → ℕ → EventT → ℕ → ℕ → List ℕ → ℤ → Bool → Partition → Type 0
 Creates m k e limit count names name ok q =
-    Checks m e ((leb limit count, 4) ∷ (named name names, 1) ∷ (not ok, 3) ∷ (eqb (own m k).mode 3, 5) ∷ [])
+    Checks m e ((leb limit count, 4) ∷ (named name names, 1) ∷ (not ok, 3) ∷ (eqb (mode_number (own m k).mode) 3, 5) ∷ [])
     (Puts m e 0 (count + 1) k q)
 
 -- a call that waits on w, with time-out a: checks of its own. 5: start mode. 3: not ok. Where it need not wait, success. 2: a = 0. 5: preemption is
@@ -177,7 +181,7 @@ abbrev pub MayWait : Module → ℕ → EventT → List (Bool × ℕ) → Bool �
 MayWait m k e before ok a available success w =
     let p = own m k in
     let x = process (running p) p in
-    Checks m e (before ++ ((not (eqb p.mode 3), 5) ∷ (not ok, 3) ∷ []))
+    Checks m e (before ++ ((not (eqb (mode_number p.mode) 3), 5) ∷ (not ok, 3) ∷ []))
     ((available ≡ true → success)
     × (available ≡ false → Checks m e ((plain_number 0 a, 2) ∷ (ltb 0 p.level, 5) ∷ [])
     (Puts m e 7 0 k (plain_stored (running p) (with x.suspended (plain_later (Some m.t) (time_in a)) x.code w x) p))))
@@ -206,8 +210,8 @@ process_admitted M name priority period capacity =
 abbrev pub SetMode : Module → ℕ → Type 0
 SetMode m k = (a : ℤ) → let p = own m k in
     let e = call_by k 1 a (pos 0) (pos 0) (pos 0) in
-    Checks m e ((not (plain_between 0 3 a), 3) ∷ (plain_number 3 a && eqb p.mode 3, 1) ∷ (plain_number 2 a && eqb p.mode 1, 5) ∷ (plain_number 3 a && eqb p.process_count 0, 5) ∷ [])
-    ((plain_number 3 a ≡ true → (r : ℕ) → Release m.table k m.t r → Puts m e 0 0 k (plain_each (entering m.t r) (with_mode_and_lock 3 0 0 p)))
+    Checks m e ((not (plain_between 0 3 a), 3) ∷ (plain_number 3 a && eqb (mode_number p.mode) 3, 1) ∷ (plain_number 2 a && eqb (mode_number p.mode) 1, 5) ∷ (plain_number 3 a && eqb p.process_count 0, 5) ∷ [])
+    ((plain_number 3 a ≡ true → (r : ℕ) → Release m.table k m.t r → Puts m e 0 0 k (plain_each (entering m.t r) (with_mode_and_lock NormalMode 0 0 p)))
     × (plain_number 3 a ≡ false → Gives m e 0 0 (Some 0) (restarted_as k (id_of a) m)))
 
 -- 2 CREATE_PROCESS name, priority, period, capacity
@@ -234,7 +238,7 @@ Stop m k = (id : ℤ) → let p = own m k in
 abbrev pub StopSelf : Module → ℕ → Type 0
 StopSelf m k = let p = own m k in
     let e = call_by k 6 (pos 0) (pos 0) (pos 0) (pos 0) in
-    Checks m e ((not (eqb p.mode 3), 5) ∷ []) (Puts m e 0 0 k (plain_stored (running p) (now_dormant (process (running p) p)) (with_lock 0 0 p)))
+    Checks m e ((not (eqb (mode_number p.mode) 3), 5) ∷ []) (Puts m e 0 0 k (plain_stored (running p) (now_dormant (process (running p) p)) (with_lock 0 0 p)))
 
 -- 7 SUSPEND id. 3: the caller. 5: DORMANT or periodic. 1: suspended. Sets the mark
 abbrev pub Suspend : Module → ℕ → Type 0
@@ -249,7 +253,7 @@ abbrev pub SuspendSelf : Module → ℕ → Type 0
 SuspendSelf m k = (a : ℤ) → let p = own m k in
     let x = process (running p) p in
     let e = call_by k 8 a (pos 0) (pos 0) (pos 0) in
-    Checks m e ((not (eqb p.mode 3) || periodic_at x.given.period, 5) ∷ (not (in_t a), 3) ∷ (ltb 0 p.level, 5) ∷ [])
+    Checks m e ((not (eqb (mode_number p.mode) 3) || periodic_at x.given.period, 5) ∷ (not (in_t a), 3) ∷ (ltb 0 p.level, 5) ∷ [])
     ((plain_number 0 a ≡ true → Gives m e 0 0 (Some 0) m)
     × (plain_number 0 a ≡ false → Puts m e 7 0 k (plain_stored (running p) (with true (plain_later (Some m.t) (time_in a)) x.code x.wait x) p)))
 
@@ -258,7 +262,7 @@ abbrev pub TimedWait : Module → ℕ → Type 0
 TimedWait m k = (a : ℤ) → let p = own m k in
     let x = process (running p) p in
     let e = call_by k 9 a (pos 0) (pos 0) (pos 0) in
-    Checks m e ((not (eqb p.mode 3), 5) ∷ (not (in_d a), 3) ∷ (ltb 0 p.level, 5) ∷ [])
+    Checks m e ((not (eqb (mode_number p.mode) 3), 5) ∷ (not (in_d a), 3) ∷ (ltb 0 p.level, 5) ∷ [])
     ((plain_number 0 a ≡ true → Puts m e 0 0 k (with_processes p.processes p.process_count (at_end (running p) p.arrival) p.waiting p))
     × (plain_number 0 a ≡ false → Puts m e 7 0 k (plain_stored (running p) (with x.suspended (Some (m.t + id_of a)) x.code Timed x) p)))
 
@@ -267,7 +271,7 @@ abbrev pub PeriodicWait : Module → ℕ → Type 0
 PeriodicWait m k = let p = own m k in
     let x = process (running p) p in
     let e = call_by k 10 (pos 0) (pos 0) (pos 0) (pos 0) in
-    Checks m e ((not (eqb p.mode 3) || not (periodic_at x.given.period), 5) ∷ (ltb 0 p.level, 5) ∷ [])
+    Checks m e ((not (eqb (mode_number p.mode) 3) || not (periodic_at x.given.period), 5) ∷ (ltb 0 p.level, 5) ∷ [])
     ((r n : ℕ) → x.times.release ≡ Some r → x.given.period ≡ Some n → Puts m e 7 0 k (with_process (running p) (awaits_next (r + n) x) (without (running p) p.arrival) p))
 
 -- 11 RESUME id. 3: the caller. 5: DORMANT or periodic. 1: not suspended. Clears the mark; if no wait, w = −1, wake code 0
@@ -341,12 +345,13 @@ WaitEvent m k = (j a : ℤ) → let p = own m k in
 -- 21 WRITE channel, a. 3: a not in D. Stores a and t. 22 READ channel. 1: no message. Value a, extra 1 if t − written ≤ refresh, else 0
 abbrev pub Write : Module → ℕ → Type 0
 Write m k = (i a : ℤ) → let e = call_by k 21 i a (pos 0) (pos 0) in
-    Checks m e (channel_tests m k i true (λ c. c.source) ++ ((not (in_d a), 3) ∷ [])) (Gives m e 0 0 (Some 0) (with_message (id_of i - 1) (record { present = true; value = id_of a; written = m.t }) m))
+    Checks m e (channel_tests m k i true (λ c. c.source) ++ ((not (in_d a), 3) ∷ [])) (Gives m e 0 0 (Some 0) (with_message (id_of i - 1) (Some (record { value = id_of a; written = m.t })) m))
 
 abbrev pub Read : Module → ℕ → Type 0
 Read m k = (i : ℤ) → let x = message m (id_of i - 1) in
+    let y = unwrap_or x (record { value = 0; written = 0 }) in
     let e = call_by k 22 i (pos 0) (pos 0) (pos 0) in
-    Checks m e (channel_tests m k i true (λ c. c.destination) ++ ((not x.present, 1) ∷ [])) (Gives m e 0 x.value (Some (cond (leb (m.t - x.written) (channel m.table (id_of i - 1)).refresh) 1 0)) m)
+    Checks m e (channel_tests m k i true (λ c. c.destination) ++ ((is_none x, 1) ∷ [])) (Gives m e 0 y.value (Some (cond (leb (m.t - y.written) (channel m.table (id_of i - 1)).refresh) 1 0)) m)
 
 -- 23 CREATE_BUFFER name, limit
 abbrev pub CreateBuffer : Module → ℕ → Type 0
@@ -382,19 +387,19 @@ abbrev pub Show : Module → ℕ → Type 0
 Show m k = (j b : ℤ) → let p = own m k in
     let e = call_by k 27 j b (pos 0) (pos 0) in
     Checks m e ((not (plain_between 1 p.blackboard_count j), 3) ∷ (not (in_d b), 3) ∷ [])
-    (Puts m e 0 0 k (plain_all (wait_over 0 (id_of b)) (waiters (object (Blackboard (id_of j))) p) (with_board_at (id_of j) true (id_of b) p)))
+    (Puts m e 0 0 k (plain_all (wait_over 0 (id_of b)) (waiters (object (Blackboard (id_of j))) p) (with_board_at (id_of j) (Some (id_of b)) p)))
 
 -- 28 READ_BLACKBOARD id, time-out: a message read is the value
 abbrev pub ReadBlackboard : Module → ℕ → Type 0
 ReadBlackboard m k = (j a : ℤ) → let p = own m k in
     let e = call_by k 28 j a (pos 0) (pos 0) in
-    MayWait m k e ((not (plain_between 1 p.blackboard_count j), 3) ∷ []) (in_t a) a (blackboard (id_of j) p).shown (Gives m e 0 (blackboard (id_of j) p).message (Some 0) m) (Blackboard (id_of j))
+    MayWait m k e ((not (plain_between 1 p.blackboard_count j), 3) ∷ []) (in_t a) a (is_some (blackboard (id_of j) p).message) (Gives m e 0 (unwrap_or (blackboard (id_of j) p).message 0) (Some 0) m) (Blackboard (id_of j))
 
 -- 29 CLEAR id: nothing is shown
 abbrev pub Clear : Module → ℕ → Type 0
 Clear m k = (j : ℤ) → let p = own m k in
     let e = call_by k 29 j (pos 0) (pos 0) (pos 0) in
-    Checks m e ((not (plain_between 1 p.blackboard_count j), 3) ∷ []) (Puts m e 0 0 k (with_board_at (id_of j) false 0 p))
+    Checks m e ((not (plain_between 1 p.blackboard_count j), 3) ∷ []) (Puts m e 0 0 k (with_board_at (id_of j) None p))
 
 -- 30 SEND channel, message, time-out; 31 RECEIVE channel, time-out: as 24 and 25, with those who wait in the partition at the other end
 abbrev pub Send : Module → ℕ → Type 0
@@ -422,12 +427,12 @@ Receive m k = (i a : ℤ) → let c = channel m.table (id_of i - 1) in
 abbrev pub LockPreemption : Module → ℕ → Type 0
 LockPreemption m k = let p = own m k in
     let e = call_by k 32 (pos 0) (pos 0) (pos 0) (pos 0) in
-    Checks m e ((not (eqb p.mode 3), 1) ∷ (eqb p.level 16, 4) ∷ []) (Puts m e 0 0 k (with_lock (p.level + 1) (cond (eqb p.level 0) (running p) p.holder) p))
+    Checks m e ((not (eqb (mode_number p.mode) 3), 1) ∷ (eqb p.level 16, 4) ∷ []) (Puts m e 0 0 k (with_lock (p.level + 1) (cond (eqb p.level 0) (running p) p.holder) p))
 
 abbrev pub UnlockPreemption : Module → ℕ → Type 0
 UnlockPreemption m k = let p = own m k in
     let e = call_by k 33 (pos 0) (pos 0) (pos 0) (pos 0) in
-    Checks m e ((not (eqb p.mode 3), 1) ∷ (eqb p.level 0, 1) ∷ []) (Puts m e 0 0 k (with_lock (p.level - 1) (cond (eqb p.level 1) 0 p.holder) p))
+    Checks m e ((not (eqb (mode_number p.mode) 3), 1) ∷ (eqb p.level 0, 1) ∷ []) (Puts m e 0 0 k (with_lock (p.level - 1) (cond (eqb p.level 1) 0 p.holder) p))
 
 -- 34 GET_TICKS_LEFT: the ticks until the partition's window ends
 abbrev pub GetTicksLeft : Module → ℕ → Type 0

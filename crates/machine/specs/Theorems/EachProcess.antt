@@ -1,5 +1,6 @@
 -- What every event makes of every process: one of listed cases, each with its call, its caller and the record after it, as a claim about `step`. The premises
 -- speak of an event's numbers, the answer's code, the table and the record. (The whole record after each accepted call: `EachCall`.)
+use Rattle.machine.specs.Mode.{mode_number}
 use Rattle.std.specs.Prelude.{ℕ, ◌+◌, ◌≤◌, ◌<◌, ◌≡◌, Bool, true, false, cond, ◌⊎◌, eqb, pos}
 use Rattle.machine.specs.declared.Times.{Times}
 use Rattle.machine.specs.declared.Process.{Process}
@@ -68,11 +69,11 @@ module _ (m : Module) (e : EventT) (code k id : ℕ) where
   CallOf n = Call n 0 × (e.a ≡ pos id)
 
   abbrev pub CallBy : ℕ → ℕ → Type 0
-  CallBy n c = Call n c × ((own m k).mode ≡ 3) × (id ≡ running (own m k))
+  CallBy n c = Call n c × (mode_number (own m k).mode ≡ 3) × (id ≡ running (own m k))
 
   -- a tick, and the partition is NORMAL
   abbrev pub Tick : Type 0
-  Tick = (e.partition ≡ pos 0) × (code ≡ 0) × ((own m k).mode ≡ 3)
+  Tick = (e.partition ≡ pos 0) × (code ≡ 0) × (mode_number (own m k).mode ≡ 3)
 
   -- 3 START or 4 DELAYED_START of it
   abbrev pub StartOf : Type 0
@@ -128,7 +129,7 @@ module _ (m : Module) (e : EventT) (code k id : ℕ) where
     created : Call 2 0 → was ≡ blank_process → y ≡ new_process y.given → Becomes y
     -- 3 START, 4 DELAYED_START (the times: `EachCall`, `ReleasesAt`)
     started : StartOf → was.started ≡ false → y ≡ begun_with y.times was.given.base false y.wait was
-        → ((own m k).mode ≡ 3 → StartWait was y.wait) → (((own m k).mode ≡ 3 → ⊥) → y.wait ≡ Normal) → Becomes y
+        → (mode_number (own m k).mode ≡ 3 → StartWait was y.wait) → ((mode_number (own m k).mode ≡ 3 → ⊥) → y.wait ≡ Normal) → Becomes y
     -- 5 STOP, 6 STOP_SELF
     stopped : StopOf → y ≡ now_dormant was → Becomes y
     -- 7 SUSPEND, 8 SUSPEND_SELF: the wait stays

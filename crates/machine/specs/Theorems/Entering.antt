@@ -1,5 +1,6 @@
 -- Entering NORMAL, which is call 1 with 3: what becomes of each process, by case, and of the arrival list. (A periodic process: `ReleasesAt`; the whole
 -- record: `SetMode` of EachCall.)
+use Rattle.machine.specs.Mode.{mode_number}
 use Rattle.std.specs.Prelude.{ℕ, ◌≡◌, not, ◌&&◌, eqb, pos}
 use Rattle.machine.specs.declared.Event.{Event as EventT}
 use Rattle.machine.specs.declared.Module.{Module}
@@ -20,7 +21,7 @@ enter k = call_by k 1 (pos 3) (pos 0) (pos 0) (pos 0)
 -- x is process id before, y after it
 pub record Enters (m : Module) (k : ℕ) : Type 0 where
   pub code : (step m (enter k)).answer.code ≡ 0
-  pub mode : (own (step m (enter k)).state k).mode ≡ 3
+  pub mode : mode_number (own (step m (enter k)).state k).mode ≡ 3
   -- an aperiodic one that waits for NORMAL takes the start rule with its delay, keeping its suspended mark and current priority: d = t + delay + capacity, or −1
   pub aperiodic : (id : ℕ) → let x = process id (own m k) in
       let y = process id (own (step m (enter k)).state k) in

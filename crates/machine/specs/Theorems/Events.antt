@@ -1,4 +1,5 @@
 -- What several pages of claims say: an event by its numbers, what it gives, and the record after it.
+use Rattle.machine.specs.Mode.{mode_number}
 use Rattle.std.specs.Prelude.{ℕ, ◌+◌, ◌-◌, ◌≤◌, ◌≡◌, true, false, ◌||◌, [], ◌∷◌, ◌++◌, set, ℤ, pos}
 use Rattle.machine.specs.declared.Given.{Given}
 use Rattle.machine.specs.declared.Ids.{Ids}
@@ -55,8 +56,8 @@ pub record Calling (m : Module) (k : ℕ) : Type 0 where
   pub reached : Reached m
   pub some : 1 ≤ k
   pub now : current m ≡ k
-  pub active : (own m k).mode ≡ 0 → ⊥
-  pub runs : (own m k).mode ≡ 3 → running (own m k) ≡ 0 → ⊥
+  pub active : mode_number (own m k).mode ≡ 0 → ⊥
+  pub runs : mode_number (own m k).mode ≡ 3 → running (own m k) ≡ 0 → ⊥
 
 -- ---------------------------------------------------------------- the record after
 -- process id, which waits on nothing before and after, has the record x; the arrival list is this one
@@ -89,7 +90,7 @@ abbrev pub with_new_buffer : ℕ → ℕ → Partition → Partition
 with_new_buffer name limit p = with_buffers (set p.buffers p.buffer_count (record { name = name; limit = limit; queue = queue_of [] })) (p.buffer_count + 1) p
 
 abbrev pub with_new_blackboard : ℕ → Partition → Partition
-with_new_blackboard name p = with_blackboards (set p.blackboards p.blackboard_count (record { name = name; shown = false; message = 0 })) (p.blackboard_count + 1) p
+with_new_blackboard name p = with_blackboards (set p.blackboards p.blackboard_count (record { name = name; message = None })) (p.blackboard_count + 1) p
 
 -- semaphore j has this value
 abbrev pub with_semaphore_at : ℕ → ℕ → Partition → Partition

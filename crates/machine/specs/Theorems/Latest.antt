@@ -1,5 +1,6 @@
 -- What the latest accepted call left, over lists of events: the message of a sampling channel (document 01, calls 21 and 22), what a blackboard shows
 -- (document 02, a: 27 to 29), and whether an event is UP (document 01, 17 to 20). Each is told from the events and their answers alone, event by event.
+use Rattle.std.specs.Prelude.{Option, None, is_some, unwrap_or}
 use Rattle.std.specs.Prelude.{ℕ, ◌+◌, ◌-◌, ◌<◌, ◌≡◌, Bool, true, false, cond, ◌&&◌, not, List, [], ◌∷◌, eqb, leb, ℤ, pos}
 use Rattle.machine.specs.declared.Event.{Event}
 use Rattle.machine.specs.declared.EventRecord.{EventRecord}
@@ -30,14 +31,14 @@ done k n j r = is_call k n r.event && (plain_number j r.event.a && eqb r.answer.
 
 -- ---------------------------------------------------------------- what each leaves
 -- channel number i + 1: a WRITE of its source leaves the message and the time, an accepted mode 0 to 2 of its destination none
-abbrev pub written : Channel → ℕ → EventRecord → Message → Message
+abbrev pub written : Channel → ℕ → EventRecord → Option Message → Option Message
 written c i r x =
-    cond (done c.source 21 (i + 1) r) (record { present = true; value = message_in r.event.b; written = r.answer.t })
-    (cond (restarts_by c.destination r.event r.answer.code) (record { present = false; value = 0; written = 0 }) x)
+    cond (done c.source 21 (i + 1) r) (Some (record { value = message_in r.event.b; written = r.answer.t }))
+    (cond (restarts_by c.destination r.event r.answer.code) None x)
 
 -- blackboard j of partition k: SHOW shows a message, CLEAR none
-abbrev pub shows : ℕ → ℕ → EventRecord → Bool × ℕ → Bool × ℕ
-shows k j r x = cond (done k 27 j r) (true, message_in r.event.b) (cond (done k 29 j r) (false, 0) x)
+abbrev pub shows : ℕ → ℕ → EventRecord → Option ℕ → Option ℕ
+shows k j r x = cond (done k 27 j r) (Some (message_in r.event.b)) (cond (done k 29 j r) None x)
 
 -- event j of partition k: SET_EVENT UP, RESET_EVENT DOWN
 abbrev pub sets : ℕ → ℕ → EventRecord → Bool → Bool
@@ -45,12 +46,12 @@ sets k j r x = cond (done k 18 j r) true (cond (done k 19 j r) false x)
 
 -- ---------------------------------------------------------------- since when
 -- the message of channel number i + 1 over a list of events, from the fresh module on
-abbrev pub last_written : Module → ℕ → List Event → Message
-last_written m i es = along (written (channel m.table i) i) (record { present = false; value = 0; written = 0 }) (answers m es)
+abbrev pub last_written : Module → ℕ → List Event → Option Message
+last_written m i es = along (written (channel m.table i) i) None (answers m es)
 
 -- what blackboard j shows, whether event j is UP, over a list of events from its creation on
-abbrev pub last_shown : Module → ℕ → ℕ → List Event → Bool × ℕ
-last_shown m k j es = along (shows k j) (false, 0) (answers m es)
+abbrev pub last_shown : Module → ℕ → ℕ → List Event → Option ℕ
+last_shown m k j es = along (shows k j) None (answers m es)
 
 abbrev pub last_set : Module → ℕ → ℕ → List Event → Bool
 last_set m k j es = along (sets k j) false (answers m es)
@@ -73,13 +74,12 @@ pub record Latest : Type 0 where
       let x = last_written m i es in
       let e = call_by k 22 (pos (i + 1)) (pos 0) (pos 0) (pos 0) in
       i < m.table.channel_count → c.size ≡ 0 → c.destination ≡ k → Calling q k
-      → (x.present ≡ false → Refuses q e 1)
-      × (x.present ≡ true → Gives q e 0 x.value (Some (cond (leb (q.t - x.written) c.refresh) 1 0)) q)
+      → (x ≡ None → Refuses q e 1)
+      × ((y : Message) → x ≡ Some y → Gives q e 0 y.value (Some (cond (leb (q.t - y.written) c.refresh) 1 0)) q)
   -- a blackboard shows the message of the last SHOW answered 0 since its creation, none where a CLEAR came later or there was no SHOW
   pub board : (input : List ℕ) (before : List Event) (k j : ℕ) (name : ℤ) (es : List Event) → let m = after (read_table input).state before in
       let s = next m (call_by k 26 name (pos 0) (pos 0) (pos 0)) in
-      Since m k 26 j name es → let b = blackboard j (own (after s es) k) in
-      (b.shown ≡ (last_shown s k j es).0) × (b.message ≡ (last_shown s k j es).1)
+      Since m k 26 j name es → (blackboard j (own (after s es) k)).message ≡ last_shown s k j es
   -- an event is UP exactly if the last SET_EVENT or RESET_EVENT answered 0 since its creation was SET_EVENT
   pub set : (input : List ℕ) (before : List Event) (k j : ℕ) (name : ℤ) (es : List Event) → let m = after (read_table input).state before in
       let s = next m (call_by k 17 name (pos 0) (pos 0) (pos 0)) in
@@ -90,7 +90,7 @@ pub record Latest : Type 0 where
       let q = after s es in
       let e = call_by k 28 (pos j) a (pos 0) (pos 0) in
       Since m k 26 j name es → Calling q k
-      → MayWait q k e ((not (plain_between 1 (own q k).blackboard_count (pos j)), 3) ∷ []) (in_t a) a (last_shown s k j es).0 (Gives q e 0 (last_shown s k j es).1 (Some 0) q) (Blackboard j)
+      → MayWait q k e ((not (plain_between 1 (own q k).blackboard_count (pos j)), 3) ∷ []) (in_t a) a (is_some (last_shown s k j es)) (Gives q e 0 (unwrap_or (last_shown s k j es) 0) (Some 0) q) (Blackboard j)
   pub wait_event : (input : List ℕ) (before : List Event) (k j : ℕ) (name a : ℤ) (es : List Event) → let m = after (read_table input).state before in
       let s = next m (call_by k 17 name (pos 0) (pos 0) (pos 0)) in
       let q = after s es in

@@ -1,6 +1,7 @@
 -- The preemption lock (document 02, e): what holds of it in every record that a run reaches, and that nothing but its two calls, STOP_SELF and a mode
 -- change (`EachCall`) reaches it, as claims about `step` and about lists of events. The premises speak of an event's numbers, the table, the record, the
 -- current partition and the running process.
+use Rattle.machine.specs.Mode.{mode_number}
 use Rattle.std.specs.Prelude.{ℕ, ◌≤◌, ◌<◌, ◌≡◌, Bool, true, List, [], ◌∷◌, ◌⊎◌, pos}
 use Rattle.machine.specs.declared.Event.{Event as EventT}
 use Rattle.machine.specs.declared.Partition.{Partition}
@@ -20,7 +21,7 @@ pub record LockHolds (m : Module) (k : ℕ) : Type 0 where
   -- a level 0..16
   pub few : (own m k).level ≤ level_limit
   -- outside NORMAL the level is 0; at level 0 there is no holder
-  pub outside : ((own m k).mode ≡ 3 → ⊥) → (own m k).level ≡ 0
+  pub outside : (mode_number (own m k).mode ≡ 3 → ⊥) → (own m k).level ≡ 0
   pub free : (own m k).level ≡ 0 → (own m k).holder ≡ 0
   -- a level above 0 has a READY holder, and it is the running process where its partition is current
   pub held : 0 < (own m k).level → ready (process (own m k).holder (own m k)) ≡ true

@@ -1,5 +1,6 @@
 -- Strict periods, as a claim about every list of events: the release of a periodic process rises by its period with each of its PERIODIC_WAITs, and by nothing
 -- else. The premises speak of the events' numbers, the answers' codes, the table and the record.
+use Rattle.machine.specs.Mode.{mode_number}
 use Rattle.std.specs.Prelude.{ℕ, ◌+◌, ◌*◌, ◌≡◌, Bool, true, cond, ◌&&◌, List, [], ◌∷◌, eqb}
 use Rattle.machine.specs.declared.Event.{Event as EventT}
 use Rattle.machine.specs.declared.Module.{Module}
@@ -31,8 +32,8 @@ NeverStopped k id m (e ∷ es) =
 pub record Periods : Type 0 where
   -- a started periodic process of a NORMAL partition has a release
   pub known : (m : Module) → Reached m → (k id n : ℕ) → let x = process id (own m k) in
-      Between 1 m.table.size k → (own m k).mode ≡ 3 → x.started ≡ true → x.given.period ≡ Some n → x.times.release ≡ None → ⊥
+      Between 1 m.table.size k → mode_number (own m k).mode ≡ 3 → x.started ≡ true → x.given.period ≡ Some n → x.times.release ≡ None → ⊥
   -- r after = r before + period × its PERIODIC_WAITs answered 7
   pub strict : (m : Module) → Reached m → (es : List EventT) (k id n r : ℕ) → let x = process id (own m k) in
-      Between 1 m.table.size k → (own m k).mode ≡ 3 → x.started ≡ true → x.given.period ≡ Some n → x.times.release ≡ Some r → NeverStopped k id m es
+      Between 1 m.table.size k → mode_number (own m k).mode ≡ 3 → x.started ≡ true → x.given.period ≡ Some n → x.times.release ≡ Some r → NeverStopped k id m es
       → (process id (own (after m es) k)).times.release ≡ Some (r + n * period_waits k id m es)

@@ -3,6 +3,8 @@
 -- a semaphore's value stop at the greatest, at most 8 partitions are ticked, M = 0 gives 0, and
 -- a number past the greatest time is no number. Here the same is said without them, and what it means that none of them acts at an event:
 -- `no_bound_acts` proves it of every event at every record that a run reaches. Nothing of the machine rests on it.
+use Rattle.machine.specs.Mode.{mode_number}
+use Rattle.machine.specs.declared.Mode.TheVariants.{Normal as NormalMode}
 use Rattle.std.specs.Prelude.{ℕ, zero, suc, ◌+◌, ◌-◌, ◌%◌, ◌≤◌, ◌<◌, ◌≡◌, Bool, true, false, cond, ◌&&◌, ◌||◌, List, [], ◌∷◌, ◌++◌, map, ◌⊎◌, length, get_or, set, drop, eqb, leb, ltb, ℤ, pos, negsuc}
 use Rattle.machine.specs.Time.{Time}
 use Rattle.std.specs.Prelude.{None, Some}
@@ -172,7 +174,7 @@ plain_applied (StoredBlackboard k b) p = plain_blackboard k b p
 plain_applied (Ended o) p = plain_all let_go (waiters o p) p
 plain_applied (Handed o m) p = plain_all (wait_over 0 m) (waiters o p) p
 plain_applied (LevelSet level holder) p = with_lock level holder p
-plain_applied (Entered c) p = plain_each (entered c) (with_mode 3 p)
+plain_applied (Entered c) p = plain_each (entered c) (with_mode NormalMode p)
 
 -- a process whose wait ends has its place
 abbrev pub EndInPlace : Transfer → Partition → Type 0
@@ -241,8 +243,8 @@ plain_after m k (Unchanged value extra) = m
 plain_after m k Ticked = plain_ticked m
 plain_after m k (Blocked id x) = with_part (k - 1) (plain_stored id x (part m (k - 1))) m
 plain_after m k (Changed a b value) = with_part (k - 1) (plain_applied b (plain_applied a (part m (k - 1)))) m
-plain_after m k (Restarted mode) = plain_refilled_to k m.table.channel_count (with_part (k - 1) (nothing_created mode) (erased_to k channel_limit m))
-plain_after m k (Written i x) = with_message i x m
+plain_after m k (Restarted mode) = plain_refilled_to k m.table.channel_count (with_part (k - 1) (nothing_created (mode_number mode)) (erased_to k channel_limit m))
+plain_after m k (Written i x) = with_message i (Some x) m
 plain_after m k (Passed i a value) = plain_passed k i a m
 
 -- what it stores has its place: in the partition's lists, and a message on a channel of the table

@@ -1,5 +1,6 @@
 -- The states of a process, as claims about `step`: which changes of state there are, and by what alone; what a tick leaves; and that SUSPEND and RESUME leave
 -- the wait. The premises speak of an event's numbers, the answer's code, the table and the record.
+use Rattle.machine.specs.Mode.{mode_number}
 use Rattle.std.specs.Prelude.{ℕ, ◌+◌, ◌≡◌, true, false, ◌⊎◌, pos}
 use Rattle.machine.specs.declared.Process.{Process}
 use Rattle.machine.specs.declared.Partition.{Partition}
@@ -48,7 +49,7 @@ pub record StateChanges (m : Module) (e : EventT) (code k id : ℕ) (x y : Proce
 
 -- a tick: a partition that is not NORMAL is left whole, and so is the record of a process of which neither w nor d has come
 pub record TickLeaves (m : Module) (e : EventT) (k : ℕ) : Type 0 where
-  pub partition : ((own m k).mode ≡ 3 → ⊥) → own (step m e).state k ≡ own m k
+  pub partition : (mode_number (own m k).mode ≡ 3 → ⊥) → own (step m e).state k ≡ own m k
   pub process : (id : ℕ) → let x = process id (own m k) in
       come (m.t + 1) x.times.wake ≡ false → come (m.t + 1) x.times.deadline ≡ false → process id (own (step m e).state k) ≡ x
 

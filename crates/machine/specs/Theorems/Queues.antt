@@ -1,6 +1,8 @@
 -- Queues, said over the number o of an object (`object`; 0 is none), for every kind of object at once: a waiter joins its object's queue last,
 -- ended waits leave it and the others keep their order, and the first is served first. The queue of an object is `waiters o p`. Nothing of the
 -- machine rests on it.
+use Rattle.machine.specs.Mode.{mode_number}
+use Rattle.std.specs.Prelude.{Some, is_some}
 use Rattle.std.specs.Prelude.{ℕ, ◌+◌, ◌-◌, ◌≤◌, ◌<◌, ◌≡◌, Bool, true, false, cond, not, ◌&&◌, List, [], ◌∷◌, ◌++◌, ◌⊎◌, eqb, ltb, ℤ, pos}
 use Rattle.machine.specs.declared.Process.{Process}
 use Rattle.machine.specs.declared.Partition.{Partition}
@@ -82,7 +84,7 @@ available kind k p =
     (cond (eqb kind 2) (event k p).up
     (cond (eqb kind 3) (has_room (buffer k p))
     (cond (eqb kind 4) (holds (buffer k p))
-    (cond (eqb kind 5) (blackboard k p).shown false))))
+    (cond (eqb kind 5) (is_some (blackboard k p).message) false))))
 
 -- the number of queue k of a kind
 abbrev pub queue_number : ℕ → ℕ → ℕ
@@ -169,26 +171,26 @@ pub record MessageCalls (m : Module) (k j : ℕ) : Type 0 where
   -- 24 SEND_BUFFER where receivers wait: the message goes straight into the first one's record, and no object changes
   pub send_first : (b id : ℕ) (rest : List ℕ) (a : ℤ) → let p = own m k in
       let e = call_by k 24 (pos j) (pos b) a (pos 0) in
-      p.mode ≡ 3 → Between 1 p.buffer_count j → waiters (object (Receiving j)) p ≡ id ∷ rest → b ≤ duration_limit → TimeOut a
+      mode_number p.mode ≡ 3 → Between 1 p.buffer_count j → waiters (object (Receiving j)) p ≡ id ∷ rest → b ≤ duration_limit → TimeOut a
       → FirstServed m k e (object (Receiving j)) id rest b × SameObjects p (own (step m e).state k)
   -- where none waits and there is room: it is the buffer's last message
   pub send_none : (b : ℕ) (a : ℤ) → let p = own m k in
       let e = call_by k 24 (pos j) (pos b) a (pos 0) in
-      p.mode ≡ 3 → Between 1 p.buffer_count j → waiters (object (Receiving j)) p ≡ [] → (buffer j p).queue.len < (buffer j p).limit → b ≤ duration_limit → TimeOut a
+      mode_number p.mode ≡ 3 → Between 1 p.buffer_count j → waiters (object (Receiving j)) p ≡ [] → (buffer j p).queue.len < (buffer j p).limit → b ≤ duration_limit → TimeOut a
       → NoneServed m k e (object (Receiving j)) × (held (buffer j (own (step m e).state k)).queue ≡ held (buffer j p).queue ++ (b ∷ []))
   -- 25 RECEIVE_BUFFER: the first message; the first waiting sender's message is let in at the end, none: the others move up
   pub receive_first : (b : ℕ) (l : List ℕ) (id : ℕ) (rest : List ℕ) (a : ℤ) → let p = own m k in
       let e = call_by k 25 (pos j) a (pos 0) (pos 0) in
-      p.mode ≡ 3 → Between 1 p.buffer_count j → held (buffer j p).queue ≡ b ∷ l → waiters (object (Sending j 0)) p ≡ id ∷ rest → TimeOut a
+      mode_number p.mode ≡ 3 → Between 1 p.buffer_count j → held (buffer j p).queue ≡ b ∷ l → waiters (object (Sending j 0)) p ≡ id ∷ rest → TimeOut a
       → FirstServed m k e (object (Sending j 0)) id rest (has m k id) × ((step m e).answer.value ≡ b) × (held (buffer j (own (step m e).state k)).queue ≡ l ++ (carried (process id p) ∷ []))
   pub receive_none : (b : ℕ) (l : List ℕ) (a : ℤ) → let p = own m k in
       let e = call_by k 25 (pos j) a (pos 0) (pos 0) in
-      p.mode ≡ 3 → Between 1 p.buffer_count j → held (buffer j p).queue ≡ b ∷ l → waiters (object (Sending j 0)) p ≡ [] → TimeOut a
+      mode_number p.mode ≡ 3 → Between 1 p.buffer_count j → held (buffer j p).queue ≡ b ∷ l → waiters (object (Sending j 0)) p ≡ [] → TimeOut a
       → NoneServed m k e (object (Sending j 0)) × ((step m e).answer.value ≡ b) × (held (buffer j (own (step m e).state k)).queue ≡ l)
   -- 27 SHOW: all waiters' waits end in queue order, and each has the message; it is shown
   pub show : (b : ℕ) → let e = call_by k 27 (pos j) (pos b) (pos 0) (pos 0) in
       Between 1 (own m k).blackboard_count j → b ≤ duration_limit
-      → AllServed m k e (object (Blackboard j)) (λ _. b) × (blackboard j (own (step m e).state k) ≡ record { name = (blackboard j (own m k)).name; shown = true; message = b })
+      → AllServed m k e (object (Blackboard j)) (λ _. b) × (blackboard j (own (step m e).state k) ≡ record { name = (blackboard j (own m k)).name; message = Some b })
 
 -- queuing channels: channel number i + 1; b is a message
 pub record ChannelCalls (m : Module) (k i : ℕ) : Type 0 where
@@ -196,12 +198,12 @@ pub record ChannelCalls (m : Module) (k i : ℕ) : Type 0 where
   -- caller's record stay
   pub send_first : (b id : ℕ) (rest : List ℕ) (a : ℤ) → let d = (channel m.table i).destination in
       let e = call_by k 30 (pos (i + 1)) (pos b) a (pos 0) in
-      (own m k).mode ≡ 3 → EndOf m.table (λ c. c.source) (i + 1) (k - 1) → waiters (object (Destination (i + 1))) (own m d) ≡ id ∷ rest → b ≤ duration_limit → TimeOut a
+      mode_number (own m k).mode ≡ 3 → EndOf m.table (λ c. c.source) (i + 1) (k - 1) → waiters (object (Destination (i + 1))) (own m d) ≡ id ∷ rest → b ≤ duration_limit → TimeOut a
       → FirstServed m d e (object (Destination (i + 1))) id rest b × (held (queue (step m e).state i) ≡ held (queue m i)) × (own (step m e).state k ≡ own m k)
   -- 31 RECEIVE where senders wait: the first message; the first waiting sender's is let in at the end
   pub receive_first : (b : ℕ) (l : List ℕ) (id : ℕ) (rest : List ℕ) (a : ℤ) → let d = (channel m.table i).source in
       let e = call_by k 31 (pos (i + 1)) a (pos 0) (pos 0) in
-      (own m k).mode ≡ 3 → EndOf m.table (λ c. c.destination) (i + 1) (k - 1) → held (queue m i) ≡ b ∷ l → waiters (object (Source (i + 1) 0)) (own m d) ≡ id ∷ rest → TimeOut a
+      mode_number (own m k).mode ≡ 3 → EndOf m.table (λ c. c.destination) (i + 1) (k - 1) → held (queue m i) ≡ b ∷ l → waiters (object (Source (i + 1) 0)) (own m d) ≡ id ∷ rest → TimeOut a
       → FirstServed m d e (object (Source (i + 1) 0)) id rest (has m d id) × ((step m e).answer.value ≡ b) × (held (queue (step m e).state i) ≡ l ++ (carried (process id (own m d)) ∷ [])) × (own (step m e).state k ≡ own m k)
 
 -- the whole

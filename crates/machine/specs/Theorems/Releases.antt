@@ -1,5 +1,6 @@
 -- Which start releases a periodic process: laws beside the proved list, for every reached record in which a call of partition k comes to
 -- its body. M, t and the windows are those of the record; q is t div M, x is t mod M.
+use Rattle.machine.specs.Mode.{mode_number}
 use Rattle.std.specs.Prelude.{ℕ, ◌+◌, ◌*◌, ◌/◌, ◌%◌, ◌≤◌, ◌<◌, ◌≡◌, true, false, length, get_or, pos}
 use Rattle.machine.specs.declared.Module.{Module}
 use Rattle.machine.specs.declared.Table.{Table}
@@ -49,6 +50,6 @@ pub record Releases (m : Module) (k : ℕ) : Type 0 where
   pub window : (id n r i : ℕ) → let T = m.table in
       let p = own m k in
       let e = call_by k 3 (pos id) (pos 0) (pos 0) (pos 0) in
-      p.mode ≡ 3 → Between 1 p.process_count id → (process id p).started ≡ false → (process id p).given.period ≡ Some n
+      mode_number p.mode ≡ 3 → Between 1 p.process_count id → (process id p).started ≡ false → (process id p).given.period ≡ Some n
       → (process id (own (step m e).state k)).times.release ≡ Some r → i < length (windows T) → (get_or (windows T) i no_window).start ≡ r % T.frame
       → ((get_or (windows T) i no_window).partition ≡ k) × ((get_or (windows T) i no_window).flag ≡ true)

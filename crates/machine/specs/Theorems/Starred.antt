@@ -2,6 +2,8 @@
 -- `step`: each for every reached record, table and event to which it applies, with what the answer and the record then hold; the worked
 -- example, its continuation and the examples of releases inside a frame, of the preemption lock, of ticks left, of a restart and of a line that is no
 -- event as computed runs from bytes. The premises speak of an event's numbers, the table, the record, the current partition and the running process.
+use Rattle.machine.specs.Mode.{mode_number}
+use Rattle.machine.specs.declared.Message.{Message}
 use Rattle.std.specs.Prelude.{ℕ, suc, ◌+◌, ◌-◌, ◌*◌, ◌/◌, ◌%◌, ◌≤◌, ◌<◌, ◌≡◌, Bool, true, false, cond, List, [], ◌∷◌, ◌++◌, map, take, ℤ, pos}
 use Rattle.machine.specs.declared.Given.{Given}
 use Rattle.machine.specs.declared.Process.{Process}
@@ -55,7 +57,7 @@ pub record Numbers : Type 0 where
 -- ---------------------------------------------------------------- creating
 -- neither 4 nor 5
 pub record Room (p : Partition) (count limit : ℕ) : Type 0 where
-  pub early : p.mode ≡ 3 → ⊥
+  pub early : mode_number p.mode ≡ 3 → ⊥
   pub less : count < limit
 
 -- no process, semaphore, event, buffer, blackboard of the partition has this name
@@ -129,18 +131,18 @@ pub record ReleasesAt (m : Module) (k r : ℕ) : Type 0 where
   -- START and DELAYED_START in NORMAL
   pub start : (id n : ℕ) → let p = own m k in
       let x = process id p in
-      p.mode ≡ 3 → Between 1 p.process_count id → x.started ≡ false → x.given.period ≡ Some n
+      mode_number p.mode ≡ 3 → Between 1 p.process_count id → x.started ≡ false → x.given.period ≡ Some n
       → Puts m (call_by k 3 (pos id) (pos 0) (pos 0) (pos 0)) 0 0 k (with_process id (awaits_release r x.times.delay x.given.base false false x) p.arrival p)
   pub delayed : (id n delay : ℕ) → let p = own m k in
       let x = process id p in
-      p.mode ≡ 3 → Between 1 p.process_count id → x.started ≡ false → x.given.period ≡ Some n → delay < n
+      mode_number p.mode ≡ 3 → Between 1 p.process_count id → x.started ≡ false → x.given.period ≡ Some n → delay < n
       → Puts m (call_by k 4 (pos id) (pos delay) (pos 0) (pos 0)) 0 0 k (with_process id (awaits_release (r + delay) x.times.delay x.given.base false false x) p.arrival p)
   -- and on entering NORMAL
   pub entered : (id n : ℕ) → let p = own m k in
       let x = process id p in
       let e = call_by k 1 (pos 3) (pos 0) (pos 0) (pos 0) in
-      (p.mode ≡ 3 → ⊥) → Between 1 p.process_count id → x.wait ≡ Normal → x.given.period ≡ Some n
-      → ((step m e).answer.code ≡ 0) × ((own (step m e).state k).mode ≡ 3)
+      (mode_number p.mode ≡ 3 → ⊥) → Between 1 p.process_count id → x.wait ≡ Normal → x.given.period ≡ Some n
+      → ((step m e).answer.code ≡ 0) × (mode_number (own (step m e).state k).mode ≡ 3)
       × (process id (own (step m e).state k) ≡ awaits_release (r + x.times.delay) x.times.delay x.current x.suspended false x)
 
 -- ---------------------------------------------------------------- the corners
@@ -184,12 +186,12 @@ pub record Corners (m : Module) (k : ℕ) : Type 0 where
       × Refuses m (call_by k 2 (pos name) (pos priority) (pos (M + 1)) e) 3
   -- delay period − 1/period: outside NORMAL, and in NORMAL
   pub delay_early : (id n : ℕ) → let p = own m k in
-      Between 1 p.process_count id → (process id p).started ≡ false → (process id p).given.period ≡ Some n → (p.mode ≡ 3 → ⊥)
+      Between 1 p.process_count id → (process id p).started ≡ false → (process id p).given.period ≡ Some n → (mode_number p.mode ≡ 3 → ⊥)
       → Puts m (call_by k 4 (pos id) (pos (n - 1)) (pos 0) (pos 0)) 0 0 k (with_process id (awaits_normal (n - 1) (process id p)) p.arrival p)
       × Refuses m (call_by k 4 (pos id) (pos n) (pos 0) (pos 0)) 3
   pub delay_normal : (id n r : ℕ) → let p = own m k in
       let x = process id p in
-      Between 1 p.process_count id → x.started ≡ false → x.given.period ≡ Some n → p.mode ≡ 3 → Release m.table k m.t r
+      Between 1 p.process_count id → x.started ≡ false → x.given.period ≡ Some n → mode_number p.mode ≡ 3 → Release m.table k m.t r
       → Puts m (call_by k 4 (pos id) (pos (n - 1)) (pos 0) (pos 0)) 0 0 k
       (with_process id (awaits_release (r + (n - 1)) x.times.delay x.given.base false false x) p.arrival p)
       × Refuses m (call_by k 4 (pos id) (pos n) (pos 0) (pos 0)) 3
@@ -199,34 +201,34 @@ pub record Corners (m : Module) (k : ℕ) : Type 0 where
   -- age refresh/refresh + 1, of a sampling channel
   pub age : (i : ℕ) → let x = message m (i - 1) in
       let refresh = (channel m.table (i - 1)).refresh in
-      Between 1 m.table.channel_count i → (channel m.table (i - 1)).size ≡ 0 → (channel m.table (i - 1)).destination ≡ k → x.present ≡ true
-      → (m.t ≡ x.written + refresh → Gives m (call_by k 22 (pos i) (pos 0) (pos 0) (pos 0)) 0 x.value (Some 1) m)
-      × (m.t ≡ x.written + refresh + 1 → Gives m (call_by k 22 (pos i) (pos 0) (pos 0) (pos 0)) 0 x.value (Some 0) m)
+      Between 1 m.table.channel_count i → (channel m.table (i - 1)).size ≡ 0 → (channel m.table (i - 1)).destination ≡ k → (y : Message) → x ≡ Some y
+      → (m.t ≡ y.written + refresh → Gives m (call_by k 22 (pos i) (pos 0) (pos 0) (pos 0)) 0 y.value (Some 1) m)
+      × (m.t ≡ y.written + refresh + 1 → Gives m (call_by k 22 (pos i) (pos 0) (pos 0) (pos 0)) 0 y.value (Some 0) m)
   -- timeout 0: SUSPEND_SELF changes nothing and TIMED_WAIT puts the caller last (both at level 0 of the preemption lock), WAIT_SEMAPHORE and
   -- WAIT_EVENT answer 2 where they would wait, and succeed where they need not; the calls of document 02 that wait answer 2 too (30 and 31, and the three
   -- while preemption is locked: `EachCall`)
   pub suspend_self : let p = own m k in
-      p.mode ≡ 3 → p.level ≡ 0 → (process (running p) p).given.period ≡ None
+      mode_number p.mode ≡ 3 → p.level ≡ 0 → (process (running p) p).given.period ≡ None
       → Gives m (call_by k 8 (pos 0) (pos 0) (pos 0) (pos 0)) 0 0 (Some 0) m
   pub timed_wait : let p = own m k in
-      p.mode ≡ 3 → p.level ≡ 0
+      mode_number p.mode ≡ 3 → p.level ≡ 0
       → Puts m (call_by k 9 (pos 0) (pos 0) (pos 0) (pos 0)) 0 0 k (with_processes p.processes p.process_count (at_end (running p) p.arrival) p.waiting p)
   pub wait_semaphore : (j : ℕ) → let p = own m k in
-      p.mode ≡ 3 → Between 1 p.semaphore_count j
+      mode_number p.mode ≡ 3 → Between 1 p.semaphore_count j
       → ((semaphore j p).value ≡ 0 → Refuses m (call_by k 15 (pos j) (pos 0) (pos 0) (pos 0)) 2)
       × ((n : ℕ) → (semaphore j p).value ≡ suc n → Puts m (call_by k 15 (pos j) (pos 0) (pos 0) (pos 0)) 0 0 k (with_semaphore_at j n p))
   pub wait_event : (j : ℕ) → let p = own m k in
-      p.mode ≡ 3 → Between 1 p.event_count j
+      mode_number p.mode ≡ 3 → Between 1 p.event_count j
       → ((event j p).up ≡ false → Refuses m (call_by k 20 (pos j) (pos 0) (pos 0) (pos 0)) 2)
       × ((event j p).up ≡ true → Gives m (call_by k 20 (pos j) (pos 0) (pos 0) (pos 0)) 0 0 (Some 0) m)
   pub send_buffer : (j x : ℕ) → let p = own m k in
-      p.mode ≡ 3 → Between 1 p.buffer_count j → x ≤ duration_limit → (buffer j p).queue.len ≡ (buffer j p).limit → Refuses m (call_by k 24 (pos j) (pos x) (pos 0) (pos 0)) 2
+      mode_number p.mode ≡ 3 → Between 1 p.buffer_count j → x ≤ duration_limit → (buffer j p).queue.len ≡ (buffer j p).limit → Refuses m (call_by k 24 (pos j) (pos x) (pos 0) (pos 0)) 2
   pub receive_buffer : (j : ℕ) → let p = own m k in
-      p.mode ≡ 3 → Between 1 p.buffer_count j → (buffer j p).queue.len ≡ 0 → Refuses m (call_by k 25 (pos j) (pos 0) (pos 0) (pos 0)) 2
+      mode_number p.mode ≡ 3 → Between 1 p.buffer_count j → (buffer j p).queue.len ≡ 0 → Refuses m (call_by k 25 (pos j) (pos 0) (pos 0) (pos 0)) 2
   pub read_blackboard : (j : ℕ) → let p = own m k in
-      p.mode ≡ 3 → Between 1 p.blackboard_count j
-      → ((blackboard j p).shown ≡ false → Refuses m (call_by k 28 (pos j) (pos 0) (pos 0) (pos 0)) 2)
-      × ((blackboard j p).shown ≡ true → Gives m (call_by k 28 (pos j) (pos 0) (pos 0) (pos 0)) 0 (blackboard j p).message (Some 0) m)
+      mode_number p.mode ≡ 3 → Between 1 p.blackboard_count j
+      → ((blackboard j p).message ≡ None → Refuses m (call_by k 28 (pos j) (pos 0) (pos 0) (pos 0)) 2)
+      × ((x : ℕ) → (blackboard j p).message ≡ Some x → Gives m (call_by k 28 (pos j) (pos 0) (pos 0) (pos 0)) 0 x (Some 0) m)
   -- SIGNAL at max
   pub signal : (j : ℕ) → let p = own m k in
       Between 1 p.semaphore_count j → (semaphore j p).value ≡ (semaphore j p).max
@@ -235,7 +237,7 @@ pub record Corners (m : Module) (k : ℕ) : Type 0 where
   pub periodic_wait : (r n : ℕ) → let p = own m k in
       let id = running p in
       let x = process id p in
-      p.mode ≡ 3 → p.level ≡ 0 → x.times.release ≡ Some r → x.given.period ≡ Some n
+      mode_number p.mode ≡ 3 → p.level ≡ 0 → x.times.release ≡ Some r → x.given.period ≡ Some n
       → Puts m (call_by k 10 (pos 0) (pos 0) (pos 0) (pos 0)) 7 0 k (with_process id (awaits_next (r + n) x) (without id p.arrival) p)
 
 -- ---------------------------------------------------------------- mistakes to shut out
@@ -270,7 +272,7 @@ pub record Ticks (t : ℕ) (x y : Process) : Type 0 where
 pub record Mistakes : Type 0 where
   -- freezing timers outside a partition's window: a tick acts on every NORMAL partition. An ended wait making a suspended process READY:
   -- not by a tick
-  pub frozen : (m : Module) → Reached m → m.t < time_limit → (k id : ℕ) → Between 1 m.table.size k → (own m k).mode ≡ 3 → Between 1 (own m k).process_count id
+  pub frozen : (m : Module) → Reached m → m.t < time_limit → (k id : ℕ) → Between 1 m.table.size k → mode_number (own m k).mode ≡ 3 → Between 1 (own m k).process_count id
       → ((step m tick).answer.code ≡ 0) × Ticks (m.t + 1) (process id (own m k)) (process id (own (step m tick).state k))
   -- showing a neighbour's running process: whatever the code, it reads 0 where the event's partition is neither 0 nor current
   pub neighbour : (m : Module) (e : EventT) → (e.partition ≡ pos 0 → ⊥) → (e.partition ≡ pos (current (step m e).state) → ⊥) → (step m e).answer.running ≡ 0
@@ -299,10 +301,10 @@ pub record Mistakes : Type 0 where
   -- an accepted mode 0, 1 or 2: code 0, nothing created in the partition, no message on a channel into it, and on every other channel the
   -- message that was there; each queue into it holds the messages of the first who waited to send, as many as it holds at most, and every other
   -- queue what it held; the waits of those who are let in end, and their marks stay
-  pub restarted : (m : Module) (k : ℕ) → Calling m k → (mode : ℕ) → mode ≤ 2 → (mode ≡ 2 → (own m k).mode ≡ 1 → ⊥)
+  pub restarted : (m : Module) (k : ℕ) → Calling m k → (mode : ℕ) → mode ≤ 2 → (mode ≡ 2 → mode_number (own m k).mode ≡ 1 → ⊥)
       → let e = call_by k 1 (pos mode) (pos 0) (pos 0) (pos 0) in
       ((step m e).answer.code ≡ 0) × (own (step m e).state k ≡ nothing_created mode)
-      × ((i : ℕ) → i < m.table.channel_count → (channel m.table i).destination ≡ k → (message (step m e).state i).present ≡ false)
+      × ((i : ℕ) → i < m.table.channel_count → (channel m.table i).destination ≡ k → message (step m e).state i ≡ None)
       × ((i : ℕ) → ((channel m.table i).destination ≡ k → ⊥) → message (step m e).state i ≡ message m i)
       × ((i : ℕ) → i < m.table.channel_count → ((channel m.table i).size ≡ 0 → ⊥) → (channel m.table i).destination ≡ k
       → let c = channel m.table i in

@@ -1,5 +1,6 @@
 -- What reading a table gives, line by line, on the six numbers of each line.
-use Rattle.std.specs.Prelude.{ℕ, suc, ◌+◌, ◌≤◌, ◌<◌, ◌≡◌, Bool, false, cond, not, ◌&&◌, true, List, [], ◌∷◌, set, replicate, get_or, length, leb, ltb, eqb}
+use Rattle.std.specs.Prelude.{None}
+use Rattle.std.specs.Prelude.{ℕ, suc, ◌+◌, ◌≤◌, ◌<◌, ◌≡◌, Bool, cond, not, ◌&&◌, true, List, [], ◌∷◌, set, replicate, get_or, length, leb, ltb, eqb}
 use Rattle.machine.specs.declared.Numbers.{Numbers}
 use Rattle.machine.specs.declared.Draft.{Draft}
 use Rattle.machine.specs.declared.Reading.{Reading}
@@ -97,4 +98,4 @@ pub record TableLines : Type 0 where
   pub flagged_if : (P : ℕ) (ws : List Window) → ((k : ℕ) → Between 1 P k → FlaggedIn ws k) → flagged_from P 1 ws ≡ true
   -- the record then: t 0, every partition in mode 1 with nothing created, no message
   pub fresh : (T : Table) (i : ℕ) → i < 8 → ((fresh_module T).table ≡ T) × ((fresh_module T).t ≡ 0) × (part (fresh_module T) i ≡ blank_partition 1)
-  pub empty : (T : Table) (i : ℕ) → i < 16 → ((message (fresh_module T) i).present ≡ false) × (held (queue (fresh_module T) i) ≡ [])
+  pub empty : (T : Table) (i : ℕ) → i < 16 → (message (fresh_module T) i ≡ None) × (held (queue (fresh_module T) i) ≡ [])

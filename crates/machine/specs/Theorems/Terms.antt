@@ -1,4 +1,5 @@
 -- The words that the claims share with the machine's definitions, each said literally once.
+use Rattle.machine.specs.Mode.{mode_numbered}
 use Rattle.std.specs.Prelude.{ℕ, ◌≤◌, ◌<◌, ◌≡◌, true, false, replicate}
 use Rattle.machine.specs.declared.Process.{Process}
 use Rattle.machine.specs.declared.Partition.{Partition}
@@ -63,9 +64,9 @@ blank_partition mode =
     let e : EventState = record { name = 0; up = false } in
     let q : Queue = record { items = replicate 16 0; len = 0 } in
     let b : Buffer = record { name = 0; limit = 0; queue = q } in
-    let w : BlackboardT = record { name = 0; shown = false; message = 0 } in
+    let w : BlackboardT = record { name = 0; message = None } in
     record {
-      mode = mode;
+      mode = mode_numbered mode;
       level = 0;
       holder = 0;
       processes = replicate 16 nobody;

@@ -1,5 +1,9 @@
 -- What holds of every record that a run reaches, said once, and the plain definitions that such records meet. Nothing of the machine
 -- rests on it.
+use Rattle.machine.specs.Mode.{mode_number}
+use Rattle.machine.specs.Decisions.{blank_message}
+use Rattle.std.specs.Prelude.{Option}
+use Rattle.std.specs.Prelude.{unwrap_or}
 use Rattle.std.specs.Prelude.{ℕ, ◌+◌, ◌-◌, ◌%◌, ◌≤◌, ◌<◌, ◌≡◌, Bool, true, false, cond, ◌&&◌, ◌||◌, List, [], ◌∷◌, ◌++◌, ◌⊎◌, length, eqb}
 use Rattle.machine.specs.Time.{Time}
 use Rattle.std.specs.Prelude.{None, Some}
@@ -246,8 +250,7 @@ pub record SoundBuffer (b : Buffer) : Type 0 where
 
 pub record SoundBlackboard (b : BlackboardT) : Type 0 where
   pub name : Between 1 name_limit b.name
-  pub message : b.message ≤ duration_limit
-  pub blank : b.shown ≡ false → b.message ≡ 0
+  pub message : unwrap_or b.message 0 ≤ duration_limit
 
 -- a list with room for `limit`, of which n have been created; an id past these names the default
 pub record Numbered {A : Type 0} (limit : ℕ) (d : A) (l : List A) (n : ℕ) : Type 0 where
@@ -296,7 +299,7 @@ abbrev pub LockIn : Partition → Type 0
 LockIn p = SoundLock p.level p.holder (normal_mode p) (ready (process p.holder p))
 
 pub record Valid (frame t : ℕ) (p : Partition) : Type 0 where
-  pub mode : p.mode ≤ mode_limit
+  pub mode : mode_number p.mode ≤ mode_limit
   pub lock : LockIn p
   pub lists : ListedIn p
   pub objects : ObjectsIn p
@@ -312,9 +315,9 @@ pub record SoundContext (c : Context) (p : Partition) : Type 0 where
   pub caller : c.caller ≡ running p
   pub calls : no_caller p ≡ false
 
-pub record SoundMessage (t : ℕ) (x : Message) : Type 0 where
-  pub value : x.value ≤ duration_limit
-  pub written : x.written ≤ t
+pub record SoundMessage (t : ℕ) (x : Option Message) : Type 0 where
+  pub value : (unwrap_or x blank_message).value ≤ duration_limit
+  pub written : (unwrap_or x blank_message).written ≤ t
 
 -- ---------------------------------------------------------------- decisions
 -- the next process, DORMANT
@@ -377,8 +380,8 @@ SoundDecision c p (Unchanged value extra) = SoundValue value extra
 SoundDecision c p Ticked = Unit {0}
 SoundDecision c p (Blocked id x) = SoundChange c p (Stored id x)
 SoundDecision c p (Changed a b value) = SoundChange c p a × SoundChange c (applied a p) b × (value ≤ number_limit)
-SoundDecision c p (Restarted mode) = mode ≤ mode_limit
-SoundDecision c p (Written i x) = SoundMessage c.time x
+SoundDecision c p (Restarted mode) = mode_number mode ≤ mode_limit
+SoundDecision c p (Written i x) = SoundMessage c.time (Some x)
 SoundDecision c p (Passed i a value) = value ≤ number_limit
 
 -- the running process id where preemption is not locked: READY, every member of the arrival list before it of smaller current priority, every

@@ -1,6 +1,6 @@
 use mathlib.Core.Path.{◌≡◌, refl, ap, sym, ◌∙◌}
 use native.Mathlib.Omega.{arith}
-use borrow.Author.Tests.{eq-eqb, ne_eqb, lt-ltb, le-ltb}
+use borrow.Author.Tests.{not-true, not-false, eq-eqb, ne_eqb, lt-ltb, le-ltb}
 use Rattle.machine.specs.declared.Choice.{Choice}
 use Rattle.machine.specs.Partition.{running, process}
 use Rattle.machine.proofs.Folds.{chosen_more, chosen_done}
@@ -8,13 +8,13 @@ use Rattle.partition.proofs.Laws.{read_in, read_out}
 use Rattle.partition.proofs.running_process.Goals as goal
 use Rattle.partition.proofs.running_process.Goals.{then-k-lt-PROCESSES, else-k-lt-PROCESSES}
 
-pub returns-then-p-ne3 : goal.returns-then-p-ne3
+pub returns-then-not-is_normal : goal.returns-then-not-is_normal
 unfolding running
-returns-then-p-ne3 c = rw (ne_eqb _ _ c.if-p-ne3.true)
+returns-then-not-is_normal c = rw (← c.is_normal.ensures, not-true _ c.if-not-is_normal.true-raw)
 
 pub returns-then-p-gt0 : goal.returns-then-p-gt0
 unfolding running
-returns-then-p-gt0 c = rw (eq-eqb _ _ c.if-p-ne3.false, lt-ltb _ _ c.if-p-gt0.true)
+returns-then-p-gt0 c = rw (← c.is_normal.ensures, not-false _ c.if-not-is_normal.false-raw, lt-ltb _ _ c.if-p-gt0.true)
 
 pub loop-i-init : goal.loop-i-init
 loop-i-init c = (omega arith, refl)
@@ -30,4 +30,4 @@ loop-i-preserved c = let p = c.args.p in let x : c.if-k-lt-PROCESSES.x ≡ proce
 
 pub returns : goal.returns
 unfolding running
-returns c = let p = c.args.p in rw (eq-eqb _ _ c.if-p-ne3.false, le-ltb _ _ c.if-p-gt0.false) (ap (λ (x : Choice). x.id) (sym (chosen_done p.arrival c.loop-i.i p c.loop-i.best (omega (arith, c.count-n.ensures.0))) ∙ c.loop-i.invariant.1))
+returns c = let p = c.args.p in rw (← c.is_normal.ensures, not-false _ c.if-not-is_normal.false-raw, le-ltb _ _ c.if-p-gt0.false) (ap (λ (x : Choice). x.id) (sym (chosen_done p.arrival c.loop-i.i p c.loop-i.best (omega (arith, c.count-n.ensures.0))) ∙ c.loop-i.invariant.1))

@@ -1,7 +1,7 @@
 use Prim.Native.Nat.{ℕ, ◌+◌}
 use mathlib.Core.Path.{◌≡◌, refl, sym, ap, ◌∙◌}
 use native.Mathlib.Omega.{arith}
-use borrow.Author.Tests.{eq-eqb, ne_eqb}
+use borrow.Author.Tests.{not-true, not-false, eq-eqb, ne_eqb}
 use Rattle.machine.specs.Process.{ticked}
 use Rattle.machine.specs.Partition.{each_from, tick_partition, process}
 use Rattle.machine.proofs.Folds.{each_more, each_done}
@@ -9,9 +9,9 @@ use Rattle.partition.proofs.Laws.{each_start, read_in, read_out, untouched}
 use Rattle.partition.proofs.ticked.Goals as goal
 use Rattle.partition.proofs.ticked.Goals.{then-k-lt-PROCESSES, else-k-lt-PROCESSES}
 
-pub returns-then-p-ne3 : goal.returns-then-p-ne3
+pub returns-then-not-is_normal : goal.returns-then-not-is_normal
 unfolding tick_partition
-returns-then-p-ne3 c = rw (ne_eqb _ _ c.if-p-ne3.true)
+returns-then-not-is_normal c = rw (← c.is_normal.ensures, not-true _ c.if-not-is_normal.true-raw)
 
 pub loop-id-init : goal.loop-id-init
 loop-id-init c = (omega arith, each_start _ _ 0 _ refl)
@@ -37,5 +37,5 @@ unfolding tick_partition
 returns c =
     let a = c.args in
     let l = c.loop-id in
-    rw (eq-eqb _ _ c.if-p-ne3.false)
+    rw (← c.is_normal.ensures, not-false _ c.if-not-is_normal.false-raw)
     (sym (each_done c.wide-n.result l.id l.q (ticked a.t) (omega arith)) ∙ l.invariant.1 ∙ ap (λ (x : ℕ). each_from (ticked a.t) x 1 a.p) c.wide-n.ensures)

@@ -3,4 +3,4 @@ use Rattle.partition.proofs.nothing_created.Goals as goal
 
 pub returns : goal.returns
 unfolding empty_partition
-returns c = rw c.empty-p.ensures
+returns c = rw c.empty.ensures

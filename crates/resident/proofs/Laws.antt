@@ -9,6 +9,7 @@ use lib.Dec.{eqb}
 use lib.ListN.{length, get_or, set, take, length-set, length-map, get_or-map}
 use lib.Seq.{take_all}
 use borrow.Author.Tests.{ne_eqb}
+use Rattle.machine.specs.Mode.{mode_number}
 use Rattle.machine.specs.Ids.{members, kept, kept_if, follow}
 use Rattle.machine.specs.Limits.{process_limit}
 use Rattle.machine.specs.Partition.{within, by_id, process, preferred, locked, chosen, running, waits_on, waiters, first_waiter, with_processes, stored}
@@ -73,7 +74,7 @@ module _ {p : Partition} {currents objects : List ℕ} (m : Mirrors p currents o
 
   pub mirrors_running : running_by p.mode p.level p.holder p.arrival currents ≡ running p
   unfolding running
-  mirrors_running = ap (λ (c : Choice). cond (eqb p.mode 3) (cond (locked p.level) p.holder c.id) 0) (chosen_by_holds (record { id = 0; priority = 0 }) (members p.arrival))
+  mirrors_running = ap (λ (c : Choice). cond (eqb (mode_number p.mode) 3) (cond (locked p.level) p.holder c.id) 0) (chosen_by_holds (record { id = 0; priority = 0 }) (members p.arrival))
 
   -- ---------------------------------------------------------------- what keeps them
   -- the processes stay

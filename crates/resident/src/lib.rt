@@ -8,7 +8,7 @@ ghost use Rattle.machine.specs.Ids.{ids_of};
 ghost use Rattle.machine.specs.Partition.{by_id};
 ghost use Rattle.resident.specs.Mirrors.{current_of, object_of, filled, is_on, queue_on, first_on, running_by};
 
-use machine::{Ids, Module, Partition, Process};
+use machine::{Ids, Mode, Module, Partition, Process};
 
 // The object that a process waits for, 0 for none.
 pub fn object_of(x: Process) -> u16
@@ -38,7 +38,7 @@ fn is_on(objects: &[u16; Module::PROCESSES], id: u8, object: u64) -> bool
 
 // The running process of a partition in this mode, with this lock and this arrival list. While preemption is locked, the holder.
 pub fn running(
-    mode: u8,
+    mode: Mode,
     level: u8,
     holder: u8,
     arrival: Ids,
@@ -46,7 +46,7 @@ pub fn running(
 ) -> u8
     ensures { result ≡ running_by mode level holder arrival currents.now }
 {
-    if mode != 3 {
+    if !mode.is_normal() {
         return 0;
     }
     if 0 < level {

@@ -3,31 +3,19 @@
 use Prim.Native.Nat.{ℕ, suc, ◌+◌, ◌≤◌, ◌<◌}
 use mathlib.Core.Path.{◌≡◌, refl, ap, sym, ◌∙◌}
 use mathlib.Core.Bool.{Bool, true, false, cond, not, ◌&&◌, true≢false}
-use mathlib.Core.List.{List, [], ◌∷◌, ◌++◌}
 use native.Mathlib.Omega.{arith}
 use native.Mathlib.Numerals.{add-one}
-use lib.Dec.{leb, ltb, eqb}
+use lib.Dec.{leb, ltb}
 use lib.ListN.{length, get_or-eq_default}
-use borrow.Author.Tests.{lt-ltb, ltb-true, ne_eqb, leb-true, leb-false, not-false}
+use borrow.Author.Tests.{lt-ltb, ne_eqb, leb-true, leb-false, not-false}
 use Rattle.machine.specs.declared.Channel.{Channel}
-use Rattle.machine.specs.declared.Context.{Context}
-use Rattle.machine.specs.declared.Decision.{Decision}
-use Rattle.machine.specs.declared.Decision.TheVariants.{Refused, Passed as PassedOn}
-use Rattle.machine.specs.declared.Field.{Field}
 use Rattle.machine.specs.declared.Module.{Module}
-use Rattle.machine.specs.declared.Partition.{Partition}
-use Rattle.machine.specs.declared.Port.{Port}
 use Rattle.machine.specs.declared.Table.{Table}
-use Rattle.machine.specs.declared.Transfer.{Transfer}
-use Rattle.machine.specs.declared.Wait.TheVariants.{Source, Destination}
 use Rattle.machine.specs.Limits.{partition_limit, channel_limit}
-use Rattle.machine.specs.Fields.{is_message, is_timeout, number_of}
-use Rattle.machine.specs.Messages.{sent, received}
-use Rattle.machine.specs.Decisions.{checked, code_of, start_mode, wait_checks, queued, awaiting}
 use Rattle.machine.specs.Partition.{within}
 use Rattle.machine.specs.Module.{no_channel, channel}
-use Rattle.machine.specs.Channels.{queuing, queuing_at, sees_traffic, queuing_port, channel_checks, send, receive, leads_into, refilled_at, refilled_to}
-use Rattle.machine.proofs.Tests.{codes_in, Passed, and_left, and_right}
+use Rattle.machine.specs.Channels.{queuing, queuing_at, sees_traffic, leads_into, refilled_at, refilled_to}
+use Rattle.machine.proofs.Tests.{and_left, and_right}
 use Rattle.machine.proofs.Bounds.{within_out}
 use Rattle.machine.proofs.Either.{either}
 use Rattle.machine.proofs.Reached.{refilled_table}

@@ -1,17 +1,15 @@
 -- A number past those of the calls. Assumes nothing.
-use Prim.Native.Nat.{ℕ, zero, suc, ◌+◌, ◌*◌, ◌≤◌, ◌<◌}
-use mathlib.Core.Bool.{Bool, false, cond, ◌&&◌, ◌||◌}
-use mathlib.Core.Path.{◌≡◌, ◌∙◌}
+use Prim.Native.Nat.{ℕ, zero, suc, ◌≤◌, ◌<◌}
+use mathlib.Core.Bool.{false}
+use mathlib.Core.Path.{◌≡◌}
 use lib.Dec.{eqb}
 use native.Mathlib.Omega.{arith}
 use Rattle.machine.specs.Services.{no_service, service_of}
 use Rattle.machine.specs.Limits.{call_limit}
-use Rattle.machine.specs.Partition.{first_waiter}
 use Rattle.machine.specs.declared.Field.{Field}
 use Rattle.machine.specs.declared.Partition.{Partition}
 use Rattle.machine.proofs.Applied.{no_service_holds}
 use Rattle.machine.proofs.Tests.{or_left, or_right}
-use borrow.Author.Tests.{ne_eqb}
 use Rattle.services.specs.Looked.{taken_for, creates}
 
 -- n is none of the numbers up to k
@@ -26,14 +24,6 @@ past (suc k) n h lo = let l = past k n h.0 lo in let d = h.1 in omega (arith, l,
 
 pub none_left : (n : ℕ) → NoneTo call_limit n → service_of n ≡ no_service
 none_left n h = no_service_holds n (λ lo hi. let l = past call_limit n h lo in omega (arith, l))
-
--- 9 by the mode that is shown
-pub shown_caller : (b : Bool) (m n k : ℕ) → b ≡ (eqb m 0 || (eqb m 3 && eqb k 0)) → m ≡ n → b ≡ (eqb n 0 || (eqb n 3 && eqb k 0))
-shown_caller b m n k e h = rw (← h) e
-
--- who waits first for an object, which is not the number 0
-pub waiter_on : (k n : ℕ) (p : Partition) {v : ℕ} → v ≡ cond (eqb (256 * suc k + n) 0) 0 (first_waiter (256 * suc k + n) p) → v ≡ first_waiter (256 * suc k + n) p
-waiter_on k n p e = e ∙ rw (ne_eqb (256 * suc k + n) 0 (λ z. omega (arith, z)))
 
 -- a call that creates nothing looks at no name
 pub none_created : (n : ℕ) → creates n ≡ false → (name : Field) (p : Partition) → taken_for n name p ≡ false

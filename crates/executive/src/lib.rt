@@ -5,24 +5,27 @@ ghost use Rattle.std.specs.Prelude.{◌≡◌, ◌+◌, ◌-◌, ◌≤◌, leng
 ghost use Rattle.std.proofs.lemmas.List.Edits.{sets};
 ghost use Rattle.machine.specs.Limits.{process_limit};
 ghost use Rattle.machine.specs.Partition.{nothing_created, applied, stored};
+ghost use Rattle.machine.specs.Mode.{mode_number};
+ghost use Rattle.machine.specs.Module.{channel, message};
+ghost use Rattle.machine.specs.Channels.{port_at, traffic_at};
 ghost use Rattle.machine.specs.Step.{restarted, step};
 ghost use Rattle.machine.specs.Replay.{time_number, answer_numbers, unread};
 ghost use Rattle.machine.specs.Table.{read_table};
 ghost use Rattle.machine.specs.Windows.{waiting_of};
 ghost use Rattle.events.specs.Plans.{no_answer};
 ghost use Rattle.resident.specs.Mirrors.{Mirrors};
-ghost use Rattle.machine.specs.declared.Context.{Context as ContextT};
+ghost use Rattle.resident.specs.Settled.{settled};
 ghost use Rattle.machine.specs.Fields.{number_of};
 ghost use Rattle.decisions.specs.Views.{Shows};
 ghost use Rattle.services.specs.Looked.{taken_for, waiter_for};
 ghost use Rattle.executive.specs.Executive.{turned, opened};
+ghost use Rattle.executive.specs.Places.{HasPlaces};
 ghost use Rattle.executive.specs.Lists.{six, event_at, after_list, answered_list, last_answer, events_in};
 
-use channels::Messages;
 use decisions::View;
 use machine::{
-    Answer, Buffer, Change, Context, Decision, Event, Field, Module, Partition, Process, Time,
-    Waiting,
+    Answer, Buffer, Change, Channel, Context, Decision, Event, Field, Mode, Module, Partition,
+    Port, Process, Time, Traffic, Waiting,
 };
 
 #[derive(Clone, Copy)]
@@ -47,26 +50,15 @@ pub struct Opening {
 }
 
 // ---------------------------------------------------------------- a restart
-fn one_less(k: u32) -> u32
-    ensures { result ≡ k - 1 }
-{
-    if k == 0 { 0 } else { k - 1 }
-}
-
 // Partition k is restarted in this mode: nothing is created, the messages on channels into it are erased, and the queues into it filled anew.
-fn restart(m: Module, k: u32, mode: u8) -> Module
-    ensures { result ≡ restarted k (nothing_created mode) m }
+fn restart(m: Module, k: u32, mode: Mode) -> Module
+    ensures { result ≡ restarted k (nothing_created (mode_number mode)) m }
 {
     let mut r = m;
-    let table = r.table;
-    let items = r.messages;
-    let e = channels::erase_into(Messages { items }, table, k);
-    let kept = e.items;
-    r.messages = kept;
-    let slot = one_less(k) as usize;
+    channels::erase_into(&mut r.messages, r.table, k);
+    let slot = k.saturating_sub(1) as usize;
     if slot < Module::PARTITIONS {
-        let p = partition::nothing_created(mode);
-        r.partitions[slot] = p;
+        r.partitions[slot] = partition::nothing_created(mode);
     }
     queuing::refill(r, k)
 }
@@ -232,11 +224,12 @@ fn make_changes(
 fn view_of(
     here: &Partition,
     objects: &[u16; Module::PROCESSES],
-    run: u8,
+    context: Context,
     call: u32,
     a: Field,
 ) -> View
-    ensures shows { (c : ContextT) → c.caller ≡ run → Shows result c (number_of a) here.now }
+    ensures context { result.context ≡ context }
+    ensures shows { Shows result (number_of a) here.now }
     ensures taken { result.taken ≡ taken_for call a here.now }
     ensures waiter { (currents : List ℕ) → Mirrors here.now currents objects.now → result.waiter ≡ waiter_for call (number_of a) here.now }
 {
@@ -249,6 +242,7 @@ fn view_of(
     };
     let buffer = partition::by_id(&here.buffers, id, Buffer::blank());
     View {
+        context,
         mode: here.mode,
         level: here.level,
         holder: here.holder,
@@ -259,7 +253,7 @@ fn view_of(
         blackboards: here.blackboard_count,
         taken: services::does_create(call) && services::is_taken(*here, call, a),
         named: partition::by_id(&here.processes, id, Process::blank()),
-        calling: partition::by_id(&here.processes, run as u32, Process::blank()),
+        calling: partition::by_id(&here.processes, context.caller as u32, Process::blank()),
         semaphore: partition::by_id(&here.semaphores, id, objects::no_semaphore()),
         event: partition::by_id(&here.events, id, objects::no_event()),
         limit: buffer.limit,
@@ -269,6 +263,50 @@ fn view_of(
         waiter,
         served: partition::by_id(&here.processes, waiter as u32, Process::blank()),
     }
+}
+
+// What partition `own` sees of the traffic of the channel at a place, where the partition at this spot of the module lies here.
+fn traffic_for(
+    m: &Module,
+    here: &Partition,
+    spot: usize,
+    own: u32,
+    place: usize,
+    line: Channel,
+) -> Traffic
+    requires { HasPlaces m.now }
+    ensures { line ≡ channel m.now.table place → result ≡ traffic_at (settled spot here.now m.now) own place }
+{
+    let seen = queuing::seen_slot(m.table.channel_count, line, own, place);
+    if Module::PARTITIONS <= seen {
+        return queuing::no_traffic();
+    }
+    let Some(queue) = m.queues.get(place) else {
+        return queuing::no_traffic();
+    };
+    let object = queuing::other_object(line, own, place);
+    if seen == spot {
+        queuing::traffic_of(*queue, object, *here)
+    } else {
+        queuing::traffic_of(*queue, object, m.partitions[seen])
+    }
+}
+
+// What partition `own` sees of the channel that field a names.
+fn port_of(m: &Module, here: &Partition, spot: usize, own: u32, a: Field) -> Port
+    requires { HasPlaces m.now }
+    ensures { result ≡ port_at m.now.table own a (message m.now (number_of a - 1)) (traffic_at (settled spot here.now m.now) own (number_of a - 1)) }
+{
+    let place = channels::place_of(a) as usize;
+    let line = m
+        .table
+        .channels
+        .get(place)
+        .copied()
+        .unwrap_or(channels::no_channel());
+    let held = m.messages.get(place).copied().unwrap_or(None);
+    let traffic = traffic_for(m, here, spot, own, place, line);
+    channels::port_at(m.table.channel_count, line, own, a, held, traffic)
 }
 
 impl Executive {
@@ -345,26 +383,6 @@ impl Executive {
             let slot = x.slot;
             if slot < Module::PARTITIONS {
                 let request = x.request;
-                let a = request.a;
-                let place = x.place;
-                let mut held = decisions::no_message();
-                let mut channel = channels::no_channel();
-                if place < Module::CHANNELS {
-                    held = m.messages[place];
-                    channel = table.channels[place];
-                }
-                let seen = queuing::seen_slot(table.channel_count, channel, x.own, place);
-                let mut traffic = queuing::no_traffic();
-                if seen < Module::PARTITIONS {
-                    let object = queuing::other_object(channel, x.own, place);
-                    let q = m.queues[place];
-                    if seen == spot {
-                        traffic = queuing::traffic_of(q, object, here);
-                    } else {
-                        let p = m.partitions[seen];
-                        traffic = queuing::traffic_of(q, object, p);
-                    }
-                }
                 let context = Context {
                     time: m.t,
                     frame: table.frame,
@@ -372,9 +390,9 @@ impl Executive {
                     release: events::release_for(table, m.t, x.own, x.call),
                     caller: run,
                 };
-                let port = channels::port_at(table.channel_count, channel, x.own, a, held, traffic);
-                let view = view_of(&here, &objects, run, x.call, a);
-                d = services::call(view, context, port, x.call, request);
+                let view = view_of(&here, &objects, context, x.call, request.a);
+                let port = port_of(&m, &here, spot, x.own, request.a);
+                d = services::call(view, port, x.call, request);
             }
             let reply = decisions::reply_of(d);
             let put = decisions::message_at(d);

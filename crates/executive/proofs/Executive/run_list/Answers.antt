@@ -1,44 +1,36 @@
-use Prim.Native.Nat.{ℕ, ◌/◌, ◌≤◌, ◌<◌}
+use Prim.Native.Nat.{◌/◌, ◌≤◌, ◌<◌}
 use mathlib.Core.Bool.{true, false, cond, true≢false}
 use mathlib.Core.Path.{◌≡◌, refl, sym, ap, ◌∙◌, subst}
 use native.Mathlib.Nat.{div-mul-le_self}
 use native.Mathlib.Omega.{arith}
 use lib.Dec.{ltb}
-use lib.ListN.{length, get_or, length-set, get_or-eq_default}
+use lib.ListN.{length, length-set}
 use borrow.Author.Rules.{rules}
 use borrow.Author.Tests.{ltb-true, ltb-false}
-use Rattle.machine.specs.Channels.{other_queue, traffic_of}
-use Rattle.machine.specs.Decisions.{no_message}
-use Rattle.machine.specs.Fields.{number_of}
-use Rattle.machine.specs.Messages.{first}
-use Rattle.machine.specs.declared.Buffer.{Buffer}
 use Rattle.machine.specs.Windows.{lookup}
-use Rattle.machine.specs.declared.Channel.{Channel}
-use Rattle.machine.specs.Limits.{partition_limit, channel_limit, process_limit, semaphore_limit, event_limit, buffer_limit, blackboard_limit}
-use Rattle.machine.specs.Module.{no_channel, no_partition, channel, part, message, running_in, with_time}
-use Rattle.machine.specs.Partition.{process, semaphore, event, blackboard, running, applied, arrived_last, no_semaphore, no_event, no_buffer, no_blackboard, stored_buffer, moved_in, buffer, ended_by}
+use Rattle.machine.specs.Limits.{partition_limit, channel_limit}
+use Rattle.machine.specs.Module.{no_partition, part, message, running_in, with_time}
+use Rattle.machine.specs.Partition.{running}
 use Rattle.machine.specs.Questions.{changes, transfer_at}
 use Rattle.machine.specs.Step.{sees}
 use Rattle.machine.specs.Ticks.{tick_to}
 use Rattle.machine.specs.declared.Module.{Module}
-use Rattle.machine.proofs.Bounds.{stored_out, semaphore_out, event_out, buffer_out, blackboard_out}
 use Rattle.machine.proofs.Either.{either}
 use Rattle.machine.proofs.Folds.{tick_to_none}
 use Rattle.machine.proofs.Taken.{length_mapped}
-use Rattle.partition.proofs.Laws.{left_more, left_done, read_in, read_out, named_at, named_past, slot_out, stored_at, semaphore_at, event_at_holds, moved_at_holds, blackboard_at, ended_at_holds, none_ended}
 use Rattle.resident.specs.Mirrors.{Mirrors}
 use Rattle.resident.specs.Settled.{settled}
-use Rattle.resident.proofs.Laws.{mirrors_filled, mirrors_lengths, mirrors_same, mirrors_set, processes_of}
-use Rattle.resident.proofs.Settled.{settled_here, settled_there, settled_past, settled_same}
-use Rattle.services.specs.Looked.{taken_for, waiter_for, object_for}
-use Rattle.services.proofs.Laws.{none_created}
+use Rattle.resident.proofs.Laws.{mirrors_filled}
+use Rattle.resident.proofs.Settled.{settled_here, settled_past, settled_same}
 use Rattle.executive.specs.Lists.{six}
 use Rattle.events.specs.declared.Plan.{Plan}
-use Rattle.executive.proofs.Laws.{past_queue, Planned, Decides, plan_made, place_named, few_ticks, slot_spot, Held, seen_traffic, seen_place, seen_here, seen_none, made_is, shown_spot, runs_shown, none_shown, event_answered}
+use Rattle.executive.proofs.Laws.{Planned, Decides, plan_made, place_named, few_ticks, slot_spot, Held, seen_traffic, made_is, shown_spot, runs_shown, none_shown, event_answered}
 use Rattle.executive.proofs.Lists.{begins_early, early_same, Running, begins, fits, ends, goes_on}
-use Rattle.executive.proofs.Residents.{Beside, beside_looked, kept_fresh, none_beside, two_less, two_more, two_fits, set_size, ticks_here, ticks_there, ticks_none, Current, current_same, current_moved, not_stored, restart_changes, one_of, not_far, not_near, Ready, Done, done_as_holds, done_same, done_written, done_changed, done_restarted, done_moved, done_here, done_there, restarts_in, changes_in, buffer_keeps, number_at, number_past, waiter_read, waiter_none, running_at}
+use Rattle.machine.specs.Channels.{port_at}
+use Rattle.machine.specs.declared.Table.{Table}
+use Rattle.executive.proofs.Residents.{table_here, Beside, beside_looked, kept_fresh, none_beside, ticks_here, ticks_there, ticks_none, Current, current_same, current_moved, not_stored, restart_changes, one_of, not_far, not_near, Ready, Done, done_as_holds, done_same, done_written, done_changed, done_restarted, done_moved, done_here, done_there, restarts_in, changes_in, running_at}
 use Rattle.executive.proofs.Executive.run_list.Goals as goal
-use Rattle.executive.proofs.Executive.run_list.Goals.{After-is_restart, After-plan_of-x, Joined-changed, Joined-first-m, Joined-is_restart, Joined-place-lt-CHANNELS, Joined-slot-lt-PARTITIONS, Joined-stale, Joined-x-lt-PARTITIONS, Joined-x-spot, Start, Then-does_change, Then-is_restart, Then-seen-lt-PARTITIONS, else-changed, else-first-m, else-is_restart+else-does_change+else-put-lt-CHANNELS+else-pass-lt-CHANNELS, else-is_restart+else-does_change+else-put-lt-CHANNELS+then-pass-lt-CHANNELS+else-end-lt-PARTITIONS, else-is_restart+else-does_change+else-put-lt-CHANNELS+then-pass-lt-CHANNELS+then-end-lt-PARTITIONS+else-end-spot, else-is_restart+else-does_change+else-put-lt-CHANNELS+then-pass-lt-CHANNELS+then-end-lt-PARTITIONS+then-end-spot, else-is_restart+else-does_change+then-put-lt-CHANNELS, else-is_restart+then-does_change, else-place-lt-CHANNELS, else-seen-lt-PARTITIONS, else-slot-lt-PARTITIONS, else-soon-j, else-spot-lt-PARTITIONS, else-stale, else-stale-2, else-x-lt-PARTITIONS, else-x-spot, then-changed, then-first-m, then-is_restart, then-place-lt-CHANNELS, then-seen-lt-PARTITIONS+else-seen-spot, then-seen-lt-PARTITIONS+then-seen-spot, then-slot-lt-PARTITIONS, then-soon-j+else-j-spot, then-soon-j+then-j-spot, then-spot-lt-PARTITIONS, then-stale, then-stale-2, then-x-lt-PARTITIONS, then-x-spot+else-spot-lt-PARTITIONS-2, then-x-spot+then-spot-lt-PARTITIONS-2}
+use Rattle.executive.proofs.Executive.run_list.Goals.{After-is_restart, After-plan_of-x, Joined-changed, Joined-first-m, Joined-is_restart, Joined-slot-lt-PARTITIONS, Joined-stale, Joined-x-lt-PARTITIONS, Joined-x-spot, Start, Then-does_change, Then-is_restart, else-changed, else-first-m, else-is_restart+else-does_change+else-put-lt-CHANNELS+else-pass-lt-CHANNELS, else-is_restart+else-does_change+else-put-lt-CHANNELS+then-pass-lt-CHANNELS+else-end-lt-PARTITIONS, else-is_restart+else-does_change+else-put-lt-CHANNELS+then-pass-lt-CHANNELS+then-end-lt-PARTITIONS+else-end-spot, else-is_restart+else-does_change+else-put-lt-CHANNELS+then-pass-lt-CHANNELS+then-end-lt-PARTITIONS+then-end-spot, else-is_restart+else-does_change+then-put-lt-CHANNELS, else-is_restart+then-does_change, else-slot-lt-PARTITIONS, else-soon-j, else-spot-lt-PARTITIONS, else-stale, else-stale-2, else-x-lt-PARTITIONS, else-x-spot, then-changed, then-first-m, then-is_restart, then-slot-lt-PARTITIONS, then-soon-j+else-j-spot, then-soon-j+then-j-spot, then-spot-lt-PARTITIONS, then-stale, then-stale-2, then-x-lt-PARTITIONS, then-x-spot+else-spot-lt-PARTITIONS-2, then-x-spot+then-spot-lt-PARTITIONS-2}
 
 -- the window at the time after the event
 window : (c : Joined-first-m) → c.if-first-m.window ≡ lookup c.args.self.inner.table c.place_event-first.result.time
@@ -87,15 +79,6 @@ beside c =
     let k = (arrived c.before).0.kept in
     elim c.if-stale.branch [ then-stale w ↦ (rw (w.currents-is, w.objects-is, w.run-is) (beside_looked (mirrors_filled _ _ k.sizes w.fill.ensures) w.running-run.ensures)) | else-stale w ↦ (rw (w.currents-is, w.objects-is, w.run-is) (k.fresh w.if-stale.false)) ]
 
--- the channel that a call may name
-line : (c : Joined-place-lt-CHANNELS) → c.if-place-lt-CHANNELS.channel ≡ channel c.args.self.inner.table c.plan_of-x.result.place
-line c =
-    let wide : length c.args.self.inner.table.channels ≡ channel_limit = c.loop-i.invariant.1 in
-    elim c.if-place-lt-CHANNELS.branch [ then-place-lt-CHANNELS v ↦ (v.channel-is) | else-place-lt-CHANNELS v ↦ (v.channel-is ∙ c.no_channel-channel.ensures ∙ sym (get_or-eq_default c.args.self.inner.table.channels no_channel (omega (arith, wide, v.if-place-lt-CHANNELS.false)))) ]
-
-near : (c : Then-seen-lt-PARTITIONS) → c.plan_of-x.result.place < channel_limit
-near c = seen_place c.args.self.inner.table c.loop-i.invariant.1 c.plan_of-x.result.own c.plan_of-x.result.place (c.seen_slot-seen.ensures c.args.self.inner.table refl (line c.before.before.before)) c.if-seen-lt-PARTITIONS.true
-
 -- what is decided
 decided : (c : Joined-slot-lt-PARTITIONS) → Decides (planned c.before.before.before.before.before.before) c.if-slot-lt-PARTITIONS.d
 decided c =
@@ -108,16 +91,13 @@ decided c =
     let x = c.plan_of-x.result in
     let wide : length T.channels ≡ channel_limit = c.loop-i.invariant.1 in
     elim c.if-slot-lt-PARTITIONS.branch [
-      | then-slot-lt-PARTITIONS w ↦ (let hold : w.if-place-lt-CHANNELS.held ≡ message q x.place = elim w.if-place-lt-CHANNELS.branch [ then-place-lt-CHANNELS v ↦ (v.held-is) | else-place-lt-CHANNELS v ↦ (v.held-is ∙ w.no_message-held.ensures ∙ sym (get_or-eq_default c.if-x-spot.m.messages no_message (omega (arith, a.0.held.0, v.if-place-lt-CHANNELS.false)))) ] in
-          let line : w.if-place-lt-CHANNELS.channel ≡ channel T x.place = elim w.if-place-lt-CHANNELS.branch [ then-place-lt-CHANNELS v ↦ (v.channel-is) | else-place-lt-CHANNELS v ↦ (v.channel-is ∙ w.no_channel-channel.ensures ∙ sym (get_or-eq_default T.channels no_channel (omega (arith, wide, v.if-place-lt-CHANNELS.false)))) ] in
-          let at = w.seen_slot-seen.ensures T refl line in
-          let other : (o : _) → o ≡ cond (ltb x.place channel_limit) (other_queue x.own x.place w.if-place-lt-CHANNELS.channel) 0 → o ≡ cond (ltb x.place channel_limit) (other_queue x.own x.place (channel T x.place)) 0 = λ o e. e ∙ ap (λ (v : Channel). cond (ltb x.place channel_limit) (other_queue x.own x.place v) 0) line in
-          let view : w.if-seen-lt-PARTITIONS.traffic ≡ seen_traffic T q x.own x.place =
-          elim w.if-seen-lt-PARTITIONS.branch [ then-seen-lt-PARTITIONS+then-seen-spot v ↦ (seen_here T wide x.own x.place at v.if-seen-lt-PARTITIONS.true q a.0.held (other _ v.other_object-object.ensures) (v.traffic-is ∙ v.traffic_of-traffic.ensures ∙ ap (traffic_of (get_or q.queues x.place past_queue) v.other_object-object.result) (sym (ap (part q) v.if-seen-spot.true ∙ settled_here c.if-x-spot.spot p c.if-x-spot.m (let z = v.if-seen-spot.true in omega (arith, v.if-seen-lt-PARTITIONS.true, a.0.long)))))) | then-seen-lt-PARTITIONS+else-seen-spot v ↦ (seen_here T wide x.own x.place at v.if-seen-lt-PARTITIONS.true q a.0.held (other _ v.other_object-object.ensures) (v.traffic-is ∙ v.traffic_of-traffic-else-seen-spot.ensures ∙ ap (traffic_of (get_or q.queues x.place past_queue) v.other_object-object.result) (sym (settled_there c.if-x-spot.spot p c.if-x-spot.m w.seen_slot-seen.result v.if-seen-spot.false)))) | else-seen-lt-PARTITIONS v ↦ (seen_none T wide x.own x.place at v.if-seen-lt-PARTITIONS.false q (v.traffic-is ∙ w.no_traffic-traffic.ensures)) ] in
-          let here : part q x.slot ≡ p = ap (part q) (slot_spot f w.if-slot-lt-PARTITIONS.true ∙ a.1) ∙ settled_here c.if-x-spot.spot p c.if-x-spot.m (let z = slot_spot f w.if-slot-lt-PARTITIONS.true ∙ a.1 in omega (arith, w.if-slot-lt-PARTITIONS.true, a.0.long)) in
+      | then-slot-lt-PARTITIONS w ↦ (let here : part q x.slot ≡ p = ap (part q) (slot_spot f w.if-slot-lt-PARTITIONS.true ∙ a.1) ∙ settled_here c.if-x-spot.spot p c.if-x-spot.m (let z = slot_spot f w.if-slot-lt-PARTITIONS.true ∙ a.1 in omega (arith, w.if-slot-lt-PARTITIONS.true, a.0.long)) in
+          let same : c.if-x-spot.m.table ≡ T = table_here f c.if-x-spot.spot p c.if-x-spot.m (ticked c.before.before) a.0.long a.1 in
+          let port : w.port_of-port.result ≡ port_at T x.own x.request.a (message q x.place) (seen_traffic T q x.own x.place) = rw (place_named f) (rw same at w.port_of-port.ensures) in
+          let view = w.view_of-view.ensures in
           record {
-            call = λ _. w.d-is ∙ made_is f (ticked c.before.before) w.if-slot-lt-PARTITIONS.true _ _ _ _ _ (bs.runs ∙ ap running (sym here)) w.release_for.ensures hold view (w.port_at-port.ensures T refl (line ∙ ap (channel T) (place_named f)))
-                (rw here (w.call-d.ensures p (w.view_of-view.ensures.shows _ refl) w.view_of-view.ensures.taken (w.view_of-view.ensures.waiter _ bs.mirrors)));
+            call = λ _. w.d-is ∙ made_is f (ticked c.before.before) w.if-slot-lt-PARTITIONS.true _ _ _ _ _ (bs.runs ∙ ap running (sym here)) w.release_for.ensures refl refl port
+                (rw here (rw view.context at (w.call-d.ensures p view.shows view.taken (view.waiter _ bs.mirrors))));
             none = λ far. absurd (omega (arith, w.if-slot-lt-PARTITIONS.true, far));
           })
       | else-slot-lt-PARTITIONS w ↦ (record { call = λ near. absurd (omega (arith, w.if-slot-lt-PARTITIONS.false, near)); none = λ _. w.d-is })
@@ -190,6 +170,18 @@ loop-i-init c =
 pub overflow_mul-at : goal.overflow_mul-at
 overflow_mul-at c = let h = fits c.loop-i.invariant.0 c.loop-i-test.true in omega (arith, h)
 
+pub port_of-port-requires : goal.port_of-port-requires
+port_of-port-requires c =
+    let b = (goal.at.port_of-port-requires c).Joined-stale in
+    let a = arrived b.before in
+    let same = table_here (planned b.before.before.before.before.before) b.if-x-spot.spot b.if-x-spot.here b.if-x-spot.m (ticked b.before) a.0.long a.1 in
+    record {
+      channels = ap (λ (t : Table). length t.channels) same ∙ b.loop-i.invariant.1;
+      messages = a.0.held.0;
+      queues = a.0.held.1;
+      partitions = a.0.long;
+    }
+
 pub event_at-requires : goal.event_at-requires
 event_at-requires c = fits c.loop-i.invariant.0 c.loop-i-test.true
 
@@ -222,12 +214,6 @@ restart_in c = let g = ready c.before in restarts_in (planned c.before.before.be
 
 change_in : (c : Then-does_change) → c.plan_of-x.result.slot < partition_limit
 change_in c = let g = ready c.before.before.before in changes_in (planned c.before.before.before.before.before.before.before.before.before.before.before.before.before) c.if-x-spot.spot c.if-x-spot.here c.if-x-spot.m g.ticked g.long g.here c.if-slot-lt-PARTITIONS.d g.decides (sym c.does_change.ensures ∙ (search (rules, c.if-does_change.true)))
-
-pub offset_bounds-m-place-then-seen-lt-PARTITIONS : goal.offset_bounds-m-place-then-seen-lt-PARTITIONS
-offset_bounds-m-place-then-seen-lt-PARTITIONS c = search (rules, near (goal.at.offset_bounds-m-place-then-seen-lt-PARTITIONS c).Then-seen-lt-PARTITIONS)
-
-pub bounds-m-place-then-seen-lt-PARTITIONS : goal.bounds-m-place-then-seen-lt-PARTITIONS
-bounds-m-place-then-seen-lt-PARTITIONS c = search (rules, near (goal.at.bounds-m-place-then-seen-lt-PARTITIONS c).Then-seen-lt-PARTITIONS)
 
 pub offset_bounds-m-slot : goal.offset_bounds-m-slot
 offset_bounds-m-slot c = search (rules, restart_in (goal.at.offset_bounds-m-slot c).Then-is_restart)
@@ -294,24 +280,6 @@ offset_bounds-m-spot-then-spot-lt-PARTITIONS-2 c = search rules
 
 pub bounds-m-spot-then-spot-lt-PARTITIONS-2 : goal.bounds-m-spot-then-spot-lt-PARTITIONS-2
 bounds-m-spot-then-spot-lt-PARTITIONS-2 c = search rules
-
-pub offset_bounds-m-place : goal.offset_bounds-m-place
-offset_bounds-m-place c = search rules
-
-pub bounds-m-place : goal.bounds-m-place
-bounds-m-place c = search rules
-
-pub offset_bounds-table-place : goal.offset_bounds-table-place
-offset_bounds-table-place c = search rules
-
-pub bounds-table-place : goal.bounds-table-place
-bounds-table-place c = search rules
-
-pub offset_bounds-m-seen : goal.offset_bounds-m-seen
-offset_bounds-m-seen c = search rules
-
-pub bounds-m-seen : goal.bounds-m-seen
-bounds-m-seen c = search rules
 
 pub bounds-m-put : goal.bounds-m-put
 bounds-m-put c = search rules

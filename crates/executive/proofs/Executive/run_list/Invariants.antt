@@ -1,12 +1,8 @@
-use Prim.Native.Nat.{◌-◌, ◌≤◌}
-use mathlib.Core.Bool.{false}
+use Prim.Native.Nat.{◌≤◌}
 use mathlib.Core.Path.{◌≡◌}
 use lib.ListN.{length}
-use Rattle.machine.specs.Limits.{partition_limit, channel_limit, process_limit}
+use Rattle.machine.specs.Limits.{partition_limit, channel_limit}
 use Rattle.machine.specs.Windows.{lookup}
-use Rattle.machine.specs.Partition.{applied}
-use Rattle.partition.proofs.Laws.{left}
-use Rattle.resident.specs.Mirrors.{Mirrors}
 use Rattle.resident.specs.Settled.{settled}
 use Rattle.executive.specs.Lists.{Early}
 use Rattle.executive.proofs.Lists.{Running}

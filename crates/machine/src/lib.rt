@@ -8,6 +8,10 @@ ghost use Rattle.machine.specs.Process.{blank_process};
 ghost use Rattle.machine.specs.Partition.{no_buffer, fresh_partition, empty_partition};
 ghost use Rattle.machine.specs.Module.{empty_table, fresh_module, empty_module};
 
+mod lines;
+
+pub use lines::time_number;
+
 // A time in ticks; −1 of document 01, which is never, is None.
 pub type Time = Option<u32>;
 

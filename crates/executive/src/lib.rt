@@ -5,7 +5,7 @@ ghost use Rattle.std.specs.Prelude.{◌≡◌, ◌+◌, ◌-◌, ◌≤◌, leng
 ghost use Rattle.std.proofs.lemmas.List.Edits.{sets};
 ghost use Rattle.machine.specs.Partition.{nothing_created};
 ghost use Rattle.machine.specs.Step.{restarted, step};
-ghost use Rattle.machine.specs.Replay.{time_number, answer_numbers, unread};
+ghost use Rattle.machine.specs.Replay.{answer_numbers, unread};
 ghost use Rattle.machine.specs.Table.{read_table};
 ghost use Rattle.machine.specs.Windows.{waiting_of};
 ghost use Rattle.events.specs.Plans.{no_answer};
@@ -14,9 +14,7 @@ ghost use Rattle.executive.specs.Lists.{six, event_at, after_list, answered_list
 
 use channels::Messages;
 use decisions::View;
-use machine::{
-    Answer, Change, Context, Decision, Event, Module, Partition, Process, Time, Waiting,
-};
+use machine::{Answer, Change, Context, Decision, Event, Module, Partition, Process, Waiting};
 
 #[derive(Clone, Copy)]
 pub struct Executive {
@@ -82,25 +80,14 @@ fn event_at(list: &[i64], at: usize) -> Event
     }
 }
 
-// -1 is never.
-fn time_number(t: Time) -> i64
-    ensures { result ≡ time_number t }
-{
-    match t {
-        None => -1,
-        Some(n) => n as i64,
-    }
-}
-
 // Stores code, value, extra, t, current, running.
 fn put_answer(list: &mut [i64], at: usize, a: Answer)
     requires { at + six ≤ length list.old }
     ensures { list.new ≡ sets list.old at (answer_numbers a) }
 {
-    let extra = a.extra;
     list[at] = a.code as i64;
     list[at + 1] = a.value as i64;
-    list[at + 2] = time_number(extra);
+    list[at + 2] = machine::time_number(a.extra);
     list[at + 3] = a.t as i64;
     list[at + 4] = a.current as i64;
     list[at + 5] = a.running as i64;
@@ -362,7 +349,10 @@ impl Executive {
                             let k = partition::slot(id, Module::BLACKBOARDS);
                             if k < Module::BLACKBOARDS {
                                 here.blackboards[k] = y;
-                                here.blackboard_count = partition::counted(here.blackboard_count, id);
+                                here.blackboard_count = partition::counted(
+                                    here.blackboard_count,
+                                    id,
+                                );
                             }
                         }
                         Change::Ended(o) => {

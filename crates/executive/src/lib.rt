@@ -9,7 +9,7 @@ ghost use Rattle.machine.specs.Mode.{mode_number};
 ghost use Rattle.machine.specs.Module.{channel, message};
 ghost use Rattle.machine.specs.Channels.{port_at, traffic_at};
 ghost use Rattle.machine.specs.Step.{restarted, step};
-ghost use Rattle.machine.specs.Replay.{time_number, answer_numbers, unread};
+ghost use Rattle.machine.specs.Replay.{answer_numbers, unread};
 ghost use Rattle.machine.specs.Table.{read_table};
 ghost use Rattle.machine.specs.Windows.{waiting_of};
 ghost use Rattle.events.specs.Plans.{no_answer};
@@ -25,7 +25,7 @@ ghost use Rattle.executive.specs.Lists.{six, event_at, after_list, answered_list
 use decisions::View;
 use machine::{
     Answer, Buffer, Change, Channel, Context, Decision, Event, Field, Mode, Module, Partition,
-    Port, Process, Time, Traffic, Waiting,
+    Port, Process, Traffic, Waiting,
 };
 
 #[derive(Clone, Copy)]
@@ -81,25 +81,14 @@ fn event_at(list: &[i64], at: usize) -> Event
     }
 }
 
-// -1 is never.
-fn time_number(t: Time) -> i64
-    ensures { result ≡ time_number t }
-{
-    match t {
-        None => -1,
-        Some(n) => n as i64,
-    }
-}
-
 // Stores code, value, extra, t, current, running.
 fn put_answer(list: &mut [i64], at: usize, a: Answer)
     requires { at + six ≤ length list.old }
     ensures { list.new ≡ sets list.old at (answer_numbers a) }
 {
-    let extra = a.extra;
     list[at] = a.code as i64;
     list[at + 1] = a.value as i64;
-    list[at + 2] = time_number(extra);
+    list[at + 2] = machine::time_number(a.extra);
     list[at + 3] = a.t as i64;
     list[at + 4] = a.current as i64;
     list[at + 5] = a.running as i64;

@@ -3,7 +3,7 @@
 // the system fails; what is done with what a read gives is settled. A failed read or write of these two is told on standard error.
 #![tactic(auto)]
 
-ghost use Rattle.std.specs.Prelude.{◌≡◌, ◌-◌, ◌<◌, ◌≤◌, true, length, take, drop, IfSome, IsOk, Some};
+ghost use Rattle.std.specs.Prelude.{◌≡◌, ◌-◌, ◌<◌, ◌≤◌, true, length, take, drop, replicate, IfSome, IsOk, Some};
 ghost use Rattle.std.specs.Result.{is_ok};
 ghost use Rattle.std.specs.Io.KnownBytes.{Appends, Consumes, IsAtEnd};
 ghost use Rattle.machine.specs.Limits.{line_length};
@@ -146,8 +146,10 @@ const CHUNK: usize = event_lines::BLOCK * Module::LINE;
 // The bytes that are printed at once: the answers of a chunk, as a rule.
 const OUTPUT: usize = 65536;
 
+// A buffer of zeros.
 pub fn buffer<const N: usize>() -> [u8; N]
-    ensures { length result ≡ N }
+    ensures long { length result ≡ N }
+    ensures zeros { result ≡ replicate N 0 }
 {
     [0; N]
 }

@@ -12,7 +12,7 @@ loop-turn-preserved g c = record {
   reading =
       reading_goes _ _ _ _ _ _ _ c.loop-turn.invariant.reading _ c.read_once-t.ensures.once
       (sym c.is_going.ensures ∙ c.if-not-is_going.false) _ _ c.read_once-t.auto.input c.read_once-t.auto.out;
-  carried = carried_on _ _ _ _ _ _ _ _ _ _ c.loop-turn.invariant.carried c.loop-turn.invariant.reading.going (c.read_once-t.ensures.carried (omega (arith, c.loop-turn.invariant.reading.size_in, c.buffer-input.ensures)));
+  carried = carried_on _ _ _ _ _ _ _ _ _ _ c.loop-turn.invariant.carried c.loop-turn.invariant.reading.going (c.read_once-t.ensures.carried (omega (arith, c.loop-turn.invariant.reading.size_in, c.buffer-input.ensures.long)));
 }
 
 pub returns-then-not-is_going : goal.returns-then-not-is_going
@@ -20,7 +20,7 @@ returns-then-not-is_going g c = record {
   ended =
       reading_ends _ _ _ _ _ _ _ c.loop-turn.invariant.reading _ c.read_once-t.ensures.once
       (sym c.is_going.ensures ∙ c.if-not-is_going.true);
-  carried = carried_on _ _ _ _ _ _ _ _ _ _ c.loop-turn.invariant.carried c.loop-turn.invariant.reading.going (c.read_once-t.ensures.carried (omega (arith, c.loop-turn.invariant.reading.size_in, c.buffer-input.ensures)));
+  carried = carried_on _ _ _ _ _ _ _ _ _ _ c.loop-turn.invariant.carried c.loop-turn.invariant.reading.going (c.read_once-t.ensures.carried (omega (arith, c.loop-turn.invariant.reading.size_in, c.buffer-input.ensures.long)));
 }
 
 pub returns-after-loop-turn : goal.returns-after-loop-turn

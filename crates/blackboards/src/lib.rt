@@ -65,7 +65,14 @@ pub fn read_blackboard(v: View, k: u32, a: Field) -> Result<Decision, Refusal>
     }
     let message = v.blackboard.message;
     let success = Decision::Unchanged(message.unwrap_or(0), Some(0));
-    objects::awaited(v, true, a, message.is_some(), success, Wait::Blackboard(k as u8))
+    objects::awaited(
+        v,
+        true,
+        a,
+        message.is_some(),
+        success,
+        Wait::Blackboard(k as u8),
+    )
 }
 
 // 29 CLEAR

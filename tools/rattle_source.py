@@ -9,6 +9,7 @@ Token = collections.namedtuple("Token", "kind text start end")
 Item = collections.namedtuple("Item", "kind name owner start end line head contract body")
 CLOSING = {"(": ")", "[": "]", "{": "}"}
 LENT = {"len"}  # methods of a slice
+VALUES = {"Ok", "Err", "Some", "None"}  # values of the language's own types
 # The line writer, which tools/take-writer takes out and tests/writer holds.
 WRITER = ("write", "write_at")
 KEYWORDS = set("as break const continue else enum extern fn for ghost if impl in let loop match mod mut pub return self struct type use while".split())
@@ -117,7 +118,7 @@ def callees(item, functions, types):
         elif call.startswith("."):
             own = [key for key, function in functions.items() if function.owner and function.name == call[1:]]
             yield from ((key, call) for key in own or [None] if own or call[1:] not in LENT)
-        elif path not in types and not (type_ and type_.kind == "enum" and name in names(type_.head)):
+        elif path not in types and path not in VALUES and not (type_ and type_.kind == "enum" and name in names(type_.head)):
             yield None, call
 
 

@@ -8,8 +8,7 @@ use lib.ListN.{length, get_or, take, drop, set, length-set, drop_of_length-le}
 use lib.Seq.{drop-cons, drop-set-lt, take-suc-set, append_snoc, take_all}
 use Rattle.machine.specs.declared.EventRecord.{EventRecord}
 use Rattle.executive.specs.declared.Executive.{Executive}
-use Rattle.batch.specs.declared.Answered.{Answered}
-use Rattle.batch.specs.Batch.{answered, after_list, answered_list}
+use Rattle.batch.specs.Batch.{Answered, answered, after_list, answered_list}
 
 pub record Kept (m : Executive) (ys : List EventRecord) (i : ℕ) (s : Executive) (l : List EventRecord) : Type 0 where
   pub le : i ≤ length ys

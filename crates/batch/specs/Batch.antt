@@ -4,11 +4,14 @@ use Rattle.machine.specs.Runs.{answered_event, next, after, answers}
 use Rattle.machine.specs.declared.Event.{Event}
 use Rattle.machine.specs.declared.EventRecord.{EventRecord}
 use Rattle.executive.specs.declared.Executive.{Executive}
-use Rattle.batch.specs.declared.Answered.{Answered}
 
 -- the events of a list of records
 abbrev pub events_of : List EventRecord → List Event
 events_of = map (λ (x : EventRecord). x.event)
+
+pub record Answered : Type 0 where
+  pub executive : Executive
+  pub event : EventRecord
 
 -- one event of a list: the executive after it, and its record with its answer
 abbrev pub answered : Executive → EventRecord → Answered

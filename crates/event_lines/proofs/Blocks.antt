@@ -106,9 +106,13 @@ module _ (text : List ℕ) (from limit : ℕ) (list₀ list : List ℤ) (at n : 
   pub reading_stops : Bad ≡ read_at text at → (n ≡ length (good_events limit (drop from text))) × (take (n * six) list ≡ event_numbers (good_events limit (drop from text)))
   reading_stops b = ended (none_good (limit - n) text at (sym b))
 
-  pub reading_done : limit ≤ n → (n ≡ length (good_events limit (drop from text))) × (take (n * six) list ≡ event_numbers (good_events limit (drop from text)))
+  pub reading_done : limit ≤ n → (limit ≡ length (good_events limit (drop from text))) × (take (limit * six) list ≡ event_numbers (good_events limit (drop from text)))
   unfolding good_events
-  reading_done h = let z : limit - n ≡ 0 = omega arith in ended (rw z)
+  reading_done h =
+      let z : limit - n ≡ 0 = omega arith in
+      let all : n ≡ limit = omega (arith, k.few) in
+      let r = ended (rw z) in
+      (sym all ∙ r.0, ap (λ (i : ℕ). take (i * six) list) (sym all) ∙ r.1)
 
   module _ (q : Numbers) (read : read_at text at ≡ Six q) where
     pub reading_more : n < limit → (list' : List ℤ) → list' ≡ sets list (n * six) (number_list q) → Reading text from limit list₀ list' (at + line_length) (n + 1)

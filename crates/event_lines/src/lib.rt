@@ -5,13 +5,13 @@ ghost use Rattle.std.specs.Prelude.{◌≡◌, ◌+◌, ◌-◌, ◌*◌, ◌/�
 ghost use Rattle.std.proofs.lemmas.List.Edits.{sets};
 ghost use Rattle.machine.specs.Limits.{line_length};
 ghost use Rattle.machine.specs.Line.{numbers_of, number_list};
-ghost use Rattle.machine.specs.Replay.{event_of, time_number, answer_numbers, line_step, refusal_numbers};
+ghost use Rattle.machine.specs.Replay.{line_step, refusal_numbers};
 ghost use Rattle.executive.specs.Executive.{turned};
 ghost use Rattle.executive.specs.Lists.{six, event_numbers};
 ghost use Rattle.event_lines.specs.Blocks.{good_events, line_count, roomed_line, printed_sixes, over_at, block_events, block_text, block_of};
 
 use executive::{Executive, Turn};
-use machine::{Answer, Event, Line, Module, Numbers, Time};
+use machine::{Event, Line, Module, Numbers};
 
 // The lines of a block, at most.
 pub const BLOCK: usize = 1024;
@@ -28,45 +28,6 @@ pub struct Block {
     pub executive: Executive,
     pub lines: usize,
     pub printed: usize,
-}
-
-// An event is partition, call, a, b, c, e.
-pub fn event_of(n: Numbers) -> Event
-    ensures { result ≡ event_of n }
-{
-    Event {
-        partition: n.n1,
-        call: n.n2,
-        a: n.n3,
-        b: n.n4,
-        c: n.n5,
-        e: n.n6,
-    }
-}
-
-// -1 is never.
-fn time_number(t: Time) -> i64
-    ensures { result ≡ time_number t }
-{
-    match t {
-        None => -1,
-        Some(n) => n as i64,
-    }
-}
-
-// Fields: code, value, extra, t, current, running.
-pub fn numbers_of(a: Answer) -> Numbers
-    ensures { result ≡ numbers_of (answer_numbers a) }
-{
-    let extra = a.extra;
-    Numbers {
-        n1: a.code as i64,
-        n2: a.value as i64,
-        n3: time_number(extra),
-        n4: a.t as i64,
-        n5: a.current as i64,
-        n6: a.running as i64,
-    }
 }
 
 // A bad table prints one line: code, line number, four 0.
@@ -88,7 +49,7 @@ pub fn step_line(e: Executive, l: Line) -> Turn
     ensures { result ≡ turned (line_step e.inner l) }
 {
     match l {
-        Line::Six(n) => e.step(event_of(n)),
+        Line::Six(n) => e.step(Event::from(n)),
         Line::Bad => Turn {
             executive: e,
             answer: e.unread(),
@@ -101,18 +62,12 @@ fn put_six(list: &mut [i64], at: usize, n: Numbers)
     requires { at + six ≤ length list.old }
     ensures { list.new ≡ sets list.old at (number_list n) }
 {
-    let a = n.n1;
-    let b = n.n2;
-    let c = n.n3;
-    let d = n.n4;
-    let e = n.n5;
-    let f = n.n6;
-    list[at] = a;
-    list[at + 1] = b;
-    list[at + 2] = c;
-    list[at + 3] = d;
-    list[at + 4] = e;
-    list[at + 5] = f;
+    list[at] = n.n1;
+    list[at + 1] = n.n2;
+    list[at + 2] = n.n3;
+    list[at + 3] = n.n4;
+    list[at + 4] = n.n5;
+    list[at + 5] = n.n6;
 }
 
 fn six_at(list: &[i64], at: usize) -> Numbers
@@ -133,11 +88,7 @@ fn six_at(list: &[i64], at: usize) -> Numbers
 fn line_count(length: usize, to: usize) -> usize
     ensures { result ≡ line_count (length - to) }
 {
-    if length < to {
-        return 0;
-    }
-    let n = (length - to) / Module::LINE;
-    if n < BLOCK { n } else { BLOCK }
+    (length.saturating_sub(to) / Module::LINE).min(BLOCK)
 }
 
 // Reads the good lines from a position of a text on, up to so many: how many they are. Their numbers stand at the front of the list.
@@ -146,26 +97,24 @@ fn read_lines(text: &[u8], from: usize, limit: usize, list: &mut [i64]) -> usize
     ensures { (result ≡ length (good_events limit (drop from text.now))) × (take (result * six) list.new ≡ event_numbers (good_events limit (drop from text.now))) }
 {
     let mut at = from;
-    let mut n: usize = 0;
-    while n < limit {
+    for n in 0..limit {
         let Line::Six(q) = line::read_at(text, at) else {
             return n;
         };
         put_six(list, n * SIX, q);
         at += Module::LINE;
-        n += 1;
     }
-    n
+    limit
 }
 
 // Prints a line at a position of the output, where there is room for one: how many bytes; none for a number out of range.
 pub fn print_line(out: &mut [u8], to: usize, n: Numbers) -> usize
     ensures { (result ≡ length (roomed_line (length out.old - to) (number_list n))) × (out.new ≡ over_at to (roomed_line (length out.old - to) (number_list n)) out.old) }
 {
-    if line::write_at(out, to, n) == 0 {
-        return Module::LINE;
+    match line::write_at(out, to, n) {
+        Ok(()) => Module::LINE,
+        Err(_) => 0,
     }
-    0
 }
 
 // Prints a line for each six numbers of a list, from a position of the output on: how many bytes.
@@ -173,12 +122,9 @@ fn print_lines(out: &mut [u8], from: usize, list: &[i64]) -> usize
     requires { from + length list.now / six * line_length ≤ length out.old }
     ensures { (result ≡ length (printed_sixes (length list.now / six) list.now)) × (out.new ≡ over_at from (printed_sixes (length list.now / six) list.now) out.old) }
 {
-    let n = list.len() / SIX;
     let mut to = from;
-    let mut i: usize = 0;
-    while i < n {
+    for i in 0..list.len() / SIX {
         to += print_line(out, to, six_at(list, i * SIX));
-        i += 1;
     }
     to - from
 }

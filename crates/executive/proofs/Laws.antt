@@ -1,4 +1,5 @@
 -- One event in parts: its places, its decision, and what is stored of it, are the machine's step. Assumes nothing.
+use Rattle.std.specs.Prelude.{Option}
 use Prim.Native.Nat.{ℕ, zero, suc, ◌+◌, ◌-◌, ◌≤◌, ◌<◌}
 use mathlib.Core.Bool.{Bool, true, false, cond, not, ◌&&◌}
 use mathlib.Core.List.{List, [], ◌∷◌, ◌++◌}
@@ -148,10 +149,10 @@ module _ (T : Table) (t now : ℕ) (r : Request) where
       time_called
 
 -- erasing leaves every place
-kept_long : (T : Table) (k n : ℕ) (l : List Message) → length (kept_to T k n l) ≡ length l
+kept_long : (T : Table) (k n : ℕ) (l : List (Option Message)) → length (kept_to T k n l) ≡ length l
 unfolding kept_to
 kept_long T k zero l = refl
-kept_long T k (suc n) l = by_test (λ (v : List Message). length v ≡ length l) (leads_into k (channel T n)) (λ _. length-set (kept_to T k n l) n no_message ∙ kept_long T k n l) (λ _. kept_long T k n l)
+kept_long T k (suc n) l = by_test (λ (v : List (Option Message)). length v ≡ length l) (leads_into k (channel T n)) (λ _. length-set (kept_to T k n l) n no_message ∙ kept_long T k n l) (λ _. kept_long T k n l)
 
 -- ---------------------------------------------------------------- one event
 -- what storing a partition leaves, the tick of the partitions leaves
@@ -385,7 +386,7 @@ module _ {m : Module} {e : Event} {T : Table} {x : Plan} (f : Planned m e T x) w
       called_same = let c = calls inside in still (rw (c.none, c.some)) (time_called m.table m.t now r c.some)
 
       -- what the code decides is the machine's decision
-      pub made_is : (caller v : ℕ) (hold : Message) (view : Traffic) (port : Port) {d : Decision} → caller ≡ running (part q x.slot) → v ≡ release_for T q.t x.own x.call → hold ≡ message q x.place
+      pub made_is : (caller v : ℕ) (hold : Option Message) (view : Traffic) (port : Port) {d : Decision} → caller ≡ running (part q x.slot) → v ≡ release_for T q.t x.own x.call → hold ≡ message q x.place
           → view ≡ seen_traffic T q x.own x.place → port ≡ port_at T x.own x.request.a hold view
           → d ≡ called (record { time = q.t; frame = T.frame; left = x.left; release = v; caller = caller }) port x.call x.request (part q x.slot) → d ≡ decision m r
       made_is caller v hold view port runs point lies shows sees-port made =
@@ -416,7 +417,7 @@ module _ {m : Module} {e : Event} {T : Table} {x : Plan} (f : Planned m e T x) w
               let u : NoTick d = subst NoTick (sym made_called) n.is in
               stores (g ∙ w ∙ sym (after_same m k f.held.0 d u c h h')) (rw (g, w) f.long) (rw (g, w) f.held) (ap (λ (z : Module). z.table) g) (ap (λ (z : Module). z.t) g)
 
-          pub call_written : message_at d < channel_limit → {a : Message} → a ≡ message_of d → {y : Module} → y ≡ with_message (message_at d) a q → After m x.request x.current x.time y b
+          pub call_written : message_at d < channel_limit → {a : Option Message} → a ≡ message_of d → {y : Module} → y ≡ with_message (message_at d) a q → After m x.request x.current x.time y b
           call_written h {a} e {y} g =
               let w = called_same in
               stores (g ∙ rw (e, w) (sym (after_written m k d h))) (rw (g, w) f.long) (rw (g, w) (length-set m.messages (message_at d) a ∙ f.held.0, f.held.1)) (ap (λ (z : Module). z.table) g) (ap (λ (z : Module). z.t) g)
@@ -452,7 +453,7 @@ module _ {m : Module} {e : Event} {T : Table} {x : Plan} (f : Planned m e T x) w
                 let w = called_same in
                 stores (g ∙ rw (after, w, (calls inside).slot) (sym (after_changed m k d c n))) (rw (g, w) (length-set m.partitions x.slot p ∙ f.long)) (rw (g, w) f.held) (ap (λ (z : Module). z.table) g) (ap (λ (z : Module). z.t) g)
 
-            pub call_restarted : restarts d ≡ true → {l : List Message} → l ≡ kept_to T x.own channel_limit q.messages
+            pub call_restarted : restarts d ≡ true → {l : List (Option Message)} → l ≡ kept_to T x.own channel_limit q.messages
                 → {y : Module} → y ≡ refilled_to x.own channel_limit (record { table = q.table; t = q.t; messages = l; queues = q.queues; partitions = set q.partitions x.slot p }) → After m x.request x.current x.time y b
             call_restarted n {l} kept {y} g =
                 let w = called_same in

@@ -1,5 +1,8 @@
 -- The current partition lies in a local of the loop: what the loop makes of it and of the module is what the machine makes of the module
 -- with that partition in its place. Assumes nothing.
+use Rattle.std.specs.Prelude.{Option}
+use Rattle.machine.specs.declared.Mode.{Mode}
+use Rattle.machine.specs.Mode.{mode_number}
 use Prim.Native.Nat.{ℕ, zero, suc, ◌+◌, ◌-◌, ◌≤◌, ◌<◌}
 use mathlib.Core.Bool.{Bool, true, false, cond, true≢false}
 use mathlib.Core.List.{List, [], ◌∷◌}
@@ -88,7 +91,7 @@ pub not_stored : (m : Module) (spot : ℕ) (p : Partition) {y : Module} → leng
 not_stored m spot p long h e = e ∙ sym (settled_past spot p m (omega arith))
 
 -- ---------------------------------------------------------------- decisions
-pub restart_left : (d : Decision) (p : Partition) → restarts d ≡ true → nothing_created (mode_of d) ≡ partition_after d p
+pub restart_left : (d : Decision) (p : Partition) → restarts d ≡ true → nothing_created (mode_number (mode_of d)) ≡ partition_after d p
 restart_left (Refused n) p r = absurd (true≢false (sym r))
 restart_left (Unchanged v e) p r = absurd (true≢false (sym r))
 restart_left Ticked p r = absurd (true≢false (sym r))
@@ -127,7 +130,7 @@ module _ {M : Module} {e : Event} {T : Table} {x : Plan} (f : Planned M e T x) (
   at_spot h = slot_spot f h ∙ here
 
   -- no event changes the table
-  table_here : m.table ≡ T
+  pub table_here : m.table ≡ T
   table_here = ap (λ (v : Module). v.table) ticked ∙ tick_table x.ticks (with_time x.time M) ∙ f.same
 
   part_here : (h : x.slot < partition_limit) → part (settled spot p m) x.slot ≡ p
@@ -158,7 +161,7 @@ module _ {M : Module} {e : Event} {T : Table} {x : Plan} (f : Planned M e T x) (
           (λ z. let i = ltb-true x.slot partition_limit z in call_same f ticked i (decides.call i) says c h h' refl)
           (λ z. let o = ltb-false x.slot partition_limit z in not_called f ticked o refl (says ∙ ap reply_of (decides.none o)))
 
-      pub did_written : message_at d < channel_limit → {a : Message} → a ≡ message_of d → (y : Module) → y ≡ with_message (message_at d) a m → After M x.request x.current x.time (settled spot p y) b
+      pub did_written : message_at d < channel_limit → {a : Option Message} → a ≡ message_of d → (y : Module) → y ≡ with_message (message_at d) a m → After M x.request x.current x.time (settled spot p y) b
       did_written h {a} is y g = let i = writes_in h in call_written f ticked i (decides.call i) says h is (ap (settled spot p) g)
 
       pub did_changed : changes d ≡ true → restarts d ≡ false → (z : Partition) → z ≡ applied (second_change d) (applied (first_change d) p) → After M x.request x.current x.time (settled spot z m) b
@@ -166,18 +169,18 @@ module _ {M : Module} {e : Event} {T : Table} {x : Plan} (f : Planned M e T x) (
           let i = changes_in c in
           call_changed f ticked i (decides.call i) says (g ∙ changes_left d p c r ∙ ap (partition_after d) (sym (part_here i))) c r (sym (ap (λ (s : ℕ). settled s z (settled spot p m)) (at_spot i) ∙ settled_twice spot p m z))
 
-      pub did_restarted : restarts d ≡ true → {mode : ℕ} → mode ≡ mode_of d → (y : Module) → y ≡ restarted x.own (nothing_created mode) m
+      pub did_restarted : restarts d ≡ true → {mode : Mode} → mode ≡ mode_of d → (y : Module) → y ≡ restarted x.own (nothing_created (mode_number mode)) m
           → (o : Partition) → o ≡ get_or y.partitions x.slot no_partition → After M x.request x.current x.time (settled spot o y) b
       did_restarted r {mode} is y g o read =
           let i = restarts_in r in
           let own-slot : x.own - 1 ≡ x.slot = slot_own f i in
-          let z = nothing_created mode in
+          let z = nothing_created (mode_number mode) in
           let l = kept_to T x.own channel_limit m.messages in
           let same : set (settled spot p m).partitions x.slot z ≡ set m.partitions (x.own - 1) z = rw (own-slot, at_spot i) (set-set m.partitions spot p z) in
           let made : y ≡ refilled_to x.own channel_limit (record { table = m.table; t = m.t; messages = l; queues = m.queues; partitions = set (settled spot p m).partitions x.slot z }) = g ∙ rw (same, table_here) in
           subst (λ (v : Module). After M x.request x.current x.time v b)
           (sym (ap (λ (s : ℕ). settled s o y) (sym (at_spot i)) ∙ settled_same x.slot y no_partition read))
-          (call_restarted f ticked i (decides.call i) says (ap nothing_created is ∙ restart_left d (part (settled spot p m) x.slot) r) r refl made)
+          (call_restarted f ticked i (decides.call i) says (ap (λ (x : Mode). nothing_created (mode_number x)) is ∙ restart_left d (part (settled spot p m) x.slot) r) r refl made)
 
       module _ (h : transfer_at d < channel_limit) {a : Transfer} (is : a ≡ transfer_of d) (l : Queue) (moved-is : l ≡ moved a (get_or m.queues (transfer_at d) past_queue)) (end : ℕ) (ends : end ≡ cond (ends_wait a) (other_end x.own (channel T (transfer_at d)) - 1) partition_limit) where
         abbrev queued : Module
@@ -290,7 +293,7 @@ module _ {M : Module} {e : Event} {T : Table} {x : Plan} {f : Planned M e T x} {
   pub done_same : changes d ≡ false → (i k : ℕ) → i ≡ message_at d → channel_limit ≤ i → k ≡ transfer_at d → channel_limit ≤ k → Done M x b spot m p cs os run soon false false
   done_same c i k ei h ek h' = record { after = did_same f spot p m ticked long here d decides says c (rw ei at h) (rw ek at h'); sizes = same_sizes; mirrors = λ _. beside.mirrors; runs = λ _. beside.runs; early = early }
 
-  pub done_written : (k : ℕ) → k ≡ message_at d → k < channel_limit → {a : Message} → a ≡ message_of d → (y : Module) → y ≡ with_message k a m → Done M x b spot y p cs os run soon false false
+  pub done_written : (k : ℕ) → k ≡ message_at d → k < channel_limit → {a : Option Message} → a ≡ message_of d → (y : Module) → y ≡ with_message k a m → Done M x b spot y p cs os run soon false false
   done_written k ek h is y g = record { after = did_written f spot p m ticked long here d decides says (rw ek at h) is y (rw ek at g); sizes = same_sizes; mirrors = λ _. beside.mirrors; runs = λ _. beside.runs; early = early_same early (ap (λ (z : Module). set z.partitions spot p) g) refl }
 
   pub done_changed : changes d ≡ true → restarts d ≡ false → (z : Partition) → z ≡ applied (second_change d) (applied (first_change d) p) → {cs' os' : List ℕ} {stale : Bool} → (length cs' ≡ process_limit) × (length os' ≡ process_limit) → (stale ≡ false → Mirrors z cs' os') → Done M x b spot m z cs' os' run (set soon x.slot 0) stale true
@@ -304,7 +307,7 @@ module _ {M : Module} {e : Event} {T : Table} {x : Plan} {f : Planned M e T x} {
         early = early_set early lengths i z (omega arith) (rw (at_spot f spot p m ticked long here i) (sym (set-set m.partitions spot p z))) refl;
       }
 
-  pub done_restarted : restarts d ≡ true → {mode : ℕ} → mode ≡ mode_of d → (y : Module) → y ≡ restarted x.own (nothing_created mode) m
+  pub done_restarted : restarts d ≡ true → {mode : Mode} → mode ≡ mode_of d → (y : Module) → y ≡ restarted x.own (nothing_created (mode_number mode)) m
       → (o : Partition) → o ≡ get_or y.partitions x.slot no_partition → Done M x b spot y o cs os run (replicate partition_limit 0) true true
   done_restarted r is y g o read = record { after = did_restarted f spot p m ticked long here d decides says r is y g o read; sizes = same_sizes; mirrors = λ n. absurd (true≢false n); runs = λ n. absurd (true≢false n); early = begins_early _ }
 

@@ -1,21 +1,31 @@
 // The executive: a module that comes only from table reading and from events.
 #![tactic(auto)]
 
-ghost use Rattle.std.specs.Prelude.{◌≡◌, ◌+◌, ◌-◌, ◌≤◌, length};
+ghost use Rattle.std.specs.Prelude.{◌≡◌, ◌+◌, ◌-◌, ◌≤◌, length, false, List, ℕ};
 ghost use Rattle.std.proofs.lemmas.List.Edits.{sets};
-ghost use Rattle.machine.specs.Partition.{nothing_created};
+ghost use Rattle.machine.specs.Limits.{process_limit};
+ghost use Rattle.machine.specs.Partition.{nothing_created, applied, stored};
+ghost use Rattle.machine.specs.Mode.{mode_number};
+ghost use Rattle.machine.specs.Module.{channel, message};
+ghost use Rattle.machine.specs.Channels.{port_at, traffic_at};
 ghost use Rattle.machine.specs.Step.{restarted, step};
-ghost use Rattle.machine.specs.Replay.{time_number, answer_numbers, unread};
+ghost use Rattle.machine.specs.Replay.{answer_numbers, unread};
 ghost use Rattle.machine.specs.Table.{read_table};
 ghost use Rattle.machine.specs.Windows.{waiting_of};
 ghost use Rattle.events.specs.Plans.{no_answer};
+ghost use Rattle.resident.specs.Mirrors.{Mirrors};
+ghost use Rattle.resident.specs.Settled.{settled};
+ghost use Rattle.machine.specs.Fields.{number_of};
+ghost use Rattle.decisions.specs.Views.{Shows};
+ghost use Rattle.services.specs.Looked.{taken_for, waiter_for};
 ghost use Rattle.executive.specs.Executive.{turned, opened};
+ghost use Rattle.executive.specs.Places.{HasPlaces};
 ghost use Rattle.executive.specs.Lists.{six, event_at, after_list, answered_list, last_answer, events_in};
 
-use channels::Messages;
 use decisions::View;
 use machine::{
-    Answer, Change, Context, Decision, Event, Module, Partition, Process, Time, Waiting,
+    Answer, Buffer, Change, Channel, Context, Decision, Event, Field, Mode, Module, Partition,
+    Port, Process, Traffic, Waiting,
 };
 
 #[derive(Clone, Copy)]
@@ -40,26 +50,15 @@ pub struct Opening {
 }
 
 // ---------------------------------------------------------------- a restart
-fn one_less(k: u32) -> u32
-    ensures { result ≡ k - 1 }
-{
-    if k == 0 { 0 } else { k - 1 }
-}
-
 // Partition k is restarted in this mode: nothing is created, the messages on channels into it are erased, and the queues into it filled anew.
-fn restart(m: Module, k: u32, mode: u8) -> Module
-    ensures { result ≡ restarted k (nothing_created mode) m }
+fn restart(m: Module, k: u32, mode: Mode) -> Module
+    ensures { result ≡ restarted k (nothing_created (mode_number mode)) m }
 {
     let mut r = m;
-    let table = r.table;
-    let items = r.messages;
-    let e = channels::erase_into(Messages { items }, table, k);
-    let kept = e.items;
-    r.messages = kept;
-    let slot = one_less(k) as usize;
+    channels::erase_into(&mut r.messages, r.table, k);
+    let slot = k.saturating_sub(1) as usize;
     if slot < Module::PARTITIONS {
-        let p = partition::nothing_created(mode);
-        r.partitions[slot] = p;
+        r.partitions[slot] = partition::nothing_created(mode);
     }
     queuing::refill(r, k)
 }
@@ -82,28 +81,221 @@ fn event_at(list: &[i64], at: usize) -> Event
     }
 }
 
-// -1 is never.
-fn time_number(t: Time) -> i64
-    ensures { result ≡ time_number t }
-{
-    match t {
-        None => -1,
-        Some(n) => n as i64,
-    }
-}
-
 // Stores code, value, extra, t, current, running.
 fn put_answer(list: &mut [i64], at: usize, a: Answer)
     requires { at + six ≤ length list.old }
     ensures { list.new ≡ sets list.old at (answer_numbers a) }
 {
-    let extra = a.extra;
     list[at] = a.code as i64;
     list[at + 1] = a.value as i64;
-    list[at + 2] = time_number(extra);
+    list[at + 2] = machine::time_number(a.extra);
     list[at + 3] = a.t as i64;
     list[at + 4] = a.current as i64;
     list[at + 5] = a.running as i64;
+}
+
+// Stores a process's record in the partition that lies in place: both lists and the numbers beside it follow.
+fn store(
+    here: &mut Partition,
+    currents: &mut [u8; Module::PROCESSES],
+    objects: &mut [u16; Module::PROCESSES],
+    id: u32,
+    x: Process,
+)
+    ensures stored { here.new ≡ stored id x here.old }
+    ensures beside { Mirrors here.old currents.old objects.old → Mirrors here.new currents.new objects.new }
+{
+    let k = partition::slot(id, Module::PROCESSES);
+    if k < Module::PROCESSES {
+        let old = here.processes[k];
+        here.processes[k] = x;
+        here.arrival = partition::arrival_with(here.arrival, old, x, id);
+        here.waiting = partition::waiting_with(here.waiting, old, x, id);
+        currents[k] = x.current;
+        objects[k] = resident::object_of(x);
+    }
+}
+
+// One change of the partition that lies in place. The numbers beside it follow where one process is stored; they have to be filled anew where the
+// result is true.
+fn make_change(
+    here: &mut Partition,
+    currents: &mut [u8; Module::PROCESSES],
+    objects: &mut [u16; Module::PROCESSES],
+    change: Change,
+) -> bool
+    ensures made { here.new ≡ applied change here.old }
+    ensures beside { result ≡ false → Mirrors here.old currents.old objects.old → Mirrors here.new currents.new objects.new }
+{
+    match change {
+        Change::Nothing => {}
+        Change::Stored(id, y) => store(here, currents, objects, id, y),
+        Change::Created(id, y) => {
+            *here = partition::create(*here, id, y);
+            return true;
+        }
+        Change::Last(id) => here.arrival = partition::last_in(here.arrival, id),
+        Change::StoredSemaphore(id, y) => {
+            let k = partition::slot(id, Module::SEMAPHORES);
+            if k < Module::SEMAPHORES {
+                here.semaphores[k] = y;
+                here.semaphore_count = partition::counted(here.semaphore_count, id);
+            }
+        }
+        Change::StoredEvent(id, y) => {
+            let k = partition::slot(id, Module::EVENTS);
+            if k < Module::EVENTS {
+                here.events[k] = y;
+                here.event_count = partition::counted(here.event_count, id);
+            }
+        }
+        Change::CreatedBuffer(id, name, limit) => {
+            *here = partition::create_buffer(*here, id, name, limit);
+        }
+        Change::Moved(id, y) => {
+            let k = partition::slot(id, Module::BUFFERS);
+            if k < Module::BUFFERS {
+                let mut v = here.buffers[k];
+                v.queue = messages::change(v.queue, y);
+                here.buffers[k] = v;
+                here.buffer_count = partition::counted(here.buffer_count, id);
+            }
+            let other = partition::ended_id(y);
+            let ended = partition::ended_as(partition::process_at(*here, other), y);
+            store(here, currents, objects, other, ended);
+        }
+        Change::StoredBlackboard(id, y) => {
+            let k = partition::slot(id, Module::BLACKBOARDS);
+            if k < Module::BLACKBOARDS {
+                here.blackboards[k] = y;
+                here.blackboard_count = partition::counted(here.blackboard_count, id);
+            }
+        }
+        Change::Ended(o) => {
+            *here = partition::end_queue(*here, o, false, 0);
+            return true;
+        }
+        Change::Handed(o, y) => {
+            *here = partition::end_queue(*here, o, true, y);
+            return true;
+        }
+        Change::LevelSet(level, holder) => {
+            here.level = level;
+            here.holder = holder;
+        }
+        Change::Entered(y) => {
+            *here = partition::enter_normal(*here, y);
+            return true;
+        }
+    }
+    false
+}
+
+// Two changes, one after the other.
+fn make_changes(
+    here: &mut Partition,
+    currents: &mut [u8; Module::PROCESSES],
+    objects: &mut [u16; Module::PROCESSES],
+    first: Change,
+    second: Change,
+) -> bool
+    ensures made { here.new ≡ applied second (applied first here.old) }
+    ensures beside { result ≡ false → Mirrors here.old currents.old objects.old → Mirrors here.new currents.new objects.new }
+{
+    if make_change(here, currents, objects, first) {
+        make_change(here, currents, objects, second);
+        return true;
+    }
+    make_change(here, currents, objects, second)
+}
+
+// What a call sees of the partition that lies in place, by its number and its field a.
+fn view_of(
+    here: &Partition,
+    objects: &[u16; Module::PROCESSES],
+    context: Context,
+    call: u32,
+    a: Field,
+) -> View
+    ensures context { result.context ≡ context }
+    ensures shows { Shows result (number_of a) here.now }
+    ensures taken { result.taken ≡ taken_for call a here.now }
+    ensures waiter { (currents : List ℕ) → Mirrors here.now currents objects.now → result.waiter ≡ waiter_for call (number_of a) here.now }
+{
+    let id = fields::number_of(a);
+    let object = services::object_for(call, id);
+    let waiter = if object == 0 {
+        0
+    } else {
+        resident::first_on(here.waiting, objects, object)
+    };
+    let buffer = partition::by_id(&here.buffers, id, Buffer::blank());
+    View {
+        context,
+        mode: here.mode,
+        level: here.level,
+        holder: here.holder,
+        count: here.process_count,
+        semaphores: here.semaphore_count,
+        events: here.event_count,
+        buffers: here.buffer_count,
+        blackboards: here.blackboard_count,
+        taken: services::does_create(call) && services::is_taken(*here, call, a),
+        named: partition::by_id(&here.processes, id, Process::blank()),
+        calling: partition::by_id(&here.processes, context.caller as u32, Process::blank()),
+        semaphore: partition::by_id(&here.semaphores, id, objects::no_semaphore()),
+        event: partition::by_id(&here.events, id, objects::no_event()),
+        limit: buffer.limit,
+        len: buffer.queue.len,
+        first: messages::first_of(buffer.queue),
+        blackboard: partition::by_id(&here.blackboards, id, blackboards::empty_blackboard(0)),
+        waiter,
+        served: partition::by_id(&here.processes, waiter as u32, Process::blank()),
+    }
+}
+
+// What partition `own` sees of the traffic of the channel at a place, where the partition at this spot of the module lies here.
+fn traffic_for(
+    m: &Module,
+    here: &Partition,
+    spot: usize,
+    own: u32,
+    place: usize,
+    line: Channel,
+) -> Traffic
+    requires { HasPlaces m.now }
+    ensures { line ≡ channel m.now.table place → result ≡ traffic_at (settled spot here.now m.now) own place }
+{
+    let seen = queuing::seen_slot(m.table.channel_count, line, own, place);
+    if Module::PARTITIONS <= seen {
+        return queuing::no_traffic();
+    }
+    let Some(queue) = m.queues.get(place) else {
+        return queuing::no_traffic();
+    };
+    let object = queuing::other_object(line, own, place);
+    if seen == spot {
+        queuing::traffic_of(*queue, object, *here)
+    } else {
+        queuing::traffic_of(*queue, object, m.partitions[seen])
+    }
+}
+
+// What partition `own` sees of the channel that field a names.
+fn port_of(m: &Module, here: &Partition, spot: usize, own: u32, a: Field) -> Port
+    requires { HasPlaces m.now }
+    ensures { result ≡ port_at m.now.table own a (message m.now (number_of a - 1)) (traffic_at (settled spot here.now m.now) own (number_of a - 1)) }
+{
+    let place = channels::place_of(a) as usize;
+    let line = m
+        .table
+        .channels
+        .get(place)
+        .copied()
+        .unwrap_or(channels::no_channel());
+    let held = m.messages.get(place).copied().unwrap_or(None);
+    let traffic = traffic_for(m, here, spot, own, place, line);
+    channels::port_at(m.table.channel_count, line, own, a, held, traffic)
 }
 
 impl Executive {
@@ -137,8 +329,7 @@ impl Executive {
         let mut objects = [0u16; Module::PROCESSES];
         let mut run: u8 = 0;
         let mut soon = [0u32; Module::PARTITIONS];
-        let mut i: usize = 0;
-        while i < n {
+        for i in 0..n {
             let at = i * SIX;
             let asked = fields::request_of(event_at(list, at));
             let first = places::place_event(table.size, m.t, asked);
@@ -148,8 +339,7 @@ impl Executive {
             let x = events::plan_of(table.size, asked, first, window);
             m.t = x.time;
             let mut stale = false;
-            let mut j: usize = 0;
-            while j < x.ticks {
+            for j in 0..x.ticks {
                 if soon[j] <= m.t {
                     if j == spot {
                         here = partition::ticked(here, m.t);
@@ -162,7 +352,6 @@ impl Executive {
                         soon[j] = partition::soonest_of(q);
                     }
                 }
-                j += 1;
             }
             if x.spot != spot {
                 if spot < Module::PARTITIONS {
@@ -183,26 +372,6 @@ impl Executive {
             let slot = x.slot;
             if slot < Module::PARTITIONS {
                 let request = x.request;
-                let a = request.a;
-                let place = x.place;
-                let mut held = decisions::no_message();
-                let mut channel = channels::no_channel();
-                if place < Module::CHANNELS {
-                    held = m.messages[place];
-                    channel = table.channels[place];
-                }
-                let seen = queuing::seen_slot(table.channel_count, channel, x.own, place);
-                let mut traffic = queuing::no_traffic();
-                if seen < Module::PARTITIONS {
-                    let object = queuing::other_object(channel, x.own, place);
-                    let q = m.queues[place];
-                    if seen == spot {
-                        traffic = queuing::traffic_of(q, object, here);
-                    } else {
-                        let p = m.partitions[seen];
-                        traffic = queuing::traffic_of(q, object, p);
-                    }
-                }
                 let context = Context {
                     time: m.t,
                     frame: table.frame,
@@ -210,72 +379,9 @@ impl Executive {
                     release: events::release_for(table, m.t, x.own, x.call),
                     caller: run,
                 };
-                let port = channels::port_at(table.channel_count, channel, x.own, a, held, traffic);
-                let id = fields::number_of(a);
-                let mut named = Process::blank();
-                let named_at = partition::slot(id, Module::PROCESSES);
-                if named_at < Module::PROCESSES {
-                    named = here.processes[named_at];
-                }
-                let mut calling = Process::blank();
-                let calling_at = partition::slot(run as u32, Module::PROCESSES);
-                if calling_at < Module::PROCESSES {
-                    calling = here.processes[calling_at];
-                }
-                let mut semaphore = objects::no_semaphore();
-                let mut event = objects::no_event();
-                let mut limit: u8 = 0;
-                let mut len: u8 = 0;
-                let mut first_held: u32 = 0;
-                let mut blackboard = blackboards::empty_blackboard(0);
-                let object_at = partition::slot(id, Module::SEMAPHORES);
-                if object_at < Module::SEMAPHORES {
-                    semaphore = here.semaphores[object_at];
-                    event = here.events[object_at];
-                    let buffer = here.buffers[object_at];
-                    let queue = buffer.queue;
-                    limit = buffer.limit;
-                    len = queue.len;
-                    first_held = messages::first_of(queue);
-                    blackboard = here.blackboards[object_at];
-                }
-                let mut waiter: u8 = 0;
-                let object = services::object_for(x.call, id);
-                if object != 0 {
-                    let waiting = here.waiting;
-                    waiter = resident::first_on(waiting, &objects, object);
-                }
-                let mut served = Process::blank();
-                let served_at = partition::slot(waiter as u32, Module::PROCESSES);
-                if served_at < Module::PROCESSES {
-                    served = here.processes[served_at];
-                }
-                let mut taken = false;
-                if services::does_create(x.call) {
-                    taken = services::is_taken(here, x.call, a);
-                }
-                let view = View {
-                    mode: here.mode,
-                    level: here.level,
-                    holder: here.holder,
-                    count: here.process_count,
-                    semaphores: here.semaphore_count,
-                    events: here.event_count,
-                    buffers: here.buffer_count,
-                    blackboards: here.blackboard_count,
-                    taken,
-                    named,
-                    calling,
-                    semaphore,
-                    event,
-                    limit,
-                    len,
-                    first: first_held,
-                    blackboard,
-                    waiter,
-                    served,
-                };
-                d = services::call(view, context, port, x.call, request);
+                let view = view_of(&here, &objects, context, x.call, request.a);
+                let port = port_of(&m, &here, spot, x.own, request.a);
+                d = services::call(view, port, x.call, request);
             }
             let reply = decisions::reply_of(d);
             let put = decisions::message_at(d);
@@ -289,102 +395,9 @@ impl Executive {
                 stale = true;
                 changed = true;
             } else if decisions::does_change(d) {
-                let mut change = decisions::first_change(d);
+                let first = decisions::first_change(d);
                 let second = decisions::second_change(d);
-                let mut turn: u8 = 0;
-                while turn < 2 {
-                    match change {
-                        Change::Nothing => {}
-                        Change::Stored(id, y) => {
-                            let k = partition::slot(id, Module::PROCESSES);
-                            if k < Module::PROCESSES {
-                                let old = here.processes[k];
-                                here.processes[k] = y;
-                                here.arrival = partition::arrival_with(here.arrival, old, y, id);
-                                here.waiting = partition::waiting_with(here.waiting, old, y, id);
-                                currents[k] = y.current;
-                                objects[k] = resident::object_of(y);
-                            }
-                        }
-                        Change::Created(id, y) => {
-                            here = partition::create(here, id, y);
-                            stale = true;
-                        }
-                        Change::Last(id) => here.arrival = partition::last_in(here.arrival, id),
-                        Change::StoredSemaphore(id, y) => {
-                            let k = partition::slot(id, Module::SEMAPHORES);
-                            if k < Module::SEMAPHORES {
-                                here.semaphores[k] = y;
-                                here.semaphore_count = partition::counted(here.semaphore_count, id);
-                            }
-                        }
-                        Change::StoredEvent(id, y) => {
-                            let k = partition::slot(id, Module::EVENTS);
-                            if k < Module::EVENTS {
-                                here.events[k] = y;
-                                here.event_count = partition::counted(here.event_count, id);
-                            }
-                        }
-                        Change::CreatedBuffer(id, name, limit) => here = partition::create_buffer(
-                            here, id, name, limit,
-                        ),
-                        Change::Moved(id, y) => {
-                            let k = partition::slot(id, Module::BUFFERS);
-                            if k < Module::BUFFERS {
-                                let mut v = here.buffers[k];
-                                v.queue = messages::change(v.queue, y);
-                                here.buffers[k] = v;
-                                here.buffer_count = partition::counted(here.buffer_count, id);
-                            }
-                            let other = partition::ended_id(y);
-                            let l = partition::slot(other, Module::PROCESSES);
-                            if l < Module::PROCESSES {
-                                let old = here.processes[l];
-                                let ended = partition::ended_as(old, y);
-                                here.processes[l] = ended;
-                                here.arrival = partition::arrival_with(
-                                    here.arrival,
-                                    old,
-                                    ended,
-                                    other,
-                                );
-                                here.waiting = partition::waiting_with(
-                                    here.waiting,
-                                    old,
-                                    ended,
-                                    other,
-                                );
-                                currents[l] = ended.current;
-                                objects[l] = resident::object_of(ended);
-                            }
-                        }
-                        Change::StoredBlackboard(id, y) => {
-                            let k = partition::slot(id, Module::BLACKBOARDS);
-                            if k < Module::BLACKBOARDS {
-                                here.blackboards[k] = y;
-                                here.blackboard_count = partition::counted(here.blackboard_count, id);
-                            }
-                        }
-                        Change::Ended(o) => {
-                            here = partition::end_queue(here, o, false, 0);
-                            stale = true;
-                        }
-                        Change::Handed(o, y) => {
-                            here = partition::end_queue(here, o, true, y);
-                            stale = true;
-                        }
-                        Change::LevelSet(level, holder) => {
-                            here.level = level;
-                            here.holder = holder;
-                        }
-                        Change::Entered(y) => {
-                            here = partition::enter_normal(here, y);
-                            stale = true;
-                        }
-                    }
-                    change = second;
-                    turn += 1;
-                }
+                stale = make_changes(&mut here, &mut currents, &mut objects, first, second);
                 soon[slot] = 0;
                 changed = true;
             } else if put < Module::CHANNELS {
@@ -421,7 +434,6 @@ impl Executive {
             }
             last = events::answer_of(reply, m.t, x.current, running);
             put_answer(list, at, last);
-            i += 1;
         }
         if spot < Module::PARTITIONS {
             m.partitions[spot] = here;

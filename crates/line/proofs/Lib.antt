@@ -5,3 +5,4 @@ pub mod Parts
 pub mod Columns
 pub mod Scan
 pub mod Meaning
+pub mod Codes

@@ -1,16 +1,17 @@
 -- Reading: what each loop of the reader has done.
 -- Assumes nothing.
-use Prim.Native.Nat.{ℕ, suc, ◌+◌, ◌-◌, ◌*◌, ◌≤◌, ◌<◌}
+use Prim.Native.Nat.{ℕ, ◌+◌, ◌-◌, ◌*◌, ◌≤◌, ◌<◌, min}
 use mathlib.Core.Path.{◌≡◌, refl, sym, ◌∙◌, ap}
 use mathlib.Core.Bool.{Bool, true, false, cond, and-true}
 use mathlib.Core.List.{List, [], ◌∷◌, ◌++◌, append_assoc, append-nil}
 use native.Mathlib.Omega.{arith}
 use native.Mathlib.Numerals.{add-one}
-use lib.ListN.{length, get_or, take, drop, set, drop_of_length-le}
+use lib.ListN.{length, get_or, take, drop, set, length-drop, drop_of_length-le}
 use lib.Seq.{take-suc-set, take_all, drop-cons, drop-drop}
-use lib.Dec.{eqb, leb}
-use borrow.Author.Tests.{eq-eqb, ne_eqb, le-leb, leb-true}
+use lib.Dec.{eqb, ltb}
+use borrow.Author.Tests.{eq-eqb, ne_eqb, le-leb, lt-leb, ltb-true, ltb-false}
 use Rattle.std.specs.Prelude.{Option, None, Some}
+use Rattle.std.specs.List.{position, position_or_len}
 use lib.IntN.{ℤ, pos}
 use mir.Syntax.{w64}
 use mir.Val.{to_z, of_z}
@@ -20,39 +21,42 @@ use Rattle.machine.specs.Line.{line_feed, field_width, same_bytes, read_field, j
 use Rattle.machine.proofs.TextField.{read_field_holds}
 use Rattle.machine.proofs.TextLine.{reads_more, reads_none, read_line_holds}
 use Rattle.line.proofs.Signed.{range_back, ranges_back}
-use Rattle.line.specs.declared.Found.{Found}
-use Rattle.line.specs.declared.Found.TheVariants.{Number, Nothing}
-use Rattle.line.specs.Found.{found_of}
 use Rattle.machine.proofs.Either.{either}
 
 -- ---------------------------------------------------------------- where a line ends
-module _ (l : List ℕ) (i r : ℕ) (e : line_end l i ≡ r) where
-  pub end_more : i < length l → (get_or l i 0 ≡ line_feed → ⊥) → line_end l (i + 1) ≡ r
-  unfolding first_length
-  end_more h n =
-      let q : i + suc (first_length (drop (suc i) l)) ≡ r =
-      rw (le-leb i (length l) (omega arith), drop-cons l i 0 h, ne_eqb (get_or l i 0) line_feed n) at e
-      in
-      rw (le-leb (i + 1) (length l) (omega arith), add-one) (omega arith)
+-- the length of the first line, by the place of its LF
+first_placed : (l : List ℕ) → first_length l ≡ min (position_or_len (λ b. eqb b line_feed) l + 1) (length l)
+unfolding first_length
+first_placed [] = refl
+first_placed (b ∷ bs) =
+    either (eqb b line_feed)
+    (λ t. rw t (omega arith))
+    (λ t. let e = first_placed bs in rw t (omega arith))
 
-  pub end_found : i < length l → get_or l i 0 ≡ line_feed → i + 1 ≡ r
-  unfolding first_length
-  end_found h n = rw (le-leb i (length l) (omega arith), drop-cons l i 0 h, eq-eqb (get_or l i 0) line_feed n) at e
+module _ (l : List ℕ) (at : ℕ) (h : at ≤ length l) where
+  end_at : line_end l at ≡ at + min (position_or_len (λ b. eqb b line_feed) (drop at l) + 1) (length l - at)
+  end_at = rw (le-leb at (length l) h, first_placed (drop at l), length-drop)
 
-  pub end_past : length l ≤ i → length l ≡ r
-  unfolding first_length
-  end_past h =
-      either (leb i (length l))
-      (λ t. let q : i + 0 ≡ r = rw (t, drop_of_length-le l {i = i} h) at e in omega (arith, leb-true i (length l) t))
-      (λ t. rw t at e)
+  pub end_found : (i : ℕ) → position (λ b. eqb b line_feed) (drop at l) ≡ Some i → at + i + 1 ≡ line_end l at
+  end_found i e =
+      let p = position_or_len (λ b. eqb b line_feed) (drop at l) in
+      either (ltb p (length (drop at l)))
+      (λ t.
+      let s : Some p ≡ Some i = rw t at e in
+      let q : p ≡ i = cc in
+      let w = end_at in
+      omega (arith, ltb-true p (length (drop at l)) t, length-drop at l))
+      (λ t. absurd (let s : None ≡ Some i = rw t at e in let z : ◌≡◌ {A = ℕ} 0 1 = cc in omega arith))
 
-found_number : (r : Option ℤ) (x : ℤ) → found_of r ≡ Number x → r ≡ Some x
-found_number None x e = absurd (let q : ◌≡◌ {A = ℕ} 0 1 = cc in omega arith)
-found_number (Some z) x e = cc
+  pub end_none : position (λ b. eqb b line_feed) (drop at l) ≡ None → length l ≡ line_end l at
+  end_none e =
+      let p = position_or_len (λ b. eqb b line_feed) (drop at l) in
+      either (ltb p (length (drop at l)))
+      (λ t. absurd (let s : Some p ≡ None = rw t at e in let z : ◌≡◌ {A = ℕ} 0 1 = cc in omega arith))
+      (λ t. let w = end_at in omega (arith, ltb-false p (length (drop at l)) t, length-drop at l))
 
-found_nothing : (r : Option ℤ) → found_of r ≡ Nothing → r ≡ None
-found_nothing None e = refl
-found_nothing (Some z) e = absurd (let q : ◌≡◌ {A = ℕ} 0 1 = cc in omega arith)
+pub end_past : (l : List ℕ) (at : ℕ) → length l < at → length l ≡ line_end l at
+end_past l at h = rw (lt-leb at (length l) h)
 
 -- ---------------------------------------------------------------- the numbers read so far
 -- numbers in front of what is read after them
@@ -74,7 +78,7 @@ bad_line s e = rw e
 
 -- what is left to read after i numbers gives the whole
 module _ (s : List ℕ) (ns : List ℤ) (i : ℕ) (l : length ns ≡ field_count) (q : ahead (take i ns) (read_numbers (field_count - i) (drop (i * field_width) s)) ≡ read_numbers field_count s) where
-  module _ (h : i < field_count) (f : Found) (e : f ≡ found_of (read_field (take field_width (drop (i * field_width) s)))) where
+  module _ (h : i < field_count) (f : Option ℤ) (e : f ≡ read_field (take field_width (drop (i * field_width) s))) where
     opened : (r : Option ℤ) → read_field (take field_width (drop (i * field_width) s)) ≡ r
         → ahead (take i ns) (joined r (read_numbers (field_count - (i + 1)) (drop ((i + 1) * field_width) s))) ≡ read_numbers field_count s
     opened r g =
@@ -82,17 +86,17 @@ module _ (s : List ℕ) (ns : List ℤ) (i : ℕ) (l : length ns ≡ field_count
         let m : i * field_width + field_width ≡ (i + 1) * field_width = omega arith in
         rw (reads_more (field_count - i) (drop (i * field_width) s) (omega arith), n, drop-drop field_width (i * field_width) s, m, g) at q
 
-    pub number_more : (x : ℤ) → f ≡ Number x
+    pub number_more : (x : ℤ) → f ≡ Some x
         → ahead (take (i + 1) (set ns i (to_z w64 (of_z w64 x)))) (read_numbers (field_count - (i + 1)) (drop ((i + 1) * field_width) s)) ≡ read_numbers field_count s
     number_more x g =
-        let r : read_field (take field_width (drop (i * field_width) s)) ≡ Some x = found_number _ x (sym e ∙ g) in
+        let r : read_field (take field_width (drop (i * field_width) s)) ≡ Some x = sym e ∙ g in
         let t : take (i + 1) (set ns i (to_z w64 (of_z w64 x))) ≡ take i ns ++ (x ∷ []) =
         rw (range_back x (read_field_holds (take field_width (drop (i * field_width) s)) x r).1, add-one, take-suc-set ns i x (omega arith))
         in
         rw t (sym (ahead_joined (take i ns) x (read_numbers (field_count - (i + 1)) (drop ((i + 1) * field_width) s))) ∙ opened (Some x) r)
 
-    pub number_none : f ≡ Nothing → Bad ≡ read_line s
-    number_none g = bad_line s (sym (opened None (found_nothing _ (sym e ∙ g))))
+    pub number_none : f ≡ None → Bad ≡ read_line s
+    number_none g = bad_line s (sym (opened None (sym e ∙ g)))
 
   module _ (h : field_count ≤ i) (k : i ≤ field_count) (w : length s ≡ line_length) where
     closed : (b : Bool) → eqb (get_or s (line_length - 1) 0) line_feed ≡ b → ahead ns (cond b (Some []) None) ≡ read_numbers field_count s

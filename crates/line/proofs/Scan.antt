@@ -2,27 +2,25 @@
 -- Assumes nothing.
 use Prim.Native.Nat.{ℕ, zero, suc, ◌+◌, ◌-◌, ◌*◌, ◌/◌, ◌^◌, ◌≤◌, ◌<◌}
 use mathlib.Core.Path.{◌≡◌, refl, sym, ◌∙◌, ap}
-use mathlib.Core.Bool.{true, cond, ◌&&◌, and-eq-true_iff, and-true}
+use mathlib.Core.Bool.{true, false, cond, ◌&&◌, and-eq-true_iff, and-true}
 use mathlib.Core.List.{List, [], ◌∷◌, ◌++◌}
 use Rattle.std.specs.Prelude.{Option, None, Some}
 use native.Mathlib.Omega.{arith}
-use native.Mathlib.Nat.{pow-suc, pow-succ', pow-le-pow_right, div-one, div-eq_of_lt, div-lt_iff_lt-mul, div-div-eq-div-mul, one-le-pow, pos_of_div-pos}
+use native.Mathlib.Nat.{add-zero, pow-suc, pow-succ', pow-le-pow_right, div-one, div-eq_of_lt, div-lt_iff_lt-mul, div-div-eq-div-mul, one-le-pow, pos_of_div-pos}
 use native.Mathlib.Numerals.{add-one}
-use lib.ListN.{length, get_or, drop, replicate, length-drop, drop_of_length-le}
+use Rattle.std.specs.List.{list_all}
+use lib.ListN.{length, get_or, take, drop, replicate, length-drop, drop_of_length-le}
 use lib.Seq.{drop-cons}
 use mir.Syntax.{w64}
 use mir.Val.{to_z}
 use mir.ValLaws.{to_z_pos}
 use lib.Dec.{eqb, leb, lit<}
 use lib.IntN.{ℤ, pos, negsuc}
-use borrow.Author.Tests.{eq-eqb, ne_eqb, le-leb, lt-leb, leb-true, leb-false, eqb-true, eqb-false}
+use borrow.Author.Tests.{eq-eqb, ne_eqb, le-leb, leb-true, leb-false, eqb-true, eqb-false}
 use Rattle.machine.specs.Limits.{number_limit}
 use Rattle.machine.specs.Line.{space, minus, zero_digit, base, field_width, in_range, column, mark_after, columns, last_digit, number_text, field_text, same_bytes, spelled, read_field}
 use Rattle.machine.proofs.TextField.{columns_more, columns_none, same_true, field_read, read_field_holds}
 use Rattle.machine.proofs.Either.{either}
-use Rattle.line.specs.declared.Found.{Found}
-use Rattle.line.specs.declared.Found.TheVariants.{Number, Nothing}
-use Rattle.line.specs.Found.{found_of}
 use Rattle.line.specs.Scan.{digits_from, only, number_from, first_from, scanned}
 
 -- ---------------------------------------------------------------- columns from the left
@@ -61,7 +59,7 @@ digit_more q v bs h e =
     let w : v * base + (last_digit q - zero_digit) ≡ q = omega arith in
     rw (le-leb zero_digit (last_digit q) (omega arith), le-leb (last_digit q) (last_digit 9) (omega arith), w)
 
-digits_columns : (k n : ℕ) → 0 < n / base ^ k → digits_from (columns k n space) (n / base ^ k) ≡ Number (pos n)
+digits_columns : (k n : ℕ) → 0 < n / base ^ k → digits_from (columns k n space) (n / base ^ k) ≡ Some (pos n)
 unfolding digits_from
 digits_columns zero n h = rw (columns_none 0 n space (omega arith), div-one n)
 digits_columns (suc k) n h =
@@ -83,7 +81,7 @@ first_digit q bs h l =
 pow_some : (k : ℕ) → 0 < base ^ k
 pow_some k = omega (arith, one-le-pow k base (lit< tt))
 
-first_columns : (k n : ℕ) → 0 < n → n < base ^ k → first_from (columns k n space) ≡ Number (pos n)
+first_columns : (k n : ℕ) → 0 < n → n < base ^ k → first_from (columns k n space) ≡ Some (pos n)
 first_columns zero n h l = absurd (omega arith)
 first_columns (suc k) n h l =
     let p : base ^ suc k ≡ base * base ^ k = pow-succ' base k in
@@ -98,24 +96,24 @@ first_columns (suc k) n h l =
     let m : n / base ^ k < base = (div-lt_iff_lt-mul {k = base ^ k} {x = n} {y = base} (pow_some k)).1 (omega arith) in
     rw (some_column (n / base ^ k) s) (first_digit (n / base ^ k) (columns k n space) s m ∙ digits_columns k n s)))
 
-scanned_number : (n : ℕ) → 0 < n → n ≤ number_limit → scanned (number_text n space) ≡ Number (pos n)
+scanned_number : (n : ℕ) → 0 < n → n ≤ number_limit → scanned (number_text n space) ≡ Some (pos n)
 unfolding scanned column
 scanned_number n h l =
     rw (columns_text n h, columns_left (field_width - 1) n, div-eq_of_lt {n = n} {m = base ^ (field_width - 1)} (omega arith))
     (first_columns (field_width - 1) n h (omega arith))
 
-scanned_text : (z : ℤ) → in_range z ≡ true → scanned (field_text z) ≡ Number z
+scanned_text : (z : ℤ) → in_range z ≡ true → scanned (field_text z) ≡ Some z
 unfolding in_range field_text scanned first_from number_from only digits_from number_text columns column mark_after same_bytes
 scanned_text (pos zero) r = refl
 scanned_text (pos (suc n)) r = scanned_number (suc n) (omega arith) (leb-true (suc n) number_limit r)
 scanned_text (negsuc n) r = rw (eqb-true n 0 r)
 
 -- ---------------------------------------------------------------- what was read is the text of its number
-no_number : {P : Type 0} (z : ℤ) → Nothing ≡ Number z → P
+no_number : {P : Type 0} (z : ℤ) → None ≡ Some z → P
 no_number z e = absurd (let q : ◌≡◌ {A = ℕ} 0 1 = cc in omega arith)
 
-digits_step : (b : ℕ) (bs : List ℕ) (v : ℕ) (z : ℤ) → digits_from (b ∷ bs) v ≡ Number z
-    → (zero_digit ≤ b) × (b ≤ last_digit 9) × (digits_from bs (v * base + (b - zero_digit)) ≡ Number z)
+digits_step : (b : ℕ) (bs : List ℕ) (v : ℕ) (z : ℤ) → digits_from (b ∷ bs) v ≡ Some z
+    → (zero_digit ≤ b) × (b ≤ last_digit 9) × (digits_from bs (v * base + (b - zero_digit)) ≡ Some z)
 unfolding digits_from
 digits_step b bs v z e =
     either (leb zero_digit b && leb b (last_digit 9))
@@ -131,7 +129,7 @@ column_step b bs v n lo hi h q e =
     let c : column (n / base ^ length bs) space ≡ b = rw (q, some_column (v * base + (b - zero_digit)) h) (omega arith) in
     sym (columns_left (length bs) n ∙ rw c (ap (◌∷◌ b) (sym e)))
 
-digits_back : (bs : List ℕ) (v : ℕ) (z : ℤ) → 0 < v → digits_from bs v ≡ Number z
+digits_back : (bs : List ℕ) (v : ℕ) (z : ℤ) → 0 < v → digits_from bs v ≡ Some z
     → (z ≡ pos (spelled bs v)) × (spelled bs v / base ^ length bs ≡ v) × (bs ≡ columns (length bs) (spelled bs v) space)
 unfolding digits_from spelled
 digits_back [] v z h e = (cc, div-one v, sym (columns_none 0 v space (omega arith)))
@@ -156,11 +154,11 @@ space_in : (m : ℕ) (bs : List ℕ) → replicate m space ++ (space ∷ bs) ≡
 space_in zero bs = refl
 space_in (suc m) bs = ap (◌∷◌ space) (space_in m bs)
 
-only_back : (l : List ℕ) (y : ℤ) (bs : List ℕ) (z : ℤ) → only l y bs ≡ Number z → (bs ≡ l) × (z ≡ y)
+only_back : (l : List ℕ) (y : ℤ) (bs : List ℕ) (z : ℤ) → only l y bs ≡ Some z → (bs ≡ l) × (z ≡ y)
 unfolding only
 only_back l y bs z e =
     either (same_bytes bs l)
-    (λ t. let s : Number y ≡ Number z = rw t at e in (same_true bs l t, cc))
+    (λ t. let s : Some y ≡ Some z = rw t at e in (same_true bs l t, cc))
     (λ t. no_number z (rw t at e))
 
 module _ (m b : ℕ) (bs : List ℕ) (z : ℤ) (h : 0 < m) (k : m + suc (length bs) ≡ field_width) where
@@ -172,7 +170,7 @@ module _ (m b : ℕ) (bs : List ℕ) (z : ℤ) (h : 0 < m) (k : m + suc (length 
   unfolding in_range field_text number_text columns column mark_after
   zero_text w x y q = rw (w, x, y, q) (refl, refl)
 
-  digits_text : (b ≡ zero_digit → ⊥) → digits_from (b ∷ bs) 0 ≡ Number z → (replicate m space ++ (b ∷ bs) ≡ field_text z) × (in_range z ≡ true)
+  digits_text : (b ≡ zero_digit → ⊥) → digits_from (b ∷ bs) 0 ≡ Some z → (replicate m space ++ (b ∷ bs) ≡ field_text z) × (in_range z ≡ true)
   unfolding in_range field_text
   digits_text f e =
       let s = digits_step b bs 0 z e in
@@ -195,7 +193,7 @@ module _ (m b : ℕ) (bs : List ℕ) (z : ℤ) (h : 0 < m) (k : m + suc (length 
         le-leb n number_limit (omega arith),
       )
 
-  number_back : number_from (b ∷ bs) ≡ Number z → (replicate m space ++ (b ∷ bs) ≡ field_text z) × (in_range z ≡ true)
+  number_back : number_from (b ∷ bs) ≡ Some z → (replicate m space ++ (b ∷ bs) ≡ field_text z) × (in_range z ≡ true)
   unfolding number_from
   number_back e =
       either (eqb b minus)
@@ -213,7 +211,7 @@ module _ (m b : ℕ) (bs : List ℕ) (z : ℤ) (h : 0 < m) (k : m + suc (length 
       zero_text w (eqb-true b zero_digit u) r.0 r.1)
       (λ u. digits_text (eqb-false b zero_digit u) (rw (t, u) at e)))
 
-first_back : (m : ℕ) (bs : List ℕ) (z : ℤ) → 0 < m → m + length bs ≡ field_width → first_from bs ≡ Number z
+first_back : (m : ℕ) (bs : List ℕ) (z : ℤ) → 0 < m → m + length bs ≡ field_width → first_from bs ≡ Some z
     → (replicate m space ++ bs ≡ field_text z) × (in_range z ≡ true)
 unfolding first_from
 first_back m [] z h k e = no_number z e
@@ -224,7 +222,7 @@ first_back m (b ∷ bs) z h k e =
     (rw (eqb-true b space t) (space_in m bs ∙ r.0), r.1))
     (λ t. number_back m b bs z h (omega arith) (rw t at e))
 
-scanned_back : (bs : List ℕ) (z : ℤ) → length bs ≡ field_width → scanned bs ≡ Number z → (bs ≡ field_text z) × (in_range z ≡ true)
+scanned_back : (bs : List ℕ) (z : ℤ) → length bs ≡ field_width → scanned bs ≡ Some z → (bs ≡ field_text z) × (in_range z ≡ true)
 unfolding scanned
 scanned_back [] z h e = no_number z e
 scanned_back (b ∷ bs) z h e =
@@ -233,31 +231,31 @@ scanned_back (b ∷ bs) z h e =
     (λ t. no_number z (rw t at e))
 
 -- reading once gives what the definition says
-pub scanned_field : (bs : List ℕ) → length bs ≡ field_width → scanned bs ≡ found_of (read_field bs)
+pub scanned_field : (bs : List ℕ) → length bs ≡ field_width → scanned bs ≡ read_field bs
 scanned_field bs h = go (scanned bs) refl (read_field bs) refl
   where
-    go : (f : Found) → scanned bs ≡ f → (r : Option ℤ) → read_field bs ≡ r → scanned bs ≡ found_of (read_field bs)
+    go : (f : Option ℤ) → scanned bs ≡ f → (r : Option ℤ) → read_field bs ≡ r → scanned bs ≡ read_field bs
     go f e (Some z) q =
         let p = read_field_holds bs z q in
         rw q (ap scanned p.0 ∙ scanned_text z p.1)
-    go Nothing e None q = rw q e
-    go (Number z) e None q =
+    go None e None q = rw q e
+    go (Some z) e None q =
         let p = scanned_back bs z h e in
         absurd (let s : None ≡ Some z = sym q ∙ ap read_field p.0 ∙ field_read z p.1 in let t : ◌≡◌ {A = ℕ} 0 1 = cc in omega arith)
 
 -- ---------------------------------------------------------------- what the code's tests say
 module _ (l : List ℕ) (h : length l ≡ field_width) where
-  scanned_at : cond (eqb (get_or l 0 0) space) (first_from (drop 1 l)) Nothing ≡ found_of (read_field l)
+  scanned_at : cond (eqb (get_or l 0 0) space) (first_from (drop 1 l)) None ≡ read_field l
   unfolding scanned
   scanned_at = ap scanned (sym (drop-cons l 0 0 (omega arith))) ∙ scanned_field l h
 
-  pub other_first : (get_or l 0 0 ≡ space → ⊥) → Nothing ≡ found_of (read_field l)
+  pub other_first : (get_or l 0 0 ≡ space → ⊥) → None ≡ read_field l
   other_first n = rw (ne_eqb (get_or l 0 0) space n) at scanned_at
 
-  pub space_first : get_or l 0 0 ≡ space → first_from (drop 1 l) ≡ found_of (read_field l)
+  pub space_first : get_or l 0 0 ≡ space → first_from (drop 1 l) ≡ read_field l
   space_first n = rw (eq-eqb (get_or l 0 0) space n) at scanned_at
 
-module _ (l : List ℕ) (i : ℕ) (r : Found) (e : first_from (drop i l) ≡ r) where
+module _ (l : List ℕ) (i : ℕ) (r : Option ℤ) (e : first_from (drop i l) ≡ r) where
   first_at : i < length l → cond (eqb (get_or l i 0) space) (first_from (drop (i + 1) l)) (number_from (drop i l)) ≡ r
   unfolding first_from
   first_at h = rw (add-one, drop-cons l i 0 h) (rw (drop-cons l i 0 h) at e)
@@ -299,69 +297,71 @@ last_alone l h =
     rw d (alone (get_or l (field_width - 1) 0))
 
 -- from the first byte that is no space on
-module _ (l : List ℕ) (h : length l ≡ field_width) (at : ℕ) (k : at < field_width) where
-  number_at : number_from (drop at l)
-      ≡ cond (eqb (get_or l at 0) minus) (only (last_digit 1 ∷ []) (negsuc 0) (drop (suc at) l)) (cond (eqb (get_or l at 0) zero_digit) (only [] (pos 0) (drop (suc at) l)) (digits_from (drop at l) 0))
+module _ (l : List ℕ) (h : 1 ≤ length l) where
+  number_at : number_from l
+      ≡ cond (eqb (get_or l 0 0) minus) (only (last_digit 1 ∷ []) (negsuc 0) (drop 1 l)) (cond (eqb (get_or l 0 0) zero_digit) (only [] (pos 0) (drop 1 l)) (digits_from l 0))
   unfolding number_from
-  number_at = rw (drop-cons l at 0 (omega arith))
+  number_at = go l h
+    where
+      go : (l : List ℕ) → 1 ≤ length l
+          → number_from l
+          ≡ cond (eqb (get_or l 0 0) minus) (only (last_digit 1 ∷ []) (negsuc 0) (drop 1 l)) (cond (eqb (get_or l 0 0) zero_digit) (only [] (pos 0) (drop 1 l)) (digits_from l 0))
+      go [] h = absurd (omega arith)
+      go (b ∷ bs) h = refl
 
-  only_other : (m : List ℕ) (z : ℤ) (bs : List ℕ) → (length bs ≡ length m → ⊥) → Nothing ≡ only m z bs
+  only_other : (m : List ℕ) (z : ℤ) (bs : List ℕ) → (length bs ≡ length m → ⊥) → None ≡ only m z bs
   unfolding only
   only_other m z bs n = either (same_bytes bs m) (λ t. absurd (n (ap length (same_true bs m t)))) (λ t. rw t)
 
-  module _ (s : get_or l at 0 ≡ minus) where
-    minus_at : number_from (drop at l) ≡ only (last_digit 1 ∷ []) (negsuc 0) (drop (suc at) l)
-    minus_at = number_at ∙ rw (eq-eqb (get_or l at 0) minus s)
+  module _ (s : get_or l 0 0 ≡ minus) where
+    minus_at : number_from l ≡ only (last_digit 1 ∷ []) (negsuc 0) (drop 1 l)
+    minus_at = number_at ∙ rw (eq-eqb (get_or l 0 0) minus s)
 
-    pub minus_far : (at ≡ field_width - 2 → ⊥) → Nothing ≡ number_from (drop at l)
-    minus_far n = rw minus_at (only_other (last_digit 1 ∷ []) (negsuc 0) (drop (suc at) l) (λ e. n (omega (arith, length-drop (suc at) l))))
+    pub minus_far : (length l ≡ 2 → ⊥) → None ≡ number_from l
+    minus_far n = rw minus_at (only_other (last_digit 1 ∷ []) (negsuc 0) (drop 1 l) (λ e. n (omega (arith, length-drop 1 l))))
 
-    module _ (w : at ≡ field_width - 2) where
-      last_at : only (last_digit 1 ∷ []) (negsuc 0) (drop (suc at) l) ≡ cond (eqb (get_or l (field_width - 1) 0) (last_digit 1)) (Number (negsuc 0)) Nothing
+    module _ (w : length l ≡ 2) where
+      last_at : only (last_digit 1 ∷ []) (negsuc 0) (drop 1 l) ≡ cond (eqb (get_or l 1 0) (last_digit 1)) (Some (negsuc 0)) None
       unfolding only same_bytes
-      last_at =
-          rw (w, drop-cons l (field_width - 1) 0 (omega arith), drop_of_length-le l {i = field_width} (omega arith), and-true)
+      last_at = rw (drop-cons l 1 0 (omega arith), drop_of_length-le l {i = 2} (omega arith), and-true)
 
-      pub minus_other : (get_or l (field_width - 1) 0 ≡ last_digit 1 → ⊥) → Nothing ≡ number_from (drop at l)
-      minus_other n = rw (minus_at, last_at, ne_eqb (get_or l (field_width - 1) 0) (last_digit 1) n)
+      pub minus_other : (get_or l 1 0 ≡ last_digit 1 → ⊥) → None ≡ number_from l
+      minus_other n = rw (minus_at, last_at, ne_eqb (get_or l 1 0) (last_digit 1) n)
 
-      pub minus_one_holds : get_or l (field_width - 1) 0 ≡ last_digit 1 → Number (negsuc 0) ≡ number_from (drop at l)
-      minus_one_holds n = rw (minus_at, last_at, eq-eqb (get_or l (field_width - 1) 0) (last_digit 1) n)
+      pub minus_one_holds : get_or l 1 0 ≡ last_digit 1 → Some (negsuc 0) ≡ number_from l
+      minus_one_holds n = rw (minus_at, last_at, eq-eqb (get_or l 1 0) (last_digit 1) n)
 
-  module _ (s : get_or l at 0 ≡ minus → ⊥) where
-    pub digits_at : (get_or l at 0 ≡ zero_digit → ⊥) → digits_from (drop at l) 0 ≡ number_from (drop at l)
-    digits_at n = sym (number_at ∙ rw (ne_eqb (get_or l at 0) minus s, ne_eqb (get_or l at 0) zero_digit n))
+  module _ (s : get_or l 0 0 ≡ minus → ⊥) where
+    pub digits_at : (get_or l 0 0 ≡ zero_digit → ⊥) → digits_from l 0 ≡ number_from l
+    digits_at n = sym (number_at ∙ rw (ne_eqb (get_or l 0 0) minus s, ne_eqb (get_or l 0 0) zero_digit n))
 
-    module _ (n : get_or l at 0 ≡ zero_digit) where
-      zero_at : number_from (drop at l) ≡ only [] (pos 0) (drop (suc at) l)
-      zero_at = number_at ∙ rw (ne_eqb (get_or l at 0) minus s, eq-eqb (get_or l at 0) zero_digit n)
+  module _ (n : get_or l 0 0 ≡ zero_digit) where
+    zero_at : number_from l ≡ only [] (pos 0) (drop 1 l)
+    zero_at = number_at ∙ rw (ne_eqb (get_or l 0 0) minus (λ e. omega arith), eq-eqb (get_or l 0 0) zero_digit n)
 
-      pub zero_leads : at < field_width - 1 → Nothing ≡ number_from (drop at l)
-      zero_leads j = rw zero_at (only_other [] (pos 0) (drop (suc at) l) (λ e. omega (arith, length-drop (suc at) l)))
+    pub zero_leads : (length l ≡ 1 → ⊥) → None ≡ number_from l
+    zero_leads j = rw zero_at (only_other [] (pos 0) (drop 1 l) (λ e. j (omega (arith, length-drop 1 l))))
 
-      pub zero_alone : field_width - 1 ≤ at → Number (pos 0) ≡ number_from (drop at l)
-      unfolding only same_bytes
-      zero_alone j = rw (zero_at, drop_of_length-le l {i = suc at} (omega arith))
+    pub zero_alone : length l ≡ 1 → Some (pos 0) ≡ number_from l
+    unfolding only same_bytes
+    zero_alone j = rw (zero_at, drop_of_length-le l {i = 1} (omega arith))
 
 -- the digits
-module _ (l : List ℕ) (i v : ℕ) (r : Found) (e : digits_from (drop i l) v ≡ r) where
+module _ (l : List ℕ) (i v : ℕ) (r : Option ℤ) (e : digits_from (drop i l) v ≡ r) where
   module _ (h : i < length l) where
-    digit_at : cond (leb zero_digit (get_or l i 0) && leb (get_or l i 0) (last_digit 9)) (digits_from (drop (suc i) l) (v * base + (get_or l i 0 - zero_digit))) Nothing ≡ r
+    digit_at : cond (leb zero_digit (get_or l i 0) && leb (get_or l i 0) (last_digit 9)) (digits_from (drop (suc i) l) (v * base + (get_or l i 0 - zero_digit))) None ≡ r
     unfolding digits_from
     digit_at = rw (drop-cons l i 0 h) at e
 
-    pub digit_low : get_or l i 0 < zero_digit → Nothing ≡ r
-    digit_low n = rw (lt-leb zero_digit (get_or l i 0) n) at digit_at
+    pub no_digit : (leb zero_digit (get_or l i 0) && leb (get_or l i 0) (last_digit 9)) ≡ false → None ≡ r
+    no_digit n = rw n at digit_at
 
-    pub digit_high : last_digit 9 < get_or l i 0 → Nothing ≡ r
-    digit_high n = rw (le-leb zero_digit (get_or l i 0) (omega arith), lt-leb (get_or l i 0) (last_digit 9) n) at digit_at
+    pub digit_read : (leb zero_digit (get_or l i 0) && leb (get_or l i 0) (last_digit 9)) ≡ true → digits_from (drop (i + 1) l) (v * base + (get_or l i 0 - zero_digit)) ≡ r
+    digit_read n = rw add-one (rw n at digit_at)
 
-    pub digit_read : zero_digit ≤ get_or l i 0 → get_or l i 0 ≤ last_digit 9 → digits_from (drop (i + 1) l) (v * base + (get_or l i 0 - zero_digit)) ≡ r
-    digit_read lo hi = rw add-one (rw (le-leb zero_digit (get_or l i 0) lo, le-leb (get_or l i 0) (last_digit 9) hi) at digit_at)
-
-  pub digits_end : length l ≤ i → v ≤ base ^ field_width → Number (to_z w64 v) ≡ r
+  pub digits_end : length l ≤ i → v ≤ base ^ field_width → Some (to_z w64 v) ≡ r
   unfolding digits_from
-  digits_end h b = ap Number (to_z_pos w64 v (omega arith)) ∙ rw (drop_of_length-le l {i = i} h) at e
+  digits_end h b = ap Some (to_z_pos w64 v (omega arith)) ∙ rw (drop_of_length-le l {i = i} h) at e
 
 -- ten digits at most
 pub digits_bound : (i v d : ℕ) → d ≤ 9 → v < base ^ i → v * base + d < base ^ (i + 1)
@@ -371,3 +371,13 @@ pub digits_fit : (i v : ℕ) → i ≤ field_width → v < base ^ i → v ≤ ba
 digits_fit i v k h =
     let p : base ^ i ≤ base ^ field_width = pow-le-pow_right (lit< tt) {i = i} {j = field_width} k in
     omega arith
+
+-- ---------------------------------------------------------------- spaces at the front
+pub spaces_skipped : (n i : ℕ) (l : List ℕ) → i + n ≤ length l → list_all (λ b. eqb b space) (take n (drop i l)) ≡ true → first_from (drop (i + n) l) ≡ first_from (drop i l)
+unfolding first_from
+spaces_skipped zero i l h e = rw add-zero
+spaces_skipped (suc n) i l h e =
+    let d : drop i l ≡ get_or l i 0 ∷ drop (suc i) l = drop-cons l i 0 (omega arith) in
+    let s = (and-eq-true_iff (eqb (get_or l i 0) space) (list_all (λ b. eqb b space) (take n (drop (suc i) l)))).0 (rw d at e) in
+    let k : i + suc n ≡ suc i + n = omega arith in
+    rw (k, d, s.0) (spaces_skipped n (suc i) l (omega arith) s.1)

@@ -1,4 +1,3 @@
-pub mod Found
 pub mod Scan
 pub mod Blank
 pub mod Columns

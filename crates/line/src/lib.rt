@@ -4,12 +4,12 @@
 ghost use Rattle.std.specs.Prelude.{◌≡◌, true, ◌+◌, ◌-◌, ◌*◌, ◌≤◌, length, get_or, take, drop, pos};
 ghost use Rattle.std.proofs.lemmas.List.Edits.{sets};
 ghost use Rattle.machine.specs.Limits.{line_length};
+ghost use Rattle.machine.specs.Refusals.{result_code};
 ghost use Rattle.machine.specs.Line.{base, space, field_width, field_count, in_range, last_digit, number_text, field_text, line_text, read_field, number_list, meaning, line_meaning, text_at, all_in_range, write_code, written, written_at, line_end};
-ghost use Rattle.line.specs.Found.{found_of};
 ghost use Rattle.line.specs.Scan.{digits_from, number_from, first_from};
 ghost use Rattle.line.specs.Blank.{fields_length, Blank, Alike};
 
-use machine::{Line, Module, Numbers};
+use machine::{Line, Module, Numbers, Refusal};
 
 // The columns of a field.
 const WIDTH: usize = 10;
@@ -20,16 +20,6 @@ const FIELDS: usize = Module::LINE / WIDTH;
 // Numbers are base ten.
 const BASE: u64 = 10;
 
-// The number of a line that is not written.
-const REFUSED: u8 = 11;
-
-// What a field holds.
-#[derive(Clone, Copy)]
-enum Found {
-    Number(i64),
-    Nothing,
-}
-
 // The byte of a number's last digit.
 fn last_digit(n: u64) -> u8
     ensures { result ≡ last_digit n }
@@ -38,48 +28,34 @@ fn last_digit(n: u64) -> u8
 }
 
 // What digits to the field's end spell.
-fn digits(s: &[u8], from: usize) -> Found
-    requires { (length s.now ≡ field_width) × (from ≤ field_width) }
-    ensures { result ≡ digits_from (drop from s.now) 0 }
+fn digits(s: &[u8]) -> Option<i64>
+    requires { length s.now ≤ field_width }
+    ensures { result ≡ digits_from s.now 0 }
 {
     let mut v: u64 = 0;
-    let mut i = from;
-    while i < WIDTH {
-        let b = s[i];
-        if b < b'0' {
-            return Found::Nothing;
+    for b in s {
+        if !b.is_ascii_digit() {
+            return None;
         }
-        if b'9' < b {
-            return Found::Nothing;
-        }
-        v = v * BASE + (b - b'0') as u64;
-        i += 1;
+        v = v * BASE + (*b - b'0') as u64;
     }
-    Found::Number(v as i64)
+    Some(v as i64)
 }
 
 // What the columns hold from the first byte on that is no space: a minus stands before a 1 alone, a 0 stands alone.
-fn number_from(s: &[u8], at: usize) -> Found
-    requires { (length s.now ≡ field_width) × (at + 1 ≤ field_width) }
-    ensures { result ≡ number_from (drop at s.now) }
+fn number_from(s: &[u8]) -> Option<i64>
+    requires { (1 ≤ length s.now) × (length s.now ≤ field_width) }
+    ensures { result ≡ number_from s.now }
 {
-    let b = s[at];
-    if b == b'-' {
-        if at != WIDTH - 2 {
-            return Found::Nothing;
-        }
-        if s[WIDTH - 1] != b'1' {
-            return Found::Nothing;
-        }
-        return Found::Number(-1);
+    match s[0] {
+        b'-' => if s.len() == 2 && s[1] == b'1' {
+            Some(-1)
+        } else {
+            None
+        },
+        b'0' => if s.len() == 1 { Some(0) } else { None },
+        _ => digits(s),
     }
-    if b == b'0' {
-        if at < WIDTH - 1 {
-            return Found::Nothing;
-        }
-        return Found::Number(0);
-    }
-    digits(s, at)
 }
 
 // The first column past the first one that has no space; the last column where none before it has.
@@ -87,12 +63,10 @@ fn first(s: &[u8]) -> usize
     requires { length s.now ≡ field_width }
     ensures { (result + 1 ≤ field_width) × (number_from (drop result s.now) ≡ first_from (drop 1 s.now)) }
 {
-    let mut i: usize = 1;
-    while i < WIDTH - 1 {
+    for i in 1..WIDTH - 1 {
         if s[i] != b' ' {
             return i;
         }
-        i += 1;
     }
     WIDTH - 1
 }
@@ -102,35 +76,27 @@ fn is_last(s: &[u8]) -> bool
     requires { length s.now ≡ field_width }
     ensures { result ≡ true → first_from (drop (field_width - 1) s.now) ≡ first_from (drop 1 s.now) }
 {
-    let mut i: usize = 1;
-    while i < WIDTH - 1 {
-        if s[i] != b' ' {
-            return false;
-        }
-        i += 1;
-    }
-    true
+    s[1..WIDTH - 1].iter().all(|b| *b == b' ')
 }
 
 // What a field's columns hold, read once from the left: no number in range fills the first column.
-fn field(s: &[u8]) -> Found
+fn field(s: &[u8]) -> Option<i64>
     requires { length s.now ≡ field_width }
-    ensures { result ≡ found_of (read_field s.now) }
+    ensures { result ≡ read_field s.now }
 {
     if s[0] != b' ' {
-        return Found::Nothing;
+        return None;
     }
     if is_last(s) {
-        return digits(s, WIDTH - 1);
+        return digits(&s[WIDTH - 1..]);
     }
-    let at = first(s);
-    number_from(s, at)
+    number_from(&s[first(s)..])
 }
 
 // What the field from `at` on holds.
-fn field_at(s: &[u8], at: usize) -> Found
+fn field_at(s: &[u8], at: usize) -> Option<i64>
     requires { at + field_width ≤ length s.now }
-    ensures { result ≡ found_of (read_field (take field_width (drop at s.now))) }
+    ensures { result ≡ read_field (take field_width (drop at s.now)) }
 {
     let end = at + WIDTH;
     field(&s[at..end])
@@ -144,24 +110,23 @@ pub fn read(s: &[u8]) -> Line
         return Line::Bad;
     }
     let mut ns = [0i64; FIELDS];
-    let mut i: usize = 0;
-    while i < FIELDS {
-        let Found::Number(x) = field_at(s, i * WIDTH) else {
+    for i in 0..FIELDS {
+        let Some(x) = field_at(s, i * WIDTH) else {
             return Line::Bad;
         };
         ns[i] = x;
-        i += 1;
     }
     if s[Module::LINE - 1] != b'\n' {
         return Line::Bad;
     }
+    let [n1, n2, n3, n4, n5, n6] = ns;
     Line::Six(Numbers {
-        n1: ns[0],
-        n2: ns[1],
-        n3: ns[2],
-        n4: ns[3],
-        n5: ns[4],
-        n6: ns[5],
+        n1,
+        n2,
+        n3,
+        n4,
+        n5,
+        n6,
     })
 }
 
@@ -183,14 +148,13 @@ pub fn read_at(input: &[u8], at: usize) -> Line
 pub fn next_line(s: &[u8], at: usize) -> usize
     ensures { result ≡ line_end s.now at }
 {
-    let mut i = at;
-    while i < s.len() {
-        if s[i] == b'\n' {
-            return i + 1;
-        }
-        i += 1;
+    if s.len() < at {
+        return s.len();
     }
-    s.len()
+    match s[at..].iter().position(|b| *b == b'\n') {
+        Some(i) => at + i + 1,
+        None => s.len(),
+    }
 }
 
 fn in_range(x: i64) -> bool
@@ -223,25 +187,21 @@ fn number(n: Numbers, i: usize) -> i64
 fn all_in_range(n: Numbers) -> bool
     ensures { result ≡ all_in_range (number_list n) }
 {
-    let mut i: usize = 0;
-    while i < FIELDS {
+    for i in 0..FIELDS {
         if !in_range(number(n, i)) {
             return false;
         }
-        i += 1;
     }
     true
 }
 
-// Spaces where the fields are to stand.
+// Spaces where the fields are to stand. The writer calls no function but its own (tests/writer), so none of the library's, as `fill`.
 fn put_spaces(out: &mut [u8])
     requires { fields_length ≤ length out.old }
     ensures { (length out.new ≡ length out.old) × Blank out.new 0 fields_length × Alike fields_length out.new out.old }
 {
-    let mut k: usize = 0;
-    while k < Module::LINE - 1 {
+    for k in 0..Module::LINE - 1 {
         out[k] = b' ';
-        k += 1;
     }
 }
 
@@ -259,22 +219,17 @@ fn put_number(out: &mut [u8], at: usize, magnitude: u64, sign: u8)
     requires { (at + field_width ≤ length out.old) × Blank out.old at (at + field_width) }
     ensures { out.new ≡ sets out.old at (number_text magnitude sign) }
 {
-    let mut j = WIDTH - 1;
-    out[at + j] = last_digit(magnitude);
+    out[at + (WIDTH - 1)] = last_digit(magnitude);
     let mut rest = magnitude / BASE;
-    while 0 < rest {
-        if j == 0 {
+    for left in 1..WIDTH {
+        let column = at + (WIDTH - left - 1);
+        if rest == 0 {
+            out[column] = sign;
             return;
         }
-        j -= 1;
-        out[at + j] = last_digit(rest);
+        out[column] = last_digit(rest);
         rest = rest / BASE;
     }
-    if j == 0 {
-        return;
-    }
-    j -= 1;
-    out[at + j] = sign;
 }
 
 fn put_magnitude(out: &mut [u8], at: usize, n: u64)
@@ -322,27 +277,26 @@ fn put_line(out: &mut [u8], n: Numbers)
     out[Module::LINE - 1] = b'\n';
 }
 
-// The line of six numbers at the front of the output: 0, or 11 and no byte changed where a number is out of range or the
-// output too short.
-pub fn write(out: &mut [u8], n: Numbers) -> u8
-    ensures { (result ≡ write_code (length out.old) (number_list n)) × (out.new ≡ written out.old (number_list n)) }
+// The line of six numbers at the front of the output; or a refusal and no byte changed, where a number is out of range or the output too short.
+pub fn write(out: &mut [u8], n: Numbers) -> Result<(), Refusal>
+    ensures { (result_code result ≡ write_code (length out.old) (number_list n)) × (out.new ≡ written out.old (number_list n)) }
 {
     if out.len() < Module::LINE {
-        return REFUSED;
+        return Err(Refusal::BadLine);
     }
     if !all_in_range(n) {
-        return REFUSED;
+        return Err(Refusal::BadLine);
     }
     put_line(out, n);
-    0
+    Ok(())
 }
 
 // The same from a position of the output on.
-pub fn write_at(out: &mut [u8], at: usize, n: Numbers) -> u8
-    ensures { (result ≡ write_code (length out.old - at) (number_list n)) × (out.new ≡ written_at at out.old (number_list n)) }
+pub fn write_at(out: &mut [u8], at: usize, n: Numbers) -> Result<(), Refusal>
+    ensures { (result_code result ≡ write_code (length out.old - at) (number_list n)) × (out.new ≡ written_at at out.old (number_list n)) }
 {
     if out.len() < at {
-        return REFUSED;
+        return Err(Refusal::BadLine);
     }
     write(&mut out[at..], n)
 }

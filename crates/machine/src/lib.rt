@@ -12,6 +12,9 @@ ghost use Rattle.machine.specs.Partition.{no_buffer, fresh_partition, empty_part
 ghost use Rattle.machine.specs.Module.{empty_table, fresh_module, empty_module};
 
 mod conversions;
+mod lines;
+
+pub use lines::time_number;
 
 // A time in ticks; −1 of document 01, which is never, is None.
 pub type Time = Option<u32>;

@@ -1,15 +1,15 @@
 -- Loops over the processes, from the first up; the first who wait on an object; records at their places; two changes in order. Assumes
 -- nothing.
-use Prim.Native.Nat.{ℕ, zero, suc, ◌+◌, ◌-◌, ◌≤◌, ◌<◌, max}
+use Prim.Native.Nat.{ℕ, zero, suc, ◌+◌, ◌-◌, ◌≤◌, ◌<◌, max, min}
 use mathlib.Core.Path.{◌≡◌, refl, sym, ap, ap₂, ◌∙◌}
-use mathlib.Core.Bool.{Bool, true, false, ◌||◌}
+use mathlib.Core.Bool.{Bool, true, false, cond, ◌||◌}
 use mathlib.Core.List.{List, [], ◌∷◌, ◌++◌, map, map-append}
 use native.Mathlib.Omega.{arith}
 use native.Mathlib.Numerals.{add-one}
-use lib.ListN.{length, get_or, set, take, drop, length-take, length-map}
-use lib.Seq.{take-append-le, take_all, take-suc, get_or-take}
-use lib.Dec.{eqb}
-use borrow.Author.Tests.{eq-eqb, ne_eqb, eqb-true, eqb-false, lt-ltb, le-ltb}
+use lib.ListN.{length, get_or, set, take, drop, replicate, length-append, length-replicate, length-take, length-map, drop_of_length-le}
+use lib.Seq.{drop-cons, take-append-le, take_all, take-suc}
+use lib.Dec.{eqb, ltb}
+use borrow.Author.Tests.{eq-eqb, ne_eqb, eqb-true, eqb-false}
 use Rattle.machine.specs.declared.Ids.{Ids}
 use Rattle.machine.specs.declared.Process.{Process}
 use Rattle.machine.specs.declared.Semaphore.{Semaphore}
@@ -20,58 +20,73 @@ use Rattle.machine.specs.declared.Transfer.{Transfer}
 use Rattle.machine.specs.declared.Transfer.TheVariants.{Put, HandedTo, Taken, LetIn}
 use Rattle.machine.specs.declared.Partition.{Partition}
 use Rattle.machine.specs.declared.Change.{Change}
+use Rattle.machine.specs.declared.Choice.{Choice}
+use Rattle.std.specs.List.{fold}
 use Rattle.machine.specs.Limits.{message_limit, process_limit, semaphore_limit, event_limit, buffer_limit, blackboard_limit}
 use Rattle.machine.specs.Ids.{members, ids_of, kept, appended, follow}
 use Rattle.machine.specs.Messages.{queue_of, put}
 use Rattle.machine.specs.Process.{blank_process, due, ticked, ready, on_object}
-use Rattle.machine.specs.Partition.{within, by_id, process, buffer, no_buffer, moved_in, with_processes, with_semaphores, with_events, with_buffers, with_blackboards, stored, created, stored_semaphore, stored_event, stored_buffer, stored_blackboard, ended_by, applied, each_from}
+use Rattle.machine.specs.Partition.{within, by_id, process, buffer, no_buffer, moved_in, with_processes, with_semaphores, with_events, with_buffers, with_blackboards, stored, created, preferred, chosen, changed_all, stored_semaphore, stored_event, stored_buffer, stored_blackboard, ended_by, applied, each_from}
 use Rattle.machine.proofs.Bounds.{inside, outside_zero, outside_high, named_in, named_out, stored_in, created_in, semaphore_in, event_in, buffer_in, blackboard_in, stored_out}
 use Rattle.machine.proofs.Either.{either}
-use Rattle.machine.proofs.Lists.{scan_next, next_member, no_member, members_of, put_queue_of}
+use Rattle.machine.proofs.Lists.{scan_next, length_kept, members_of, put_queue_of}
 use Rattle.machine.proofs.Quiet.{stored_same, ticked_same}
 use Rattle.machine.proofs.Tests.{or_left, or_right}
+use Rattle.messages.proofs.Laws.{joined}
 use Rattle.partition.specs.Places.{slot_of, in_byte}
 use Rattle.partition.specs.Waits.{ended_id, ended_as}
 
--- a loop over the processes begins with all of them
-pub each_start : (f : Process → Process) (n id : ℕ) (p : Partition) → id ≡ 0 → each_from f (n - id) (id + 1) p ≡ each_from f n 1 p
-each_start f n id p z =
-    let a : n - id ≡ n = omega arith in
-    let b : id + 1 ≡ 1 = omega arith in
-    ap₂ (λ (x y : ℕ). each_from f x y p) a b
+-- a loop over the processes, from id on: one more, and past the last
+module _ (f : Process → Process) (n id : ℕ) (p : Partition) where
+  pub each_more : id ≤ n → each_from f (n + 1 - id) id p ≡ each_from f (n + 1 - (id + 1)) (id + 1) (stored id (f (process id p)) p)
+  unfolding each_from
+  each_more h = let e : n + 1 - id ≡ suc (n + 1 - (id + 1)) = omega arith in rw e
+
+  pub each_done : n < id → each_from f (n + 1 - id) id p ≡ p
+  unfolding each_from
+  each_done h = let e : n + 1 - id ≡ 0 = omega arith in rw e
 
 -- ---------------------------------------------------------------- a list filled in place
 -- the ids before place i of which f says true were found; what the code makes of them where it says so of the next, and where not
 module _ (f : ℕ → Bool) (items : List ℕ) (i : ℕ) (found : Ids) (h : i < length items) (s : i < process_limit) (e : found ≡ ids_of (kept f (take i items))) where
-  pub kept_in : f (get_or items i 0) ≡ true → found.len < process_limit → record { items = set found.items found.len (get_or items i 0); len = found.len + 1 } ≡ ids_of (kept f (take (i + 1) items))
-  unfolding appended
-  kept_in t room =
-      let a : appended (get_or items i 0) found ≡ ids_of (kept f (take (i + 1) items)) = ap (appended (get_or items i 0)) e ∙ scan_next f items i h s true (sym t) in
-      rw (lt-ltb found.len process_limit room) at a
+  long : length found.items ≡ process_limit
+  long =
+      let l = kept f (take i items) in
+      ap (λ (q : Ids). length q.items) e ∙ omega (arith, length-append l (replicate (process_limit - length l) 0), length-replicate {A = ℕ} (process_limit - length l) 0, length_kept f (take i items), length-take i items)
 
-  pub kept_full : f (get_or items i 0) ≡ true → process_limit ≤ found.len → found ≡ ids_of (kept f (take (i + 1) items))
+  pub kept_in : (new : List ℕ) (n : ℕ) → true ≡ f (get_or items i 0)
+      → new ≡ cond (ltb found.len (length found.items)) (set found.items found.len (get_or items i 0)) found.items
+      → n ≡ cond (ltb found.len (length found.items)) (min (found.len + 1) 255) found.len
+      → record { items = new; len = n } ≡ ids_of (kept f (take (i + 1) items))
   unfolding appended
-  kept_full t full =
-      let a : appended (get_or items i 0) found ≡ ids_of (kept f (take (i + 1) items)) = ap (appended (get_or items i 0)) e ∙ scan_next f items i h s true (sym t) in
-      rw (le-ltb found.len process_limit full) at a
+  kept_in new n t d m =
+      joined {A = Ids} (λ (l : List ℕ) (k : ℕ). record { items = l; len = k }) found.items new (get_or items i 0) found.len n process_limit (omega arith) long d m
+      ∙ ap (appended (get_or items i 0)) e ∙ scan_next f items i h s true t
 
-  pub kept_out : f (get_or items i 0) ≡ false → found ≡ ids_of (kept f (take (i + 1) items))
-  kept_out t = e ∙ scan_next f items i h s false (sym t)
+  pub kept_out : false ≡ f (get_or items i 0) → found ≡ ids_of (kept f (take (i + 1) items))
+  kept_out t = e ∙ scan_next f items i h s false t
 
 -- ---------------------------------------------------------------- the first who wait
--- the first id from place i on of which f says true
-module _ (f : ℕ → Bool) (q : Ids) (i : ℕ) where
-  pub first_here : i < length (members q) → f (get_or q.items i 0) ≡ true → get_or (kept f (drop i (members q))) 0 0 ≡ get_or q.items i 0
+-- the first id from place i of a list on of which f says true
+module _ (f : ℕ → Bool) (l : List ℕ) (i : ℕ) where
+  pub first_here : i < length l → true ≡ f (get_or l i 0) → get_or (kept f (drop i l)) 0 0 ≡ get_or l i 0
   unfolding kept
-  first_here h e = rw (next_member q i h, e)
+  first_here h e = rw (drop-cons l i 0 h, ← e)
 
-  pub first_later : i < length (members q) → f (get_or q.items i 0) ≡ false → get_or (kept f (drop i (members q))) 0 0 ≡ get_or (kept f (drop (i + 1) (members q))) 0 0
+  pub first_later : i < length l → false ≡ f (get_or l i 0) → get_or (kept f (drop i l)) 0 0 ≡ get_or (kept f (drop (i + 1) l)) 0 0
   unfolding kept
-  first_later h e = rw (next_member q i h, e)
+  first_later h e = rw (drop-cons l i 0 h, add-one, ← e)
 
-  pub first_none : length (members q) ≤ i → get_or (kept f (drop i (members q))) 0 0 ≡ 0
+  pub first_none : length l ≤ i → get_or (kept f (drop i l)) 0 0 ≡ 0
   unfolding kept
-  first_none h = rw (no_member q i h)
+  first_none h = rw (drop_of_length-le l h)
+
+-- ---------------------------------------------------------------- the running process
+-- the one chosen, as a fold over the ids
+pub chosen-fold : (p : Partition) (c : Choice) (l : List ℕ) → chosen p c l ≡ fold (λ c id. preferred c id (process id p).current) c l
+unfolding chosen
+chosen-fold p c [] = refl
+chosen-fold p c (id ∷ l) = chosen-fold p (preferred c id (process id p).current) l
 
 -- the first n of a list that was made of ids
 module _ (q : Ids) (l : List ℕ) (n : ℕ) (e : q ≡ ids_of l) where
@@ -84,19 +99,24 @@ module _ (q : Ids) (l : List ℕ) (n : ℕ) (e : q ≡ ids_of l) where
   pub not_fewer : q.len ≤ n → members q ≡ take n l
   not_fewer h = members_of q l e ∙ sym (take_all n l (omega (arith, size)))
 
--- the messages of the ids before place i, as a loop puts them into a queue
-module _ (f : ℕ → ℕ) (q : Ids) (i : ℕ) where
-  pub gathered_more : i < length (members q) → i < message_limit → put (f (get_or q.items i 0)) (queue_of (map f (take i (members q)))) ≡ queue_of (map f (take (i + 1) (members q)))
-  gathered_more more low =
-      let x = get_or q.items i 0 in
-      let l = take i (members q) in
-      let inside : i < q.len = omega (arith, length-take q.len q.items) in
-      let short : length (map f l) < message_limit = omega (arith, length-map l f, length-take i (members q)) in
-      let next : take (i + 1) (members q) ≡ l ++ (x ∷ []) = rw (add-one, take-suc (members q) i 0, get_or-take q.len q.items i 0 inside) in
-      put_queue_of (map f l) (f x) short ∙ rw next (ap queue_of (sym (map-append f l (x ∷ []))))
+-- the messages of the ids before place i of a list, as a loop puts them into a queue
+pub gathered_more : (f : ℕ → ℕ) (ids : List ℕ) (i : ℕ) → i < length ids → i < message_limit → put (f (get_or ids i 0)) (queue_of (map f (take i ids))) ≡ queue_of (map f (take (i + 1) ids))
+gathered_more f ids i more low =
+    let x = get_or ids i 0 in
+    let l = take i ids in
+    let short : length (map f l) < message_limit = omega (arith, length-map l f, length-take i ids) in
+    let next : take (i + 1) ids ≡ l ++ (x ∷ []) = rw (add-one, take-suc ids i 0) in
+    put_queue_of (map f l) (f x) short ∙ rw next (ap queue_of (sym (map-append f l (x ∷ []))))
 
-  pub gathered_all : length (members q) ≤ i → queue_of (map f (take i (members q))) ≡ queue_of (map f (members q))
-  gathered_all h = rw (take_all i (members q) h)
+-- a change of the processes of a list, from place i on
+module _ (f : Process → Process) (ids : List ℕ) (i : ℕ) (p : Partition) where
+  pub changed_more : i < length ids → changed_all f (drop i ids) p ≡ changed_all f (drop (i + 1) ids) (stored (get_or ids i 0) (f (process (get_or ids i 0) p)) p)
+  unfolding changed_all
+  changed_more h = rw (drop-cons ids i 0 h, add-one)
+
+  pub changed_done : length ids ≤ i → changed_all f (drop i ids) p ≡ p
+  unfolding changed_all
+  changed_done h = rw (drop_of_length-le ids h)
 
 -- ---------------------------------------------------------------- the place of an id
 -- inside a list the default does not matter

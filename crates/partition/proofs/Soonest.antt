@@ -2,7 +2,7 @@
 -- down. Assumes nothing.
 use Prim.Native.Nat.{ℕ, zero, suc, ◌+◌, ◌-◌, ◌≤◌, ◌<◌}
 use mathlib.Core.List.{List, [], ◌∷◌}
-use mathlib.Core.Path.{◌≡◌, refl, sym, ap, ap₂, ◌∙◌, subst}
+use mathlib.Core.Path.{◌≡◌, refl, sym, ap, ◌∙◌, subst}
 use mathlib.Core.Bool.{false}
 use native.Mathlib.Omega.{arith}
 use lib.Dec.{eqb}
@@ -46,19 +46,13 @@ pub soonest_done : (n id : ℕ) (p : Partition) → n ≤ id → soonest_from (n
 unfolding soonest_from
 soonest_done n id p h = let e : n - id ≡ 0 = omega arith in rw e
 
-pub soonest_down : (n id s : ℕ) (p : Partition) → 0 < id → id ≤ n → s ≡ soonest_from (n - id) (id + 1) p
-    → sooner (process id p).times.wake (sooner (process id p).times.deadline s) ≡ soonest_from (n - (id - 1)) (id - 1 + 1) p
+pub soonest_down : (n k s : ℕ) (p : Partition) (x : Process) → 0 < k → k ≤ n → x ≡ process (k - 1 + 1) p → s ≡ soonest_from (n - k) (k + 1) p
+    → sooner x.times.wake (sooner x.times.deadline s) ≡ soonest_from (n - (k - 1)) (k - 1 + 1) p
 unfolding soonest_from
-soonest_down n id s p lo hi e =
-    let a : n - (id - 1) ≡ suc (n - id) = omega arith in
-    let b : id - 1 + 1 ≡ id = omega arith in
-    rw (a, b, e)
-
-pub soonest_whole : (n m id s : ℕ) (p : Partition) → id ≡ 0 → n ≡ m → s ≡ soonest_from (n - id) (id + 1) p → s ≡ soonest_from m 1 p
-soonest_whole n m id s p z q e =
-    let a : n - id ≡ m = omega arith in
-    let b : id + 1 ≡ 1 = omega arith in
-    e ∙ ap₂ (λ (x y : ℕ). soonest_from x y p) a b
+soonest_down n k s p x lo hi e d =
+    let a : n - (k - 1) ≡ suc (n - k) = omega arith in
+    let b : k - 1 + 1 ≡ k = omega arith in
+    rw (e, a, b, d)
 
 -- ---------------------------------------------------------------- a process stored
 -- a number that no time of a partition comes before is one still where a process is stored, with the times of its new record

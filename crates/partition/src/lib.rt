@@ -1,88 +1,82 @@
 // A partition's record: its processes, the lists that follow them, the running process and the tick.
 #![tactic(auto)]
 
-ghost use Rattle.std.specs.Prelude.{◌≡◌, ◌≤◌, max, cond, ◌||◌, map, length, take, eqb};
+ghost use Rattle.std.specs.Prelude.{◌≡◌, ◌≤◌, ℕ, Bool, max, cond, ◌||◌, map, length, take, get_or, eqb, fold};
 ghost use Rattle.partition.specs.Places.{slot_of, in_byte};
 ghost use Rattle.partition.specs.Soonest.{sooner, soonest_of};
 ghost use Rattle.partition.specs.Waits.{served_with, ended_id, ended_as};
 ghost use Rattle.machine.specs.Mode.{mode_number};
 ghost use Rattle.machine.specs.Limits.{process_limit};
-ghost use Rattle.machine.specs.Ids.{members, ids_of, appended, removed, follow};
+ghost use Rattle.machine.specs.Ids.{members, ids_of, kept, appended, removed, follow};
 ghost use Rattle.machine.specs.Messages.{queue_of};
 ghost use Rattle.machine.specs.Process as Pr;
 ghost use Rattle.machine.specs.Process.{carried, due, ready, on_object, ticked, served, entered};
-ghost use Rattle.machine.specs.Partition.{by_id, process, stored, arrived_last, preferred, running, waiters, first_waiter, changed_all, tick_partition, entered_normal, nothing_created, stored_event, stored_buffer, empty_buffer, created, ended_by, applied, partition_after};
+ghost use Rattle.machine.specs.Partition.{by_id, process, stored, arrived_last, preferred, running, waits_on, waiters, first_waiter, changed_all, tick_partition, entered_normal, nothing_created, stored_event, stored_buffer, empty_buffer, created, ended_by, applied, partition_after};
 
 use machine::{
-    Buffer, Choice, Context, EventState, Ids, Mode, Module, Partition, Process, Queue, Time, Transfer,
+    Buffer, Choice, Context, EventState, Ids, Mode, Module, Partition, Process, Queue, Time,
+    Transfer,
 };
-
-fn wide(id: u8) -> u32
-    ensures { result ≡ id }
-{
-    id as u32
-}
 
 // An id in a byte; no record has one past 255.
 fn narrow(id: u32) -> u8
     ensures { result ≡ in_byte id }
 {
-    if id < 255 { id as u8 } else { 255 }
-}
-
-// How many ids a list holds, the array's length at most.
-pub fn count(q: Ids) -> usize
-    ensures { (result ≡ length (members q)) × (result ≤ process_limit) }
-{
-    let n = q.len as usize;
-    if n < Module::PROCESSES {
-        n
-    } else {
-        Module::PROCESSES
-    }
+    u8::try_from(id).unwrap_or(u8::MAX)
 }
 
 fn append(q: Ids, id: u8) -> Ids
     ensures { result ≡ appended id q }
 {
-    let n = q.len as usize;
-    if n < Module::PROCESSES {
-        let mut r = q;
-        r.items[n] = id;
-        r.len = r.len + 1;
-        return r;
-    }
-    q
+    let mut r = q;
+    r.len = messages::join_last(&mut r.items, q.len, id);
+    r
 }
 
-fn append_if(q: Ids, keep: bool, id: u8) -> Ids
-    ensures { result ≡ cond keep (appended id q) q }
+// The ids of a list.
+pub fn ids_in(q: &Ids) -> &[u8]
+    ensures { result.now ≡ members q.now }
 {
-    if keep { append(q, id) } else { q }
+    &q.items[..usize::from(q.len).min(Module::PROCESSES)]
 }
 
-// A list without an id. It is filled where it lies: a function that gives a list would copy it at each turn.
-fn remove(q: Ids, id: u8) -> Ids
-    ensures { result ≡ removed id q }
+// The ids of a list that pass a test. The new list is filled where it lies: a function that gives a list would copy it at each turn.
+pub fn keep<F: Fn(u8) -> bool>(q: Ids, test: F) -> Ids
+    requires { F.IsAlwaysCallable test }
+    ensures { (f : ℕ → Bool) → ((x : ℕ) (r : Bool) → F.post test x r → r ≡ f x) → result ≡ ids_of (kept f (members q)) }
 {
-    let n = count(q);
     let mut found = Ids {
         items: [0; Module::PROCESSES],
         len: 0,
     };
-    let mut i: usize = 0;
-    while i < n {
-        let x = q.items[i];
-        if x != id {
-            let k = found.len as usize;
-            if k < Module::PROCESSES {
-                found.items[k] = x;
-                found.len = found.len + 1;
-            }
+    for id in ids_in(&q) {
+        if test(*id) {
+            let len = found.len;
+            found.len = messages::join_last(&mut found.items, len, *id);
         }
-        i = i + 1;
     }
     found
+}
+
+// The first id of a list that passes a test, 0 for none.
+pub fn first_where<F: Fn(u8) -> bool>(q: Ids, test: F) -> u8
+    requires { F.IsAlwaysCallable test }
+    ensures { (f : ℕ → Bool) → ((x : ℕ) (r : Bool) → F.post test x r → r ≡ f x) → result ≡ get_or (kept f (members q)) 0 0 }
+{
+    for id in ids_in(&q) {
+        if test(*id) {
+            return *id;
+        }
+    }
+    0
+}
+
+// A list without an id.
+#[tactic(auto, unfolding(machine::specs::Ids::removed))]
+fn remove(q: Ids, id: u8) -> Ids
+    ensures { result ≡ removed id q }
+{
+    keep(q, |x| x != id)
 }
 
 // The list with this id at its end, and nowhere else.
@@ -96,10 +90,10 @@ pub fn last_in(q: Ids, id: u8) -> Ids
 fn followed(q: Ids, was: bool, now: bool, id: u8) -> Ids
     ensures { result ≡ follow was now id q }
 {
-    if was {
-        if now { q } else { remove(q, id) }
-    } else {
-        if now { append(q, id) } else { q }
+    match (was, now) {
+        (true, false) => remove(q, id),
+        (false, true) => append(q, id),
+        (true, true) | (false, false) => q,
     }
 }
 
@@ -107,10 +101,7 @@ fn followed(q: Ids, was: bool, now: bool, id: u8) -> Ids
 pub fn slot(id: u32, limit: usize) -> usize
     ensures { result ≡ slot_of limit id }
 {
-    if id == 0 {
-        return limit;
-    }
-    (id - 1) as usize
+    if id == 0 { limit } else { id as usize - 1 }
 }
 
 // What an id names in an array of records, or what stands for none.
@@ -131,13 +122,23 @@ pub fn process_at(p: Partition, id: u32) -> Process
 pub fn or_later(c: Choice, id: u8, priority: u8) -> Choice
     ensures { result ≡ preferred c id priority }
 {
-    if c.id == 0 {
-        return Choice { id, priority };
+    if c.id == 0 || c.priority < priority {
+        Choice { id, priority }
+    } else {
+        c
     }
-    if c.priority < priority {
-        return Choice { id, priority };
+}
+
+// The id of a list that has the greatest priority, the first among equals; 0 for none.
+pub fn greatest<F: Fn(u8) -> u8>(q: Ids, priority: F) -> u8
+    requires { F.IsAlwaysCallable priority }
+    ensures { (f : ℕ → ℕ) → ((x r : ℕ) → F.post priority x r → r ≡ f x) → result ≡ (fold (λ c id. preferred c id (f id)) (record { id = 0; priority = 0 }) (members q)).id }
+{
+    let mut best = Choice { id: 0, priority: 0 };
+    for id in ids_in(&q) {
+        best = or_later(best, *id, priority(*id));
     }
-    c
+    best.id
 }
 
 // While preemption is locked, the holder.
@@ -150,85 +151,47 @@ pub fn running_process(p: Partition) -> u8
     if 0 < p.level {
         return p.holder;
     }
-    let arrival = p.arrival;
-    let n = count(arrival);
-    let mut best = Choice { id: 0, priority: 0 };
-    let mut i: usize = 0;
-    while i < n {
-        let id = arrival.items[i];
-        let k = slot(wide(id), Module::PROCESSES);
-        let mut x = Process::blank();
-        if k < Module::PROCESSES {
-            x = p.processes[k];
-        }
-        best = or_later(best, id, x.current);
-        i = i + 1;
-    }
-    best.id
+    greatest(p.arrival, |id| record_in(&p, id).current)
 }
 
-fn is_on(x: Process, object: u16) -> bool
-    ensures { result ≡ eqb (Pr.object x.wait) object }
+// The record of process id, read where it lies: no partition is copied.
+fn record_in(p: &Partition, id: u8) -> Process
+    ensures { result ≡ process id p.now }
 {
-    let w = x.wait;
-    process::object_of(w) == object
+    by_id(&p.processes, u32::from(id), Process::blank())
+}
+
+fn is_on(p: &Partition, id: u8, object: u16) -> bool
+    ensures { result ≡ waits_on object p.now id }
+{
+    process::object_of(record_in(p, id).wait) == object
 }
 
 // The queue of an object.
+#[tactic(auto, unfolding(machine::specs::Partition::waiters))]
 pub fn queue_of(p: Partition, object: u16) -> Ids
     ensures { result ≡ ids_of (waiters object p) }
 {
-    let waiting = p.waiting;
-    let n = count(waiting);
-    let mut found = Ids {
-        items: [0; Module::PROCESSES],
-        len: 0,
-    };
-    let mut i: usize = 0;
-    while i < n {
-        let id = waiting.items[i];
-        let k = slot(wide(id), Module::PROCESSES);
-        let mut x = Process::blank();
-        if k < Module::PROCESSES {
-            x = p.processes[k];
-        }
-        found = append_if(found, is_on(x, object), id);
-        i = i + 1;
-    }
-    found
+    keep(p.waiting, |id| is_on(&p, id, object))
 }
 
 // The first of the queue of an object, 0 for none.
+#[tactic(auto, unfolding(machine::specs::Partition::waiters))]
 pub fn first_waiter(p: Partition, object: u16) -> u8
     ensures { result ≡ first_waiter object p }
 {
-    let waiting = p.waiting;
-    let n = count(waiting);
-    let mut i: usize = 0;
-    while i < n {
-        let id = waiting.items[i];
-        let k = slot(wide(id), Module::PROCESSES);
-        let mut x = Process::blank();
-        if k < Module::PROCESSES {
-            x = p.processes[k];
-        }
-        if is_on(x, object) {
-            return id;
-        }
-        i = i + 1;
-    }
-    0
+    first_where(p.waiting, |id| is_on(&p, id, object))
 }
 
 // The first n of the queue of an object.
 fn first_waiters(p: Partition, object: u16, n: u8) -> Ids
     ensures { members result ≡ take n (waiters object p) }
 {
-    let mut ids = queue_of(p, object);
-    if n < ids.len {
-        ids.len = n;
+    let ids = queue_of(p, object);
+    Ids {
+        len: ids.len.min(n),
+        ..ids
     }
-    ids
 }
 
 // The messages that are kept with their waits.
@@ -236,13 +199,9 @@ pub fn waiting_messages(p: Partition, object: u16, n: u8) -> Queue
     ensures { result ≡ queue_of (map (λ id. carried (process id p)) (take n (waiters object p))) }
 {
     let ids = first_waiters(p, object, n);
-    let len = count(ids);
     let mut q = Queue::empty();
-    let mut i: usize = 0;
-    while i < len {
-        let x = process_at(p, wide(ids.items[i]));
-        q = messages::put(q, process::carried_by(x));
-        i = i + 1;
+    for id in ids_in(&ids) {
+        q = messages::put(q, process::carried_by(record_in(&p, *id)));
     }
     q
 }
@@ -251,37 +210,23 @@ pub fn waiting_messages(p: Partition, object: u16, n: u8) -> Queue
 fn sooner_of(a: Time, n: u32) -> u32
     ensures { result ≡ sooner a n }
 {
-    match a {
-        None => n,
-        Some(t) => { if t <= n { t } else { n } }
-    }
+    a.map_or(n, |t| t.min(n))
 }
 
 // The sooner of a process's wake time and deadline, and a number.
 fn soonest_with(x: Process, n: u32) -> u32
     ensures { result ≡ sooner x.times.wake (sooner x.times.deadline n) }
 {
-    let times = x.times;
-    let wake = times.wake;
-    let deadline = times.deadline;
-    sooner_of(wake, sooner_of(deadline, n))
+    sooner_of(x.times.wake, sooner_of(x.times.deadline, n))
 }
 
 // No wake time or deadline comes before it.
 pub fn soonest_of(p: Partition) -> u32
     ensures { result ≡ soonest_of p }
 {
-    let n = wide(p.process_count);
-    let mut id = n;
     let mut s = Module::LATEST;
-    while 0 < id {
-        let k = slot(id, Module::PROCESSES);
-        let mut x = Process::blank();
-        if k < Module::PROCESSES {
-            x = p.processes[k];
-        }
-        s = soonest_with(x, s);
-        id = id - 1;
+    for k in (0..p.process_count).rev() {
+        s = soonest_with(record_in(&p, k + 1), s);
     }
     s
 }
@@ -325,8 +270,7 @@ fn store(p: Partition, id: u32, x: Process) -> Partition
 pub fn counted(n: u8, id: u32) -> u8
     ensures { result ≡ max n (in_byte id) }
 {
-    let k = narrow(id);
-    if n < k { k } else { n }
+    n.max(narrow(id))
 }
 
 // Process id is created with this record.
@@ -351,9 +295,12 @@ pub fn create_buffer(p: Partition, k: u32, name: u16, limit: u8) -> Partition
     if Module::BUFFERS <= i {
         return p;
     }
-    let b = Buffer::blank();
     let mut q = p;
-    q.buffers[i] = Buffer { name, limit, ..b };
+    q.buffers[i] = Buffer {
+        name,
+        limit,
+        ..Buffer::blank()
+    };
     q.buffer_count = counted(p.buffer_count, k);
     q
 }
@@ -374,22 +321,16 @@ fn serve(x: Process, hands: bool, m: u32) -> Process
 fn end_wait(p: Partition, id: u8, hands: bool, m: u32) -> Partition
     ensures { result ≡ stored id (served_with hands m (process id p)) p }
 {
-    let n = wide(id);
-    let x = process_at(p, n);
-    store(p, n, serve(x, hands, m))
+    store(p, u32::from(id), serve(record_in(&p, id), hands, m))
 }
 
 // The waits of these processes end, one after the other.
 fn end_waits(p: Partition, ids: Ids, hands: bool, m: u32) -> Partition
     ensures { result ≡ changed_all (served_with hands m) (members ids) p }
 {
-    let n = count(ids);
     let mut q = p;
-    let mut i: usize = 0;
-    while i < n {
-        let id = ids.items[i];
-        q = end_wait(q, id, hands, m);
-        i = i + 1;
+    for id in ids_in(&ids) {
+        q = end_wait(q, *id, hands, m);
     }
     q
 }
@@ -413,10 +354,8 @@ pub fn ended_id(a: Transfer) -> u32
     ensures { result ≡ ended_id a }
 {
     match a {
-        Transfer::Put(_) => 0,
-        Transfer::HandedTo(id, _) => wide(id),
-        Transfer::Taken => 0,
-        Transfer::LetIn(id, _) => wide(id),
+        Transfer::HandedTo(id, _) | Transfer::LetIn(id, _) => u32::from(id),
+        Transfer::Put(_) | Transfer::Taken => 0,
     }
 }
 
@@ -425,10 +364,9 @@ pub fn ended_as(x: Process, a: Transfer) -> Process
     ensures { result ≡ ended_as a x }
 {
     match a {
-        Transfer::Put(_) => x,
         Transfer::HandedTo(_, m) => process::hand(x, m),
-        Transfer::Taken => x,
-        Transfer::LetIn(_, _) => process::wait_ended(x, 0),
+        Transfer::LetIn(..) => process::wait_ended(x, 0),
+        Transfer::Put(_) | Transfer::Taken => x,
     }
 }
 
@@ -437,22 +375,14 @@ pub fn after_transfer(p: Partition, a: Transfer) -> Partition
     ensures { result ≡ ended_by a p }
 {
     let id = ended_id(a);
-    let x = process_at(p, id);
-    store(p, id, ended_as(x, a))
+    store(p, id, ended_as(process_at(p, id), a))
 }
 
 // Whether a wake time or a deadline has come.
 fn is_touched(x: Process, t: u32) -> bool
     ensures { result ≡ (due t x.times.wake || due t x.times.deadline) }
 {
-    let times = x.times;
-    let wake = times.wake;
-    let deadline = times.deadline;
-    if process::is_due(wake, t) {
-        true
-    } else {
-        process::is_due(deadline, t)
-    }
+    process::is_due(x.times.wake, t) || process::is_due(x.times.deadline, t)
 }
 
 // A tick of a partition.
@@ -462,16 +392,9 @@ pub fn ticked(p: Partition, t: u32) -> Partition
     if !p.mode.is_normal() {
         return p;
     }
-    let n = wide(p.process_count);
     let mut q = p;
-    let mut id: u32 = 0;
-    while id < n {
-        id = id + 1;
-        let k = slot(id, Module::PROCESSES);
-        let mut x = Process::blank();
-        if k < Module::PROCESSES {
-            x = q.processes[k];
-        }
+    for id in 1..=u32::from(p.process_count) {
+        let x = by_id(&q.processes, id, Process::blank());
         if is_touched(x, t) {
             q = store(q, id, process::tick(x, t));
         }
@@ -483,21 +406,19 @@ pub fn ticked(p: Partition, t: u32) -> Partition
 fn enter_process(p: Partition, c: Context, id: u32) -> Partition
     ensures { result ≡ stored id (entered c (process id p)) p }
 {
-    let x = process_at(p, id);
-    store(p, id, process::enter(x, c))
+    store(p, id, process::enter(process_at(p, id), c))
 }
 
 pub fn enter_normal(p: Partition, c: Context) -> Partition
     ensures { result ≡ entered_normal c p }
 {
-    let n = wide(p.process_count);
-    let mut q = p;
-    q.mode = Mode::Normal;
-    q.level = 0;
-    q.holder = 0;
-    let mut id: u32 = 0;
-    while id < n {
-        id = id + 1;
+    let mut q = Partition {
+        mode: Mode::Normal,
+        level: 0,
+        holder: 0,
+        ..p
+    };
+    for id in 1..=u32::from(p.process_count) {
         q = enter_process(q, c, id);
     }
     q
@@ -508,6 +429,8 @@ pub fn enter_normal(p: Partition, c: Context) -> Partition
 pub fn nothing_created(mode: Mode) -> Partition
     ensures { result ≡ nothing_created (mode_number mode) }
 {
-    let p = Partition::empty();
-    Partition { mode, ..p }
+    Partition {
+        mode,
+        ..Partition::empty()
+    }
 }

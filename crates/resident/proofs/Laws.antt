@@ -6,9 +6,10 @@ use mathlib.Core.Path.{◌≡◌, refl, sym, ap, ap₂, ◌∙◌}
 use native.Mathlib.Numerals.{add-one}
 use native.Mathlib.Omega.{arith}
 use lib.Dec.{eqb}
-use lib.ListN.{length, get_or, set, take, drop, length-set, length-map, get_or-map}
+use lib.ListN.{length, get_or, set, take, length-set, length-map, get_or-map}
 use lib.Seq.{take_all}
 use borrow.Author.Tests.{ne_eqb}
+use Rattle.machine.specs.Mode.{mode_number}
 use Rattle.machine.specs.Ids.{members, kept, kept_if, follow}
 use Rattle.machine.specs.Limits.{process_limit}
 use Rattle.machine.specs.Partition.{within, by_id, process, preferred, locked, chosen, running, waits_on, waiters, first_waiter, with_processes, stored}
@@ -19,9 +20,9 @@ use Rattle.machine.specs.declared.Partition.{Partition}
 use Rattle.machine.specs.declared.Process.{Process}
 use Rattle.machine.proofs.Bounds.{stored_out}
 use Rattle.machine.proofs.Either.{either}
-use Rattle.machine.proofs.Lists.{next_member, no_member}
+use Rattle.std.specs.List.{fold}
 use Rattle.partition.specs.Places.{slot_of, in_byte}
-use Rattle.partition.proofs.Laws.{slot_out, named_at, named_past, stored_at}
+use Rattle.partition.proofs.Laws.{slot_out, stored_at}
 use Rattle.resident.specs.Mirrors.{current_of, object_of, Mirrors, filled, is_on, queue_on, first_on, chosen_by, running_by}
 
 -- ---------------------------------------------------------------- lists of numbers
@@ -73,7 +74,7 @@ module _ {p : Partition} {currents objects : List ℕ} (m : Mirrors p currents o
 
   pub mirrors_running : running_by p.mode p.level p.holder p.arrival currents ≡ running p
   unfolding running
-  mirrors_running = ap (λ (c : Choice). cond (eqb p.mode 3) (cond (locked p.level) p.holder c.id) 0) (chosen_by_holds (record { id = 0; priority = 0 }) (members p.arrival))
+  mirrors_running = ap (λ (c : Choice). cond (eqb (mode_number p.mode) 3) (cond (locked p.level) p.holder c.id) 0) (chosen_by_holds (record { id = 0; priority = 0 }) (members p.arrival))
 
   -- ---------------------------------------------------------------- what keeps them
   -- the processes stay
@@ -130,17 +131,6 @@ mirrors_filled {p} currents objects h e = record {
 pub place_after : (k : ℕ) → k ≡ slot_of process_limit (k + 1)
 place_after k = rw (ne_eqb (k + 1) 0 (λ z. omega arith)) (omega arith)
 
--- the number of process id, read at its place
-module _ (l : List ℕ) {w id k : ℕ} (s : w ≡ id) (e : k ≡ slot_of process_limit w) where
-  named : by_id process_limit 0 w l ≡ by_id process_limit 0 id l
-  named = ap (λ (n : ℕ). by_id process_limit 0 n l) s
-
-  pub number_in : k < process_limit → get_or l k 0 ≡ by_id process_limit 0 id l
-  number_in h = named_at process_limit w k e 0 l h ∙ named
-
-  pub number_out : process_limit ≤ k → 0 ≡ by_id process_limit 0 id l
-  number_out h = named_past process_limit w k e 0 l h ∙ named
-
 -- ---------------------------------------------------------------- loops
 -- one more of the numbers is written
 pub fill_more : (f : Process → ℕ) (l r : List ℕ) (ps : List Process) (k : ℕ) {n : ℕ} → n ≡ f (get_or ps k blank_process) → k < length ps → r ≡ filled f (take k ps) l → set r k n ≡ filled f (take (k + 1) ps) l
@@ -161,11 +151,8 @@ fill_none f l = refl
 pub fill_done : (f : Process → ℕ) (l r : List ℕ) (ps : List Process) (k : ℕ) → length ps ≤ k → r ≡ filled f (take k ps) l → r ≡ filled f ps l
 fill_done f l r ps k h t = t ∙ ap (λ (q : List Process). filled f q l) (take_all k ps h)
 
-module _ (q : Ids) (i : ℕ) (l : List ℕ) (c : Choice) where
-  pub chosen_more : i < length (members q) → {n : ℕ} → n ≡ by_id process_limit 0 (get_or q.items i 0) l → chosen_by l c (drop i (members q)) ≡ chosen_by l (preferred c (get_or q.items i 0) n) (drop (i + 1) (members q))
-  unfolding chosen_by
-  chosen_more h e = rw (next_member q i h, e)
-
-  pub chosen_done : length (members q) ≤ i → chosen_by l c (drop i (members q)) ≡ c
-  unfolding chosen_by
-  chosen_done h = rw (no_member q i h)
+-- the one chosen, as a fold over the ids
+pub chosen_by-fold : (l : List ℕ) (c : Choice) (k : List ℕ) → chosen_by l c k ≡ fold (λ c id. preferred c id (by_id process_limit 0 id l)) c k
+unfolding chosen_by
+chosen_by-fold l c [] = refl
+chosen_by-fold l c (id ∷ k) = chosen_by-fold l (preferred c id (by_id process_limit 0 id l)) k

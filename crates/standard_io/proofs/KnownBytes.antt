@@ -1,5 +1,5 @@
 -- From a reader to a writer, where their bytes are known. Assumes nothing.
-use Rattle.std.proofs.Common.{ℕ, ◌+◌, ◌≤◌, ◌<◌, min, Bool, true, false, List, [], ◌++◌, length, take, drop, eqb, Option, Result, Ok, Err, IfSome, ◌≡◌, refl, sym, ap, ◌∙◌, arith, append_assoc, append-nil}
+use Rattle.std.proofs.Common.{ℕ, ◌+◌, ◌≤◌, ◌<◌, min, Bool, true, false, List, [], ◌++◌, length, take, drop, eqb, Option, None, Result, Ok, Err, IfSome, ◌≡◌, refl, sym, ap, ◌∙◌, arith, append_assoc, append-nil}
 use Rattle.std.specs.Io.{ReadsAtMost}
 use Rattle.std.specs.Io.KnownBytes.{Appends, Consumes, IsAtEnd, ReadConsumes}
 use Rattle.std.proofs.KnownBytes.{Appends-nil, Appends-trans, Consumes-nil, Consumes-trans, Consumes-kept, Consumes-whole}
@@ -190,7 +190,7 @@ pub last_none_told : (prints : Bool) (held : Option (List ℕ)) (t : Turn) (n : 
 last_none_told prints held t n e q = rw (e, q) (nothing_appended prints held)
 
 -- a refused table leaves nothing to print
-refused_text : (stage : Stage) (x : Place) (text : List ℕ) → is_ended stage ≡ true → (turn_in true stage x text).prints ≡ false
+refused_text : (stage : Stage) (x : Place) (text : List ℕ) → is_ended stage ≡ true → (turn_in true stage x text).numbers ≡ None
 refused_text TableStage x text e = absurd_end (cc)
 refused_text Events x text e = absurd_end (cc)
 refused_text Ended x text e = refl

@@ -6,8 +6,8 @@ use mathlib.Core.List.{List, [], ◌∷◌, ◌++◌, append_assoc, append-nil}
 use native.Mathlib.Omega.{arith}
 use native.Mathlib.Nat.{add-zero, zero-add}
 use native.Mathlib.Numerals.{add-one}
-use lib.ListN.{length, get_or, take, drop, set, length-append, length-take, length-drop, take-append-drop}
-use lib.Seq.{take_at, drop_at, drop-drop, length-take-le, get_or-drop, sets, sets-eq, paste, paste-zero, paste-suc}
+use lib.ListN.{length, take, drop, set, length-append, length-take, length-drop, take-append-drop}
+use lib.Seq.{take_at, drop_at, drop-drop, length-take-le, sets, sets-eq}
 use lib.Dec.{eqb}
 use borrow.Author.Tests.{not-true, le-leb, lt-ltb, eqb-true}
 use Rattle.machine.specs.declared.Event.{Event}
@@ -172,27 +172,6 @@ last_held (suc k) text held h =
     last_held k (drop line_length text) (over (take line_length text) held) (omega arith)
     ∙ over_over (take line_length (drop (k * line_length) (drop line_length text))) (take line_length text) held (a ∙ sym b)
     ∙ rw (drop-drop (k * line_length) line_length text, place)
-
--- the bytes of a line are stored, so many so far
-pub record Holding (chunk : List ℕ) (from : ℕ) (held₀ held : List ℕ) (i : ℕ) : Type 0 where
-  pub few : i ≤ line_length
-  pub bytes : held ≡ paste held₀ 0 (drop from chunk) i
-
-pub holding_begins : (chunk : List ℕ) (from : ℕ) (held : List ℕ) → Holding chunk from held held 0
-holding_begins chunk from held = record { few = omega arith; bytes = paste-zero held 0 (drop from chunk) }
-
-module _ (chunk : List ℕ) (from : ℕ) (held₀ held : List ℕ) (i : ℕ) (k : Holding chunk from held₀ held i) (inside : from + line_length ≤ length chunk) where
-  pub holding_more : i < line_length → length held₀ ≡ held_limit → (held' : List ℕ) → held' ≡ set held i (get_or chunk (from + i) 0) → Holding chunk from held₀ held' (i + 1)
-  holding_more h l held' e =
-      let next = paste-suc held₀ 0 (drop from chunk) i 0 (omega arith) (omega (arith, length-drop from chunk)) in
-      let place : 0 + i ≡ i = omega arith in
-      record { few = omega arith; bytes = e ∙ ap (λ (l : List ℕ). set l i (get_or chunk (from + i) 0)) k.bytes ∙ ap (set (paste held₀ 0 (drop from chunk) i) i) (sym (get_or-drop from chunk i 0)) ∙ ap (λ (j : ℕ). set (paste held₀ 0 (drop from chunk) i) j (get_or (drop from chunk) i 0)) (sym place) ∙ next ∙ rw add-one }
-
-  pub holding_done : line_length ≤ i → held ≡ over (take line_length (drop from chunk)) held₀
-  holding_done h =
-      let n : i ≡ line_length = omega (arith, k.few) in
-      let l : length (take line_length (drop from chunk)) ≡ line_length = length-take-le line_length (drop from chunk) (omega (arith, length-drop from chunk)) in
-      k.bytes ∙ rw (n, l)
 
 -- ---------------------------------------------------------------- out of a chunk
 place_between : (x : Place) → is_between x.stage x.count ≡ true → x ≡ at Events x.executive 0

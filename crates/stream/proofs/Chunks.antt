@@ -2,7 +2,7 @@
 use Prim.Native.Nat.{ℕ, ◌+◌, ◌-◌, ◌≤◌, ◌<◌, min}
 use native.Mathlib.Nat.{min-eq_left, min-eq_right}
 use mathlib.Core.Path.{◌≡◌, refl, sym, ap, ◌∙◌}
-use mathlib.Core.Bool.{Bool, true, false, cond, and-false}
+use mathlib.Core.Bool.{true, false, cond, and-false}
 use mathlib.Core.List.{List, [], ◌∷◌, ◌++◌}
 use native.Mathlib.Omega.{arith}
 use native.Mathlib.Numerals.{add-one}
@@ -12,14 +12,16 @@ use lib.Dec.{leb, ltb}
 use borrow.Author.Tests.{le-leb, leb-true, leb-false, ltb-false, le-ltb}
 use Rattle.machine.specs.declared.Numbers.{Numbers}
 use Rattle.machine.specs.Limits.{line_length}
-use Rattle.machine.specs.Line.{line_refusal}
 use Rattle.machine.proofs.Either.{either}
 use Rattle.machine.proofs.Tests.{by_test}
 use Rattle.event_lines.specs.Blocks.{over, over_at}
 use Rattle.event_lines.proofs.Blocks.{over_length, over_more, line_short}
 use Rattle.stream.specs.declared.Printout.{Printout}
+use Rattle.std.specs.Prelude.{Option, None, Some, Result, Ok, Err}
+use Rattle.machine.specs.declared.Refusal.{Refusal}
+use Rattle.machine.specs.declared.Refusal.TheVariants.{BadLine}
 use Rattle.stream.specs.declared.Stream.{Stream}
-use Rattle.stream.specs.Stream.{held_limit, at, turn, text_of, said, one_more, put, due, Fed, feed, Run, run, left_code, advanced, last, closed, is_stuck, finished, finished_of}
+use Rattle.stream.specs.Stream.{held_limit, at, turn, text_of, said, one_more, put, due, Fed, feed, Run, run, left_result, advanced, last, closed, prints, is_stuck, finished, finished_of}
 use Rattle.stream.proofs.Turns.{Prints}
 
 -- ---------------------------------------------------------------- what is held
@@ -69,14 +71,15 @@ module _ (s : Stream) (b : ℕ) where
         ∙ ap (λ (q : Stream). said q (turn false q.place (take q.place.count q.held))) (sym e)
         ∙ ap (said p) (ap (turn false p.place) (sym (take_held p.held p.place.count n h m)) ∙ sym t)
 
-text_short : (b : Bool) (n : Numbers) → length (text_of b n) ≤ line_length
-text_short b n = by_test (λ (l : List ℕ). length l ≤ line_length) b (λ t. line_short n) (λ t. omega arith)
+text_short : (numbers : Option Numbers) → length (text_of numbers) ≤ line_length
+text_short None = omega arith
+text_short (Some n) = line_short n
 
 pub feed_short : (s : Stream) (b : ℕ) → length (feed s b).text ≤ line_length
 unfolding feed
 feed_short s b =
     by_test (λ (f : Fed). length f.text ≤ line_length) (due (put s b).place.stage (put s b).place.count b)
-    (λ t. let y = turn false (put s b).place (take (put s b).place.count (put s b).held) in text_short y.prints y.numbers)
+    (λ t. let y = turn false (put s b).place (take (put s b).place.count (put s b).held) in text_short y.numbers)
     (λ t. omega arith)
 
 feed_length : (s : Stream) (b : ℕ) → length s.held ≡ held_limit → length (feed s b).stream.held ≡ held_limit
@@ -121,11 +124,11 @@ stops s room [] h = refl
 stops s room (b ∷ bs) h = either (leb line_length room) (λ t. absurd (let e = ap length (h t) in omega arith)) (λ t. rw t)
 
 module _ (s₀ : Stream) (chunk out₀ : List ℕ) (s : Stream) (i to : ℕ) (out : List ℕ) (k : Advancing s₀ chunk out₀ s i to out) where
-  abbrev Given : ℕ → Type 0
-  Given code = (record { stream = s; taken = i; printed = to; code = code } ≡ advanced s₀ (length out₀) chunk) × (out ≡ over (run s₀ (length out₀) chunk).text out₀)
+  abbrev Given : Result (Unit {0}) Refusal → Type 0
+  Given outcome = (record { stream = s; taken = i; printed = to; outcome = outcome } ≡ advanced s₀ (length out₀) chunk) × (out ≡ over (run s₀ (length out₀) chunk).text out₀)
 
-  ended : (leb line_length (length out - to) ≡ true → drop i chunk ≡ []) → (code : ℕ) → code ≡ left_code (ltb i (length chunk)) → Given code
-  ended h code left =
+  ended : (leb line_length (length out - to) ≡ true → drop i chunk ≡ []) → (outcome : Result (Unit {0}) Refusal) → outcome ≡ left_result (ltb i (length chunk)) → Given outcome
+  ended h outcome left =
       let e = stops s (length out - to) (drop i chunk) h in
       let a : s ≡ (run s₀ (length out₀) chunk).stream = rw e at k.stream in
       let b : i ≡ (run s₀ (length out₀) chunk).taken = omega (arith, k.taken, ap (λ (r : Run). r.taken) e) in
@@ -133,10 +136,10 @@ module _ (s₀ : Stream) (chunk out₀ : List ℕ) (s : Stream) (i to : ℕ) (ou
       (rw (left, ← a, ← b, ← c), sym (take-append-drop to out) ∙ (rw e at k.text))
 
   -- the chunk is taken whole, or there is no room for a line
-  pub all_taken : length chunk ≤ i → (code : ℕ) → code ≡ left_code (ltb i (length chunk)) → Given code
+  pub all_taken : length chunk ≤ i → (outcome : Result (Unit {0}) Refusal) → outcome ≡ left_result (ltb i (length chunk)) → Given outcome
   all_taken h = ended (λ t. drop_of_length-le chunk {i = i} h)
 
-  pub no_room_holds : length out - to < line_length → (code : ℕ) → code ≡ left_code (ltb i (length chunk)) → Given code
+  pub no_room_holds : length out - to < line_length → (outcome : Result (Unit {0}) Refusal) → outcome ≡ left_result (ltb i (length chunk)) → Given outcome
   no_room_holds h = ended (λ t. absurd (let q = leb-true line_length (length out - to) t in omega arith))
 
   -- so many bytes more, for which a text is printed
@@ -177,32 +180,35 @@ module _ (s : Stream) (out : List ℕ) (r : ℕ) (y : Printout) (h : length s.he
   is_last : last s ≡ y
   is_last = ap (turn true s.place) (sym (take_held s.held s.place.count r h m)) ∙ sym c
 
-  pub finish_stuck : is_stuck y.prints (length out) ≡ true
-      → (record { stream = s; taken = 0; printed = 0; code = line_refusal } ≡ finished_of s (length out)) × (out ≡ over (finished s (length out)).text out)
+  pub finish_stuck : is_stuck y.numbers (length out) ≡ true
+      → (record { stream = s; taken = 0; printed = 0; outcome = Err BadLine } ≡ finished_of s (length out)) × (out ≡ over (finished s (length out)).text out)
   unfolding finished
   finish_stuck t = rw (is_last, t) (refl, refl)
 
-  pub finish_done : is_stuck y.prints (length out) ≡ false → (after : List ℕ) (k : ℕ) → Prints out 0 y.prints y.numbers k after
-      → (record { stream = record { place = y.place; held = s.held }; taken = 0; printed = k; code = 0 } ≡ finished_of s (length out)) × (after ≡ over (finished s (length out)).text out)
+  pub finish_done : is_stuck y.numbers (length out) ≡ false → (after : List ℕ) (k : ℕ) → Prints out 0 y.numbers k after
+      → (record { stream = record { place = y.place; held = s.held }; taken = 0; printed = k; outcome = Ok tt } ≡ finished_of s (length out)) × (after ≡ over (finished s (length out)).text out)
   unfolding finished closed
   finish_done t after k q = rw (is_last, t) (rw (← q.0), q.1)
 
 -- what is printed has room
-pub prints_fit : (b : Bool) (room : ℕ) → is_stuck b room ≡ false → b ≡ true → line_length ≤ room
-prints_fit b room t e = ltb-false room line_length (rw e at t)
+pub prints_fit : (numbers : Option Numbers) (room : ℕ) → is_stuck numbers room ≡ false → prints numbers ≡ true → line_length ≤ room
+prints_fit numbers room t e = ltb-false room line_length (rw e at t)
 
 -- where a chunk's byte count fits, so does the next position
-pub printed_fits : (out : List ℕ) (to k : ℕ) (b : Bool) (n : Numbers) → k ≡ length (text_of b n) → line_length ≤ length out - to → to ≤ length out → to + k ≤ length out
-printed_fits out to k b n e h r = omega (arith, text_short b n)
+pub printed_fits : (out : List ℕ) (to k : ℕ) (numbers : Option Numbers) → k ≡ length (text_of numbers) → line_length ≤ length out - to → to ≤ length out → to + k ≤ length out
+printed_fits out to k numbers e h r = omega (arith, text_short numbers)
 
 -- the last line has room
 pub finished_room : (s : Stream) (room : ℕ) → length (finished s room).text ≤ room
 unfolding finished closed
 finished_room s room =
-    let y = last s in
-    either (is_stuck y.prints room)
+    either (is_stuck (last s).numbers room)
     (λ t. rw t (omega arith))
-    (λ t. rw t (by_test (λ (l : List ℕ). length l ≤ room) y.prints (λ p. let h = prints_fit y.prints room t p in omega (arith, line_short y.numbers)) (λ p. omega arith)))
+    (λ t. rw t (fits (last s).numbers t))
+  where
+    fits : (numbers : Option Numbers) → is_stuck numbers room ≡ false → length (text_of numbers) ≤ room
+    fits None t = omega arith
+    fits (Some n) t = let h = prints_fit (Some n) room t refl in omega (arith, line_short n)
 
 pub finished_closed : (s : Stream) (room : ℕ) → line_length ≤ room → (finished s room).stream ≡ (closed s).stream
 unfolding finished

@@ -13,7 +13,8 @@ use Rattle.machine.specs.Replay.{replayed, replayed_record}
 use Rattle.machine.proofs.Bounds.{and_true_parts}
 use Rattle.machine.proofs.Either.{either}
 use Rattle.stream.specs.declared.Stream.{Stream}
-use Rattle.stream.specs.Stream.{begun, Fed, feed, run, advanced, last, closed, is_stuck, finished, finished_of, fed_all, Piece, pieces}
+use Rattle.machine.specs.Refusals.{result_code}
+use Rattle.stream.specs.Stream.{begun, Fed, feed, run, advanced, last, closed, prints, is_stuck, finished, finished_of, fed_all, Piece, pieces}
 use Rattle.stream.proofs.Chunks.{feed_short}
 use Rattle.stream.proofs.Whole.{stream_printed, stream_record}
 
@@ -85,32 +86,32 @@ run_stops s room (b ∷ bs) h =
 
 -- ---------------------------------------------------------------- the code
 -- 0: the chunk is taken whole
-pub advanced_whole : (s : Stream) (room : ℕ) (bs : List ℕ) → (advanced s room bs).code ≡ 0 → (advanced s room bs).taken ≡ length bs
+pub advanced_whole : (s : Stream) (room : ℕ) (bs : List ℕ) → result_code (advanced s room bs).outcome ≡ 0 → (advanced s room bs).taken ≡ length bs
 advanced_whole s room bs h =
     either (ltb (run s room bs).taken (length bs))
     (λ t. absurd (let q = rw t at h in omega arith))
     (λ t. omega (arith, ltb-false (run s room bs).taken (length bs) t, run_within s room bs))
 
 -- else 11: bytes are left, and there is no room for a line
-pub advanced_short : (s : Stream) (room : ℕ) (bs : List ℕ) → ((advanced s room bs).code ≡ 0 → ⊥)
-    → ((advanced s room bs).code ≡ line_refusal) × ((advanced s room bs).taken < length bs) × (room - (advanced s room bs).printed < line_length)
+pub advanced_short : (s : Stream) (room : ℕ) (bs : List ℕ) → (result_code (advanced s room bs).outcome ≡ 0 → ⊥)
+    → (result_code (advanced s room bs).outcome ≡ line_refusal) × ((advanced s room bs).taken < length bs) × (room - (advanced s room bs).printed < line_length)
 advanced_short s room bs h =
     either (ltb (run s room bs).taken (length bs))
     (λ t. let less = ltb-true (run s room bs).taken (length bs) t in (rw t, less, run_stops s room bs less))
     (λ t. absurd (h (rw t)))
 
 -- 0: the last line is printed, if there is one
-pub finished_whole : (s : Stream) (room : ℕ) → (finished_of s room).code ≡ 0 → finished s room ≡ record { stream = (closed s).stream; taken = 0; text = (closed s).text }
+pub finished_whole : (s : Stream) (room : ℕ) → result_code (finished_of s room).outcome ≡ 0 → finished s room ≡ record { stream = (closed s).stream; taken = 0; text = (closed s).text }
 unfolding finished
-finished_whole s room h = either (is_stuck (last s).prints room) (λ t. absurd (let q = rw t at h in omega arith)) (λ t. rw t)
+finished_whole s room h = either (is_stuck (last s).numbers room) (λ t. absurd (let q = rw t at h in omega arith)) (λ t. rw t)
 
 -- else 11: one is to be printed, there is no room for it, and nothing is done
-pub finished_short : (s : Stream) (room : ℕ) → ((finished_of s room).code ≡ 0 → ⊥)
-    → ((finished_of s room).code ≡ line_refusal) × ((last s).prints ≡ true) × (room < line_length) × (finished s room ≡ record { stream = s; taken = 0; text = [] })
+pub finished_short : (s : Stream) (room : ℕ) → (result_code (finished_of s room).outcome ≡ 0 → ⊥)
+    → (result_code (finished_of s room).outcome ≡ line_refusal) × (prints (last s).numbers ≡ true) × (room < line_length) × (finished s room ≡ record { stream = s; taken = 0; text = [] })
 unfolding finished
 finished_short s room h =
-    either (is_stuck (last s).prints room)
-    (λ t. let p = and_true_parts (last s).prints (ltb room line_length) t in (rw t, p.0, ltb-true room line_length p.1, rw t))
+    either (is_stuck (last s).numbers room)
+    (λ t. let p = and_true_parts (prints (last s).numbers) (ltb room line_length) t in (rw t, p.0, ltb-true room line_length p.1, rw t))
     (λ t. absurd (h (rw t)))
 
 -- ---------------------------------------------------------------- pieces

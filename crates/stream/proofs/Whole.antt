@@ -30,6 +30,7 @@ use Rattle.machine.proofs.TextInput.{no_feed, unfed_bad, line_at}
 use Rattle.event_lines.proofs.Laws.{refusal_in_range}
 use Rattle.stream.specs.declared.Stage.TheVariants.{Table, Events, Ended}
 use Rattle.stream.specs.declared.Stream.{Stream}
+use Rattle.std.specs.Prelude.{Some}
 use Rattle.stream.specs.Stream.{held_limit, begun, at, missing, event_turn, turn, text_of, Fed, said, put, due, feed, fed_all, closed, streamed, stream_end}
 use Rattle.stream.proofs.Lines.{line_ends, line_last, unfed_more, read_held, Holds, holds_none, holds_put}
 use Rattle.stream.proofs.Tables.{Missing, Next, GoesOn, Settled, Reads, reads}
@@ -65,7 +66,7 @@ ended_gives (b ∷ bs) s m h e =
     (λ t. gives_more s b bs [] m (ended_as (put s b)) (rw t) (ended_gives bs (put s b) m h e))
 
 -- ---------------------------------------------------------------- events
-heard_text : (m : Module) (l : Line) → ValidModule m → text_of true (numbers_of (line_answer m l)) ≡ line_text (line_answer m l)
+heard_text : (m : Module) (l : Line) → ValidModule m → text_of (Some (numbers_of (line_answer m l))) ≡ line_text (line_answer m l)
 heard_text m l v = rw (line_in_range m l v)
 
 -- an event line with what is held of it
@@ -149,7 +150,7 @@ record TableHeld (p : List ℕ) : Type 0 where
   unfed : no_feed rest ≡ true
 
 -- a refused table's line
-refused_text : (p : List ℕ) → let r = read_table p in text_of true (numbers_of (pos r.code ∷ pos r.value ∷ [])) ≡ bad_table_line r
+refused_text : (p : List ℕ) → let r = read_table p in text_of (Some (numbers_of (pos r.code ∷ pos r.value ∷ []))) ≡ bad_table_line r
 refused_text p = rw (refusal_in_range p)
 
 refused_state : (p : List ℕ) → ((read_table p).code ≡ 0 → ⊥) → (read_table p).state ≡ empty_module

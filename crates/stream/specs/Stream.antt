@@ -1,7 +1,9 @@
 -- Replay of an input that comes byte by byte. What is held of the input is the table so far, or the line so far.
-use Rattle.std.specs.Prelude.{ℕ, suc, ◌+◌, ◌-◌, ◌*◌, Bool, true, false, cond, not, ◌&&◌, ◌||◌, List, [], ◌∷◌, ◌++◌, length, take, set, replicate, eqb, leb, ltb}
+use Rattle.std.specs.Prelude.{ℕ, suc, ◌+◌, ◌-◌, ◌*◌, Bool, true, false, cond, not, ◌&&◌, ◌||◌, List, [], ◌∷◌, ◌++◌, length, take, set, replicate, eqb, leb, ltb, Option, None, Some, Result, Ok, Err}
 use Rattle.machine.specs.declared.Module.{Module}
 use Rattle.machine.specs.declared.Numbers.{Numbers}
+use Rattle.machine.specs.declared.Refusal.{Refusal}
+use Rattle.machine.specs.declared.Refusal.TheVariants.{BadLine}
 use Rattle.machine.specs.Limits.{window_limit, channel_limit, line_length}
 use Rattle.machine.specs.Line.{line_feed, number_list, numbers_of, read_line, line_refusal}
 use Rattle.machine.specs.Module.{empty_module}
@@ -33,11 +35,11 @@ at s e n = record { stage = s; executive = e; count = n }
 
 -- nothing is printed
 abbrev pub nothing_printed : Place → Printout
-nothing_printed x = record { place = x; prints = false; numbers = numbers_of [] }
+nothing_printed x = record { place = x; numbers = None }
 
 -- A bad table prints one line: code, line number, four 0, and ends there.
 abbrev pub refusal : Place → ℕ → ℕ → Printout
-refusal x code value = record { place = at Ended x.executive 0; prints = true; numbers = numbers_of (refusal_numbers code value) }
+refusal x code value = record { place = at Ended x.executive 0; numbers = Some (numbers_of (refusal_numbers code value)) }
 
 -- so many bytes are good lines, and the table's next line is missing
 abbrev pub missing : ℕ → ℕ → ℕ → Bool
@@ -58,7 +60,7 @@ abbrev pub event_turn : Place → List ℕ → Printout
 event_turn x text =
     let m = x.executive.inner in
     let l = read_line text in
-    record { place = at Events (record { inner = line_next m l }) 0; prints = true; numbers = numbers_of (line_answer m l) }
+    record { place = at Events (record { inner = line_next m l }) 0; numbers = Some (numbers_of (line_answer m l)) }
 
 -- bytes after the last LF are a line; nothing after it is none
 abbrev pub events_turn : Bool → Place → List ℕ → Printout
@@ -80,11 +82,17 @@ pub record Fed : Type 0 where
   pub text : List ℕ
 
 -- what is printed
-abbrev pub text_of : Bool → Numbers → List ℕ
-text_of prints n = cond prints (printed_line (number_list n)) []
+abbrev pub text_of : Option Numbers → List ℕ
+text_of None = []
+text_of (Some n) = printed_line (number_list n)
+
+-- whether something is
+abbrev pub prints : Option Numbers → Bool
+prints None = false
+prints (Some n) = true
 
 abbrev pub said : Stream → Printout → Fed
-said s y = record { stream = record { place = y.place; held = s.held }; text = text_of y.prints y.numbers }
+said s y = record { stream = record { place = y.place; held = s.held }; text = text_of y.numbers }
 
 -- the byte is held; past the limit none is
 abbrev pub one_more : ℕ → ℕ
@@ -134,11 +142,11 @@ run s room (b ∷ bs) =
     cond (leb line_length room) (record { stream = r.stream; taken = suc r.taken; text = f.text ++ r.text }) (record { stream = s; taken = 0; text = [] })
 
 -- 11 where something is left for which there is no room
-abbrev pub left_code : Bool → ℕ
-left_code left = cond left line_refusal 0
+abbrev pub left_result : Bool → Result (Unit {0}) Refusal
+left_result left = cond left (Err BadLine) (Ok tt)
 
 abbrev pub advance_of : Run → Bool → Advance
-advance_of r left = record { stream = r.stream; taken = r.taken; printed = length r.text; code = left_code left }
+advance_of r left = record { stream = r.stream; taken = r.taken; printed = length r.text; outcome = left_result left }
 
 -- what is left of a chunk are its last bytes
 abbrev pub advanced : Stream → ℕ → List ℕ → Advance
@@ -152,15 +160,15 @@ unfoldable pub closed : Stream → Fed
 closed s = said s (last s)
 
 -- it is to be printed, and there is no room for a line
-abbrev pub is_stuck : Bool → ℕ → Bool
-is_stuck prints room = prints && ltb room line_length
+abbrev pub is_stuck : Option Numbers → ℕ → Bool
+is_stuck numbers room = prints numbers && ltb room line_length
 
 -- nothing is done then
 unfoldable pub finished : Stream → ℕ → Run
-finished s room = cond (is_stuck (last s).prints room) (record { stream = s; taken = 0; text = [] }) (record { stream = (closed s).stream; taken = 0; text = (closed s).text })
+finished s room = cond (is_stuck (last s).numbers room) (record { stream = s; taken = 0; text = [] }) (record { stream = (closed s).stream; taken = 0; text = (closed s).text })
 
 abbrev pub finished_of : Stream → ℕ → Advance
-finished_of s room = advance_of (finished s room) (is_stuck (last s).prints room)
+finished_of s room = advance_of (finished s room) (is_stuck (last s).numbers room)
 
 -- ---------------------------------------------------------------- a whole input
 -- all its bytes

@@ -1,15 +1,14 @@
 // Replay of an input that comes in chunks of any size, in constant memory.
 #![tactic(auto)]
 
-ghost use Rattle.std.specs.Prelude.{◌≡◌, true, cond, not, ◌&&◌, [], ◌++◌, ◌+◌, ◌-◌, ◌≤◌, min, length, take, drop, set, ltb};
+ghost use Rattle.std.specs.Prelude.{◌≡◌, true, cond, not, ◌&&◌, ◌++◌, ◌+◌, ◌-◌, ◌≤◌, min, length, take, drop, set, ltb};
 ghost use Rattle.machine.specs.declared.Numbers.{Numbers};
 ghost use Rattle.machine.specs.Limits.{line_length};
-ghost use Rattle.machine.specs.Line.{numbers_of};
-ghost use Rattle.stream.specs.Stream.{held_limit, begun, nothing_printed, refusal, missing, accepted, table_turn, event_turn, events_turn, turn, text_of, one_more, due, is_between, is_ended, left_code, is_stuck, run, advanced, finished, finished_of};
+ghost use Rattle.stream.specs.Stream.{held_limit, begun, nothing_printed, refusal, missing, accepted, table_turn, event_turn, events_turn, turn, text_of, prints, one_more, due, is_between, is_ended, left_result, is_stuck, run, advanced, finished, finished_of};
 ghost use Rattle.event_lines.specs.Blocks.{over};
 
-use executive::{Executive, Opening};
-use machine::{Module, Numbers};
+use executive::Executive;
+use machine::{Module, Numbers, Refusal};
 
 // The bytes of the longest table.
 const HELD: usize = (1 + Module::WINDOWS + Module::CHANNELS) * Module::LINE;
@@ -39,35 +38,21 @@ pub struct Stream {
     held: [u8; HELD],
 }
 
-// What a stream took of a chunk and printed at the front of an output. The code is 0, or 11 where something is left for which the
+// What a stream took of a chunk and printed at the front of an output. The outcome is a refusal, 11, where something is left for which the
 // output has no room: bytes of the chunk, or the last line.
 #[derive(Clone, Copy)]
 pub struct Advance {
     pub stream: Stream,
     pub taken: usize,
     pub printed: usize,
-    pub code: u8,
+    pub outcome: Result<(), Refusal>,
 }
 
 // Where a line leads, and the numbers that it prints, if it does.
 #[derive(Clone, Copy)]
 struct Printout {
     place: Place,
-    prints: bool,
-    numbers: Numbers,
-}
-
-fn no_numbers() -> Numbers
-    ensures { result ≡ numbers_of [] }
-{
-    Numbers {
-        n1: 0,
-        n2: 0,
-        n3: 0,
-        n4: 0,
-        n5: 0,
-        n6: 0,
-    }
+    numbers: Option<Numbers>,
 }
 
 fn print_nothing(place: Place) -> Printout
@@ -75,8 +60,7 @@ fn print_nothing(place: Place) -> Printout
 {
     Printout {
         place,
-        prints: false,
-        numbers: no_numbers(),
+        numbers: None,
     }
 }
 
@@ -95,15 +79,13 @@ fn accept(executive: Executive) -> Printout
 fn refuse(x: Place, code: u8, value: u32) -> Printout
     ensures { result ≡ refusal x code value }
 {
-    let executive = x.executive;
     Printout {
         place: Place {
             stage: Stage::Ended,
-            executive,
+            executive: x.executive,
             count: 0,
         },
-        prints: true,
-        numbers: event_lines::refusal(code, value),
+        numbers: Some(event_lines::refusal(code, value)),
     }
 }
 
@@ -120,10 +102,7 @@ fn is_awaited(ended: bool, code: u8, value: u32, n: usize) -> bool
     requires { n ≤ held_limit }
     ensures { result ≡ (not ended && missing code value n) }
 {
-    if ended {
-        return false;
-    }
-    is_missing(code, value, n)
+    !ended && is_missing(code, value, n)
 }
 
 // The table so far.
@@ -133,8 +112,7 @@ fn table_turn(ended: bool, x: Place, text: &[u8]) -> Printout
 {
     let r = Executive::open(text);
     if r.code == 0 {
-        let executive = r.executive;
-        return accept(executive);
+        return accept(r.executive);
     }
     if is_awaited(ended, r.code, r.value, text.len()) {
         return print_nothing(x);
@@ -146,18 +124,14 @@ fn table_turn(ended: bool, x: Place, text: &[u8]) -> Printout
 fn event_turn(x: Place, text: &[u8]) -> Printout
     ensures { result ≡ event_turn x text.now }
 {
-    let e = x.executive;
-    let h = event_lines::step_line(e, line::read(text));
-    let executive = h.executive;
-    let answer = h.answer;
+    let h = event_lines::step_line(x.executive, line::read(text));
     Printout {
         place: Place {
             stage: Stage::Events,
-            executive,
+            executive: h.executive,
             count: 0,
         },
-        prints: true,
-        numbers: event_lines::numbers_of(answer),
+        numbers: Some(Numbers::from(h.answer)),
     }
 }
 
@@ -177,8 +151,7 @@ fn turn_of(ended: bool, x: Place, text: &[u8]) -> Printout
     requires { length text.now ≤ held_limit }
     ensures { result ≡ turn ended x text.now }
 {
-    let stage = x.stage;
-    match stage {
+    match x.stage {
         Stage::Table => table_turn(ended, x, text),
         Stage::Events => events_turn(ended, x, text),
         Stage::Ended => print_nothing(Place { count: 0, ..x }),
@@ -189,21 +162,14 @@ fn turn_of(ended: bool, x: Place, text: &[u8]) -> Printout
 fn is_due(stage: Stage, n: usize, b: u8) -> bool
     ensures { result ≡ due stage n b }
 {
-    if b == b'\n' {
-        return true;
-    }
-    match stage {
-        Stage::Table => HELD <= n,
-        Stage::Events => false,
-        Stage::Ended => false,
-    }
+    b == b'\n' || matches!(stage, Stage::Table) && HELD <= n
 }
 
 // How many bytes are held.
 fn held_count(n: usize) -> usize
     ensures { result ≡ min n held_limit }
 {
-    if n < HELD { n } else { HELD }
+    n.min(HELD)
 }
 
 // Holds a byte, where there is a place for it: how many are held.
@@ -221,11 +187,7 @@ fn hold(held: &mut [u8; HELD], n: usize, b: u8) -> usize
 fn is_between(stage: Stage, n: usize) -> bool
     ensures { result ≡ is_between stage n }
 {
-    match stage {
-        Stage::Table => false,
-        Stage::Events => n == 0,
-        Stage::Ended => false,
-    }
+    matches!(stage, Stage::Events) && n == 0
 }
 
 // Holds the bytes of the line that ends at a position, as if they had come one by one.
@@ -233,38 +195,33 @@ fn hold_line(held: &mut [u8; HELD], chunk: &[u8], end: usize)
     requires { (length held.old ≡ held_limit) × (line_length ≤ end) × (end ≤ length chunk.now) }
     ensures { held.new ≡ over (take line_length (drop (end - line_length) chunk.now)) held.old }
 {
-    let from = end - Module::LINE;
-    let mut i: usize = 0;
-    while i < Module::LINE {
-        held[i] = chunk[from + i];
-        i += 1;
-    }
+    held[..Module::LINE].copy_from_slice(&chunk[end - Module::LINE..end]);
 }
 
 // ---------------------------------------------------------------- output
 // Prints a line at a position of the output: how many bytes it has.
-fn print(out: &mut [u8], to: usize, prints: bool, numbers: Numbers) -> usize
-    requires { prints ≡ true → to + line_length ≤ length out.old }
-    ensures { (result ≡ length (text_of prints numbers)) × (out.new ≡ take to out.old ++ over (text_of prints numbers) (drop to out.old)) }
+fn print(out: &mut [u8], to: usize, numbers: Option<Numbers>) -> usize
+    requires { prints numbers ≡ true → to + line_length ≤ length out.old }
+    ensures { (result ≡ length (text_of numbers)) × (out.new ≡ take to out.old ++ over (text_of numbers) (drop to out.old)) }
 {
-    if !prints {
-        return 0;
+    match numbers {
+        Some(n) => event_lines::print_line(out, to, n),
+        None => 0,
     }
-    event_lines::print_line(out, to, numbers)
 }
 
 // 11 where something is left for which there is no room.
-fn left_code(left: bool) -> u8
-    ensures { result ≡ left_code left }
+fn left_result(left: bool) -> Result<(), Refusal>
+    ensures { result ≡ left_result left }
 {
-    if left { REFUSED } else { 0 }
+    if left { Err(Refusal::BadLine) } else { Ok(()) }
 }
 
 // Whether a line is to be printed, and there is no room for one.
-fn is_stuck(prints: bool, room: usize) -> bool
-    ensures { result ≡ is_stuck prints room }
+fn is_stuck(numbers: Option<Numbers>, room: usize) -> bool
+    ensures { result ≡ is_stuck numbers room }
 {
-    prints && room < Module::LINE
+    numbers.is_some() && room < Module::LINE
 }
 
 impl Stream {
@@ -274,11 +231,10 @@ impl Stream {
     {
         let held = [0u8; HELD];
         let r = Executive::open(&held[..0]);
-        let executive = r.executive;
         Stream {
             place: Place {
                 stage: Stage::Table,
-                executive,
+                executive: r.executive,
                 count: 0,
             },
             held,
@@ -298,12 +254,10 @@ impl Stream {
             if out.len() - to < Module::LINE {
                 break;
             }
-            let stage = x.stage;
-            if is_between(stage, x.count) {
+            if is_between(x.stage, x.count) {
                 let r = event_lines::run_lines(x.executive, chunk, at, out, to);
                 if 0 < r.lines {
-                    let next = r.executive;
-                    x.executive = next;
+                    x.executive = r.executive;
                     at += r.lines * Module::LINE;
                     to += r.printed;
                     hold_line(&mut held, chunk, at);
@@ -313,19 +267,18 @@ impl Stream {
             let b = chunk[at];
             at += 1;
             x.count = hold(&mut held, x.count, b);
-            if is_due(stage, x.count, b) {
+            if is_due(x.stage, x.count, b) {
                 let n = held_count(x.count);
                 let y = turn_of(false, x, &held[..n]);
-                to += print(out, to, y.prints, y.numbers);
-                let next = y.place;
-                x = next;
+                to += print(out, to, y.numbers);
+                x = y.place;
             }
         }
         Advance {
             stream: Stream { place: x, held },
             taken: at,
             printed: to,
-            code: left_code(at < chunk.len()),
+            outcome: left_result(at < chunk.len()),
         }
     }
 
@@ -333,26 +286,25 @@ impl Stream {
     pub fn finish(self, out: &mut [u8]) -> Advance
         ensures { (result ≡ finished_of self (length out.old)) × (out.new ≡ over (finished self (length out.old)).text out.old) }
     {
-        let x = self.place;
-        let held = self.held;
-        let n = held_count(x.count);
-        let y = turn_of(true, x, &held[..n]);
-        if is_stuck(y.prints, out.len()) {
+        let n = held_count(self.place.count);
+        let y = turn_of(true, self.place, &self.held[..n]);
+        if is_stuck(y.numbers, out.len()) {
             return Advance {
                 stream: self,
                 taken: 0,
                 printed: 0,
-                code: REFUSED,
+                outcome: Err(Refusal::BadLine),
             };
         }
-        let numbers = y.numbers;
-        let printed = print(out, 0, y.prints, numbers);
-        let place = y.place;
+        let printed = print(out, 0, y.numbers);
         Advance {
-            stream: Stream { place, held },
+            stream: Stream {
+                place: y.place,
+                held: self.held,
+            },
             taken: 0,
             printed,
-            code: 0,
+            outcome: Ok(()),
         }
     }
 
@@ -360,20 +312,13 @@ impl Stream {
     pub fn is_ended(self) -> bool
         ensures { result ≡ is_ended self.place.stage }
     {
-        let x = self.place;
-        let stage = x.stage;
-        match stage {
-            Stage::Table => false,
-            Stage::Events => false,
-            Stage::Ended => true,
-        }
+        matches!(self.place.stage, Stage::Ended)
     }
 
     // The executive after the lines so far.
     pub fn executive(self) -> Executive
         ensures { result ≡ self.place.executive }
     {
-        let x = self.place;
-        x.executive
+        self.place.executive
     }
 }

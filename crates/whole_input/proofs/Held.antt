@@ -3,8 +3,7 @@ use Prim.Native.Nat.{ℕ, ◌≤◌, ◌<◌}
 use mathlib.Core.Path.{◌≡◌, refl}
 use mathlib.Core.List.{List}
 use borrow.Author.Tests.{lt-ltb, le-ltb}
-use Rattle.whole_input.specs.declared.Printed.{Printed}
-use Rattle.whole_input.specs.WholeInput.{no_room, whole_limit, held_printed, held_into}
+use Rattle.whole_input.specs.WholeInput.{Printed, no_room, whole_limit, held_printed, held_into}
 
 pub held : (n : ℕ) → n < whole_limit → (r p : Printed) (out text out' : List ℕ) → (r ≡ p) × (out' ≡ text) → (r ≡ held_printed n p) × (out' ≡ held_into n text out)
 held n h r p out text out' e = rw (lt-ltb n whole_limit h) e

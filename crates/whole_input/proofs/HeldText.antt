@@ -1,5 +1,5 @@
 -- What a program prints of an input that it holds whole is its text, or the line of one that is too long. Assumes nothing.
-use Rattle.std.proofs.Common.{ℕ, ◌+◌, ◌≤◌, ◌<◌, min, Option, Some, None, IfSome, true, false, List, ◌++◌, length, take, drop, leb, ltb, ◌≡◌, refl, sym, ap, ◌∙◌, arith, length-append}
+use Rattle.std.proofs.Common.{ℕ, ◌+◌, ◌≤◌, ◌<◌, min, Option, Some, None, Ok, IfSome, true, false, List, ◌++◌, length, take, drop, leb, ltb, ◌≡◌, refl, sym, ap, ◌∙◌, arith, length-append}
 use Rattle.std.specs.Io.KnownBytes.{Appends, Consumes, IsAtEnd}
 use Rattle.std.proofs.KnownBytes.{Consumes-whole}
 use lib.Seq.{take-append_seam}
@@ -9,8 +9,7 @@ use Rattle.machine.specs.Line.{line_refusal, in_range, all_in_range, can_write, 
 use Rattle.machine.specs.Replay.{refusal_numbers, text_into}
 use Rattle.machine.proofs.Either.{either}
 use Rattle.machine.proofs.TextLine.{six_length}
-use Rattle.whole_input.specs.declared.Printed.{Printed}
-use Rattle.whole_input.specs.WholeInput.{done, no_room, shown_length, shown_into, printed_text, whole_limit, held_printed, held_into}
+use Rattle.whole_input.specs.WholeInput.{Printed, no_room, shown_length, shown_into, printed_text, whole_limit, held_printed, held_into}
 use Rattle.whole_input.specs.HeldText.{too_long_line, held_text}
 
 too_long_length : length too_long_line ≡ line_length
@@ -32,7 +31,7 @@ module _ (out : List ℕ) (big : length out ≡ whole_limit) where
       (ap (λ (n : ℕ). take n (too_long_line ++ drop (length too_long_line) out)) (sym too_long_length)
       ∙ take-append_seam too_long_line (drop (length too_long_line) out))
 
-  text_front : (text : List ℕ) → length text ≤ length out → take (shown_length (length (text ++ drop (length text) out)) (done (length text))) (text ++ drop (length text) out) ≡ text
+  text_front : (text : List ℕ) → length text ≤ length out → take (shown_length (length (text ++ drop (length text) out)) (Ok (length text))) (text ++ drop (length text) out) ≡ text
   text_front text h =
       let n : min (length text) (length (text ++ drop (length text) out)) ≡ length text = omega (arith, length-append text (drop (length text) out)) in
       rw n (take-append_seam text (drop (length text) out))
@@ -47,9 +46,9 @@ module _ (input text out out' out'' : List ℕ) (r : Printed) (k : ℕ) (big : l
       let s : out'' ≡ shown_into out no_room = rw (p, q) at b.1 in
       rw (h, n, s) (refused_front out big)
 
-  text_shown : length text ≤ length out → r ≡ done (length text) → out' ≡ text ++ drop (length text) out → held_text input text ≡ text → take k out'' ≡ held_text input text
+  text_shown : length text ≤ length out → r ≡ Ok (length text) → out' ≡ text ++ drop (length text) out → held_text input text ≡ text → take k out'' ≡ held_text input text
   text_shown fits p q h =
-      let n : k ≡ shown_length (length (text ++ drop (length text) out)) (done (length text)) = rw (p, q) at b.0 in
+      let n : k ≡ shown_length (length (text ++ drop (length text) out)) (Ok (length text)) = rw (p, q) at b.0 in
       let s : out'' ≡ text ++ drop (length text) out = rw (p, q) at b.1 in
       rw (h, n, s) (text_front out big text fits)
 

@@ -36,8 +36,10 @@ use Rattle.event_lines.proofs.Laws.{refusal_in_range}
 use Rattle.event_lines.proofs.Blocks.{over_length, over_take, over_drop, over_more, six_inside, good_inside, block_fits, block_empty}
 use Rattle.table.proofs.Laws.{lines_from, none_left, one_left}
 use Rattle.table.proofs.Ends.{table_end}
-use Rattle.whole_input.specs.declared.Printed.{Printed}
-use Rattle.whole_input.specs.WholeInput.{done, no_room, refusal_printed, Counts, shown_length, shown_into, printed_text}
+use Rattle.std.specs.Prelude.{Ok, Err}
+use Rattle.std.specs.Result.{result_unwrap_or}
+use Rattle.whole_input.specs.declared.Refused.{Refused}
+use Rattle.whole_input.specs.WholeInput.{Printed, no_room, refusal_printed, Counts, shown_length, shown_into, printed_text}
 
 -- ---------------------------------------------------------------- the lines from a position on
 -- how many they are
@@ -92,7 +94,7 @@ abbrev pub Gives : List ℕ → List ℕ → Printed → List ℕ → Type 0
 Gives text out r after = (r ≡ printed_text text (length out)) × (after ≡ text_into text out)
 
 module _ (text out : List ℕ) where
-  gives_all : length text ≤ length out → Gives text out (done (length text)) (text ++ drop (length text) out)
+  gives_all : length text ≤ length out → Gives text out (Ok (length text)) (text ++ drop (length text) out)
   gives_all h = rw (le-leb (length text) (length out) h) (refl, refl)
 
   gives_none : length out < length text → Gives text out no_room out
@@ -107,7 +109,7 @@ module _ (text out : List ℕ) where
     prints_first left e h = record { room = omega (arith, long); size = refl; inside = omega arith; front = sym e; back = refl }
 
 module _ (out₀ text : List ℕ) (to : ℕ) (out : List ℕ) where
-  pub prints_last : Printing out₀ text [] to out → Gives text out₀ (done to) out
+  pub prints_last : Printing out₀ text [] to out → Gives text out₀ (Ok to) out
   prints_last k =
       let all : take to out ≡ text = sym (append-nil (take to out)) ∙ k.front in
       let long : to ≡ length text = sym (length-take-le to out k.inside) ∙ ap length all in
@@ -144,7 +146,7 @@ pub record Replaying (input out₀ : List ℕ) (m : Module) (at to : ℕ) (out :
 
 -- the code of the line writer
 module _ (room code value w : ℕ) (e : w ≡ write_code room (refusal_numbers code value)) where
-  pub refusal_done : w ≡ 0 → done line_length ≡ refusal_printed room code value
+  pub refusal_done : w ≡ 0 → Ok line_length ≡ refusal_printed room code value
   refusal_done z = either (can_write room (refusal_numbers code value)) (λ t. rw t) (λ t. absurd (let q = rw t at (sym e ∙ z) in omega arith))
 
   pub refusal_no_room : (w ≡ 0 → ⊥) → no_room ≡ refusal_printed room code value
@@ -158,23 +160,24 @@ abbrev Shown : List ℕ → Printed → ℕ → List ℕ → Type 0
 Shown out r n after = ((n ≡ shown_length (length out) r) × (after ≡ shown_into out r)) × Counts n after
 
 module _ (out : List ℕ) (r : Printed) where
-  refusal_within : (p : Printed) → p ≡ refusal_printed (length out) r.code r.value → p.length ≤ length out
-  refusal_within p e =
-      let ns = refusal_numbers r.code r.value in
+  refusal_within : (x : Refused) → result_unwrap_or (refusal_printed (length out) x.code x.value) 0 ≤ length out
+  refusal_within x =
+      let ns = refusal_numbers x.code x.value in
       either (can_write (length out) ns)
       (λ t.
       let long = leb-true (length (line_text ns)) (length out) (and_true_parts (leb (length (line_text ns)) (length out)) (all_in_range ns) t).0 in
-      rw (e, t) (omega (arith, long, line_length_holds ns)))
-      (λ t. rw (e, t) (omega arith))
+      rw t (omega (arith, long, line_length_holds ns)))
+      (λ t. rw t (omega arith))
 
-  pub shown_refused : (r.code ≡ 0 → ⊥) → (p : Printed) → p ≡ refusal_printed (length out) r.code r.value → (after : List ℕ) → after ≡ written out (refusal_numbers r.code r.value) → Shown out r p.length after
-  shown_refused bad p e after f =
-      let same : length after ≡ length out = ap length f ∙ written_length out (refusal_numbers r.code r.value) in
-      let test = ne_eqb r.code 0 bad in
-      ((ap (λ (x : Printed). x.length) e ∙ rw test, f ∙ rw test), counts p.length after (omega (arith, refusal_within p e, same)))
+  pub shown_refused : (x : Refused) → r ≡ Err x → (p : Printed) → p ≡ refusal_printed (length out) x.code x.value → (after : List ℕ) → after ≡ written out (refusal_numbers x.code x.value)
+      → (n : ℕ) → n ≡ result_unwrap_or p 0 → Shown out r n after
+  shown_refused x is p e after f n g =
+      let same : length after ≡ length out = ap length f ∙ written_length out (refusal_numbers x.code x.value) in
+      let bytes : n ≡ result_unwrap_or (refusal_printed (length out) x.code x.value) 0 = rw e at g in
+      rw is ((bytes, f), counts n after (omega (arith, refusal_within x, same)))
 
-  pub shown_text : r.code ≡ 0 → (n : ℕ) → n ≡ min r.length (length out) → n ≤ length out → Shown out r n out
-  shown_text good n e h = let test = eq-eqb r.code 0 good in ((e ∙ rw test, rw test), counts n out h)
+  pub shown_text : (k : ℕ) → r ≡ Ok k → (n : ℕ) → n ≡ min k (length out) → Shown out r n out
+  shown_text k is n e = rw is ((e, refl), counts n out (omega arith))
 
 -- by what table reading gives
 module _ (input out : List ℕ) (o : Opening) (e : o ≡ opened (read_table input)) where
@@ -223,7 +226,7 @@ module _ (input out : List ℕ) (o : Opening) (e : o ≡ opened (read_table inpu
       }
 
 module _ (input out₀ : List ℕ) (m : Module) (at to : ℕ) (out : List ℕ) (k : Replaying input out₀ m at to out) where
-  pub ends : length input ≤ at → Gives (replayed input) out₀ (done to) out
+  pub ends : length input ≤ at → Gives (replayed input) out₀ (Ok to) out
   ends h = prints_last out₀ (replayed input) to out (rw (no_answer_holds input m at h) at k.prints)
 
   -- one more line

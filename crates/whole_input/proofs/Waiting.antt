@@ -27,8 +27,8 @@ use Rattle.machine.proofs.TextLine.{line_length_holds}
 use Rattle.executive.specs.Executive.{opened}
 use Rattle.executive.specs.declared.Opening.{Opening}
 use Rattle.table.proofs.Laws.{lines_from, none_left, one_left}
-use Rattle.whole_input.specs.declared.Printed.{Printed}
-use Rattle.whole_input.specs.WholeInput.{done, no_room, refusal_printed}
+use Rattle.std.specs.Prelude.{Ok}
+use Rattle.whole_input.specs.WholeInput.{Printed, no_room, refusal_printed}
 use Rattle.whole_input.specs.WaitingTimes.{is_question, refused_waiting, gets, waiting_numbers, line_waiting, asked}
 use Rattle.whole_input.proofs.Laws.{count_from, Printing, Gives, lines_too_many, prints_first, prints_last, line_room, line_more, not_accepted, line_gives, accepted, lines_after}
 
@@ -78,7 +78,7 @@ pub record Asking (input out₀ : List ℕ) (T : Table) (at to : ℕ) (out : Lis
   pub prints : Printing out₀ (asked input) (asked_from input T at) to out
 
 module _ (input out₀ : List ℕ) (T : Table) (at to : ℕ) (out : List ℕ) (k : Asking input out₀ T at to out) where
-  pub asking_ends : length input ≤ at → Gives (asked input) out₀ (done to) out
+  pub asking_ends : length input ≤ at → Gives (asked input) out₀ (Ok to) out
   unfolding texts
   asking_ends h = prints_last out₀ (asked input) to out (rw (none_left input at h) at k.prints)
 

@@ -5,11 +5,11 @@ ghost use Rattle.std.specs.Prelude.{◌≡◌, ◌/◌, length, drop, ltb};
 ghost use Rattle.machine.specs.Limits.{line_length};
 ghost use Rattle.machine.specs.Line.{lines, read_at, written, written_at};
 ghost use Rattle.machine.specs.Replay.{line_next, line_answer, refusal_numbers, text_into, replayed_into};
-ghost use Rattle.whole_input.specs.WholeInput.{done, no_room, refusal_printed, Counts, shown_length, shown_into, printed_text, printed};
+ghost use Rattle.whole_input.specs.WholeInput.{no_room, refusal_printed, Counts, shown_length, shown_into, printed_text, printed};
 ghost use Rattle.whole_input.specs.WaitingTimes.{is_question, gets, line_waiting, asked};
 
 use executive::Executive;
-use machine::{Line, Module, Row, Waiting};
+use machine::{Line, Module, Numbers, Row, Waiting};
 
 // The number of an output that is too short, and of a line that is no six numbers.
 const REFUSED: u8 = 11;
@@ -17,57 +17,42 @@ const REFUSED: u8 = 11;
 // The number of a question whose unused numbers are not all 0.
 const UNASKED: u8 = 13;
 
-// 0 and how many bytes were printed, or 11 and nothing was; the value is 0.
+// Why nothing was printed: what the line of a refusal has before its four 0. Any code may be shown, so it is no `Refusal`, which would admit fewer.
 #[derive(Clone, Copy)]
-pub struct Printed {
+pub struct Refused {
     pub code: u8,
     pub value: u32,
-    pub length: usize,
 }
 
-fn done(length: usize) -> Printed
-    ensures { result ≡ done length }
-{
-    Printed {
-        code: 0,
-        value: 0,
-        length,
-    }
-}
-
-pub fn no_room() -> Printed
+// 11 with value 0.
+pub fn no_room() -> Result<usize, Refused>
     ensures { result ≡ no_room }
 {
-    Printed {
+    Err(Refused {
         code: REFUSED,
         value: 0,
-        length: 0,
-    }
+    })
 }
 
 // A bad table prints one line: code, line number, four 0.
-fn print_refusal(out: &mut [u8], code: u8, value: u32) -> Printed
+fn print_refusal(out: &mut [u8], code: u8, value: u32) -> Result<usize, Refused>
     ensures { (result ≡ refusal_printed (length out.old) code value) × (out.new ≡ written out.old (refusal_numbers code value)) }
 {
-    if line::write(out, event_lines::refusal(code, value)) == 0 {
-        return done(Module::LINE);
+    match line::write(out, event_lines::refusal(code, value)) {
+        Ok(()) => Ok(Module::LINE),
+        Err(_) => no_room(),
     }
-    no_room()
 }
 
 // What a program prints of a result: how many bytes of the output, in which the line of its code stands where it is refused.
-pub fn shown(out: &mut [u8], r: Printed) -> usize
+pub fn shown(out: &mut [u8], r: Result<usize, Refused>) -> usize
     ensures value { (result ≡ shown_length (length out.old) r) × (out.new ≡ shown_into out.old r) }
     ensures counts { Counts result out.new }
 {
-    if r.code != 0 {
-        let p = print_refusal(out, r.code, r.value);
-        return p.length;
+    match r {
+        Ok(length) => length.min(out.len()),
+        Err(x) => print_refusal(out, x.code, x.value).unwrap_or(0),
     }
-    if r.length < out.len() {
-        return r.length;
-    }
-    out.len()
 }
 
 // How many lines an input has from a position on.
@@ -90,20 +75,19 @@ fn is_short(room: usize, input: &[u8], at: usize) -> bool
     room / Module::LINE < count_lines(input, at)
 }
 
-// The answer to the line at a position of the input, written at a position of the output; gives the executive after it. The code of
+// The answer to the line at a position of the input, written at a position of the output; gives the executive after it. The result of
 // the line writer is not looked at: where there is room, every answer of a replay can be written.
 fn answer_line(e: Executive, input: &[u8], at: usize, out: &mut [u8], to: usize) -> Executive
     ensures { (result.inner ≡ line_next e.inner (read_at input.now at)) × (out.new ≡ written_at to out.old (line_answer e.inner (read_at input.now at))) }
 {
     let h = event_lines::step_line(e, line::read_at(input, at));
-    let answer = h.answer;
-    line::write_at(out, to, event_lines::numbers_of(answer));
+    let _ = line::write_at(out, to, Numbers::from(h.answer));
     h.executive
 }
 
 // Reads a table, then event lines, and prints one answer line for each, 11 too; or the one line of a bad table. Where the output is too
 // short for all of it, nothing is written.
-pub fn replay(input: &[u8], out: &mut [u8]) -> Printed
+pub fn replay(input: &[u8], out: &mut [u8]) -> Result<usize, Refused>
     ensures { (result ≡ printed input.now (length out.old)) × (out.new ≡ replayed_into input.now out.old) }
 {
     let o = Executive::open(input);
@@ -119,8 +103,7 @@ pub fn replay(input: &[u8], out: &mut [u8]) -> Printed
     while at < input.len() {
         let r = event_lines::run_lines(executive, input, at, out, to);
         if 0 < r.lines {
-            let next = r.executive;
-            executive = next;
+            executive = r.executive;
             at += r.lines * Module::LINE;
             to += r.printed;
             continue;
@@ -129,7 +112,7 @@ pub fn replay(input: &[u8], out: &mut [u8]) -> Printed
         at = line::next_line(input, at);
         to += Module::LINE;
     }
-    done(to)
+    Ok(to)
 }
 
 // ---------------------------------------------------------------- waiting times
@@ -137,12 +120,9 @@ pub fn replay(input: &[u8], out: &mut [u8]) -> Printed
 fn is_question(r: Row) -> bool
     ensures { result ≡ is_question r }
 {
-    let f3 = r.f3;
-    let f4 = r.f4;
-    let f5 = r.f5;
-    let f6 = r.f6;
-    fields::is_number(f3, 0)
-        && (fields::is_number(f4, 0) && (fields::is_number(f5, 0) && fields::is_number(f6, 0)))
+    fields::is_number(r.f3, 0)
+        && (fields::is_number(r.f4, 0)
+            && (fields::is_number(r.f5, 0) && fields::is_number(r.f6, 0)))
 }
 
 // What a line gets: 11 where it is no six numbers, 13 where an unused number is not 0, else the waiting time.
@@ -171,12 +151,12 @@ fn ask_line(e: Executive, input: &[u8], at: usize, out: &mut [u8], to: usize)
     ensures { out.new ≡ written_at to out.old (line_waiting e.inner.table (read_at input.now at)) }
 {
     let w = waiting_of(e, line::read_at(input, at));
-    line::write_at(out, to, event_lines::refusal(w.code, w.n));
+    let _ = line::write_at(out, to, event_lines::refusal(w.code, w.n));
 }
 
 // Reads a table, then a question a line, and prints one answer line for each; or the one line of a bad table. Where the output is too
 // short for all of it, nothing is written.
-pub fn waiting_times(input: &[u8], out: &mut [u8]) -> Printed
+pub fn waiting_times(input: &[u8], out: &mut [u8]) -> Result<usize, Refused>
     ensures { (result ≡ printed_text (asked input.now) (length out.old)) × (out.new ≡ text_into (asked input.now) out.old) }
 {
     let o = Executive::open(input);
@@ -194,5 +174,5 @@ pub fn waiting_times(input: &[u8], out: &mut [u8]) -> Printed
         at = line::next_line(input, at);
         to += Module::LINE;
     }
-    done(to)
+    Ok(to)
 }

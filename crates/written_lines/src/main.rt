@@ -50,6 +50,9 @@ const TRIED: [i64; COUNT] = [
 // The fields of a line.
 const FIELDS: usize = 6;
 
+// What is printed for a line that is not written.
+const REFUSED: u8 = 11;
+
 // A line with a number in the field at a place, counted from 0.
 fn numbers(place: usize, x: i64) -> Numbers {
     let n = Numbers {
@@ -71,7 +74,11 @@ fn numbers(place: usize, x: i64) -> Numbers {
 }
 
 fn print_written(rt: &impl Print, out: &mut [u8], at: usize, n: Numbers) -> io::Result<()> {
-    let code = line::write_at(out, at, n);
+    let code = if line::write_at(out, at, n).is_ok() {
+        0
+    } else {
+        REFUSED
+    };
     print!(rt; "{code} ")?;
     rt.write_all(out)?;
     rt.write_all(b"\n")
@@ -112,8 +119,8 @@ fn print_number(rt: &impl Print, x: i64) -> io::Result<()> {
 }
 
 fn main(rt: HostRuntime) -> io::Result<()> {
-    for i in 0..COUNT {
-        print_number(&rt, TRIED[i])?;
+    for x in TRIED {
+        print_number(&rt, x)?;
     }
     Ok(())
 }

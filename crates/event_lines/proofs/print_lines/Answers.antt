@@ -16,12 +16,6 @@ six_at-requires c = omega (arith, c.loop-i-test.true)
 pub overflow_add-to : goal.overflow_add-to
 overflow_add-to c = let h = printing_fits _ _ _ _ _ _ _ c.loop-i.invariant c.loop-i-test.true _ c.six_at.ensures in let g : length c.args.out.now < 18446744073709551616 = omega (arith, c.well_formed) in omega (arith, h, g, c.print_line-to.ensures.0, c.loop-i.invariant.size)
 
-pub overflow_add-i : goal.overflow_add-i
-overflow_add-i c = omega (arith, c.loop-i-test.true)
-
-pub loop-i-smaller : goal.loop-i-smaller
-loop-i-smaller c = omega (arith, c.loop-i-test.true)
-
 pub loop-i-preserved : goal.loop-i-preserved
 loop-i-preserved c = printing_more _ _ _ _ _ _ _ c.loop-i.invariant c.loop-i-test.true _ c.six_at.ensures _ c.print_line-to.ensures.0 _ c.print_line-to.ensures.1
 

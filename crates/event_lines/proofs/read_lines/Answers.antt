@@ -21,12 +21,6 @@ put_six-requires c = omega (arith, c.loop-n-test.true, c.loop-n.invariant.room)
 pub overflow_add-at : goal.overflow_add-at
 overflow_add-at c = let g : length c.args.text.now < 18446744073709551616 = omega (arith, c.well_formed) in omega (arith, g, six_inside c.args.text.now c.loop-n.at _ (sym (reads _ _ c.read_at.ensures) ∙ c.in-Six.is))
 
-pub overflow_add-n : goal.overflow_add-n
-overflow_add-n c = let g : length c.args.list.now < 18446744073709551616 = omega (arith, c.well_formed) in omega (arith, g, c.loop-n-test.true, c.requires)
-
-pub loop-n-smaller : goal.loop-n-smaller
-loop-n-smaller c = omega (arith, c.loop-n-test.true)
-
 pub loop-n-preserved : goal.loop-n-preserved
 loop-n-preserved c = reading_more _ _ _ _ _ _ _ c.loop-n.invariant _ (sym (reads _ _ c.read_at.ensures) ∙ c.in-Six.is) c.loop-n-test.true _ c.put_six.ensures
 

@@ -4,11 +4,10 @@ use lib.ListN.{take, drop}
 use Prim.Native.Nat.{ℕ, ◌+◌, ◌-◌}
 use mathlib.Core.Path.{◌≡◌, ap, ◌∙◌}
 use Rattle.machine.specs.Line.{field_width, read_field}
-use Rattle.line.specs.Found.{found_of}
 use Rattle.line.proofs.field_at.Goals as goal
 
 pub returns : goal.returns
 returns c =
     let start = c in
     let e : start.args.at + field_width - start.args.at ≡ field_width = omega arith in c.field.ensures ∙ ap
-    (λ (k : ℕ). found_of (read_field (take k (drop start.args.at start.args.s.now)))) e
+    (λ (k : ℕ). read_field (take k (drop start.args.at start.args.s.now))) e

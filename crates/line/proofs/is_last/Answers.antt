@@ -1,20 +1,14 @@
--- `is_last` meets its contract. The loop: the columns from i on hold what those from 1 on do.
-use Prim.Native.Nat.{◌-◌}
-use mathlib.Core.Bool.{true≢false}
-use mathlib.Core.Path.{◌≡◌, refl, sym}
+-- `is_last` meets its contract.
+use mathlib.Core.Path.{◌∙◌, sym}
 use native.Mathlib.Omega.{arith}
-use Rattle.machine.specs.Line.{field_width}
-use Rattle.line.proofs.Scan.{space_more}
+use lib.Dec.{eqb}
+use Rattle.std.proofs.Common.{rules, tests}
+use Rattle.std.proofs.lemmas.Iterator.{YieldsList-from_slice}
+use Rattle.std.proofs.lemmas.Iterator.Search.{all_from_yields_List}
+use Rattle.machine.specs.Line.{space}
+use Rattle.line.proofs.Scan.{spaces_skipped}
 use Rattle.line.proofs.is_last.Goals as goal
 
-pub loop-i-init : goal.loop-i-init
-loop-i-init c = (omega arith, refl)
-
-pub returns-then-s-i-ne32 : goal.returns-then-s-i-ne32
-returns-then-s-i-ne32 c = λ e. absurd (true≢false (sym e))
-
-pub loop-i-preserved : goal.loop-i-preserved
-loop-i-preserved c = (omega arith, space_more c.args.s.now _ _ c.loop-i.invariant.1 (omega arith) c.if-s-i-ne32.false)
-
 pub returns : goal.returns
-returns c = λ e. let w : c.loop-i.i ≡ field_width - 1 = omega arith in rw w at c.loop-i.invariant.1
+returns c = λ e. spaces_skipped 8 1 c.args.s.now (omega arith)
+    (sym (all_from_yields_List (λ b. eqb b space) _ _ c.all.result c.all.ensures.ran (YieldsList-from_slice _ c.iter.ensures.rest) (λ x b q k. search (rules, tests))) ∙ e)

@@ -1,35 +1,25 @@
--- `next_line` meets its contract. The loop: the line at i ends where the line at the start does.
-use mathlib.Core.Path.{refl}
+-- `next_line` meets its contract.
+use mathlib.Core.Path.{◌∙◌, sym, ap}
 use native.Mathlib.Omega.{arith}
-use Rattle.line.proofs.Reading.{end_more, end_found, end_past}
+use lib.Dec.{eqb}
+use Rattle.std.proofs.Common.{rules, tests}
+use Rattle.std.specs.List.{position}
+use Rattle.std.proofs.lemmas.Iterator.{YieldsList-from_slice}
+use Rattle.std.proofs.lemmas.Iterator.Search.{position_from_yields_List}
+use Rattle.machine.specs.Line.{line_feed}
+use Rattle.line.proofs.Parts.{tail_is}
+use Rattle.line.proofs.Reading.{end_found, end_none, end_past}
 use Rattle.line.proofs.next_line.Goals as goal
 
-pub loop-i-init : goal.loop-i-init
-loop-i-init c = refl
+pub returns-then-s-at : goal.returns-then-s-at
+returns-then-s-at c = end_past c.args.s.now c.args.at (omega arith)
 
-pub bounds-s-i : goal.bounds-s-i
-bounds-s-i c = omega arith
+pub returns-in-Some : goal.returns-in-Some
+returns-in-Some c = end_found c.args.s.now c.args.at (omega arith) _
+    (ap (position (λ b. eqb b line_feed)) (sym (tail_is c.args.at c.args.s.now))
+    ∙ sym (position_from_yields_List (λ b. eqb b line_feed) _ _ c.position.result c.position.ensures.ran (YieldsList-from_slice _ c.iter.ensures.rest) (λ x b q k. search (rules, tests))) ∙ c.in-Some.is)
 
-pub overflow_add-result : goal.overflow_add-result
-overflow_add-result c = omega arith
-
-pub returns-then-s-i-eq10 : goal.returns-then-s-i-eq10
-returns-then-s-i-eq10 c =
-    let start = c in
-    let loop = c.loop-i in
-    end_found start.args.s.now _ _ loop.invariant c.loop-i-test.true c.if-s-i-eq10.true
-
-pub overflow_add-i : goal.overflow_add-i
-overflow_add-i c = omega arith
-
-pub loop-i-smaller : goal.loop-i-smaller
-loop-i-smaller c = omega arith
-
-pub loop-i-preserved : goal.loop-i-preserved
-loop-i-preserved c =
-    let start = c in
-    let loop = c.loop-i in
-    end_more start.args.s.now _ _ loop.invariant c.loop-i-test.true c.if-s-i-eq10.false
-
-pub returns : goal.returns
-returns c = end_past c.args.s.now _ _ c.loop-i.invariant c.loop-i-test.false
+pub returns-in-None : goal.returns-in-None
+returns-in-None c = end_none c.args.s.now c.args.at (omega arith)
+    (ap (position (λ b. eqb b line_feed)) (sym (tail_is c.args.at c.args.s.now))
+    ∙ sym (position_from_yields_List (λ b. eqb b line_feed) _ _ c.position.result c.position.ensures.ran (YieldsList-from_slice _ c.iter.ensures.rest) (λ x b q k. search (rules, tests))) ∙ c.in-None.is)

@@ -31,7 +31,7 @@ loop-i-preserved c =
       omega arith,
       simp length-set loop.invariant.1,
       number_more start.args.s.now loop.ns loop.i loop.invariant.1 loop.invariant.2 loop-test.true _
-          field_at.ensures _ c.in-Number.is,
+          field_at.ensures _ c.in-Some.is,
     )
 
 pub returns-then-s-ne10 : goal.returns-then-s-ne10

@@ -1,10 +1,7 @@
-use Prim.Native.Nat.{◌+◌, ◌-◌, ◌≤◌}
+use Prim.Native.Nat.{◌+◌, ◌-◌}
 use mathlib.Core.Path.{◌≡◌}
 use Rattle.partition.specs.Soonest.{soonest_from}
 use Rattle.partition.proofs.soonest_of.Given as goal
 
-abbrev pub invariant-loop-id : goal.invariant-loop-id
-invariant-loop-id l = (l.id ≤ l.n) × (l.s ≡ soonest_from (l.n - l.id) (l.id + 1) l.p)
-
-abbrev pub decreases-loop-id : goal.decreases-loop-id
-decreases-loop-id l = l.id
+abbrev pub invariant-loop-k : goal.invariant-loop-k
+invariant-loop-k l = l.s ≡ soonest_from (l.p.process_count - l.k) (l.k + 1) l.p

@@ -1,41 +1,44 @@
-use Prim.Native.Nat.{ℕ, ◌+◌}
-use mathlib.Core.Path.{◌≡◌, refl, sym, ap, ◌∙◌}
+use Prim.Native.Nat.{◌+◌}
+use mathlib.Core.Path.{◌≡◌, sym, ◌∙◌}
 use native.Mathlib.Omega.{arith}
-use borrow.Author.Tests.{not-true, not-false, eq-eqb, ne_eqb}
+use borrow.Author.Rules.{rules}
+use borrow.Author.Tests.{not-true, not-false}
 use Rattle.machine.specs.Process.{ticked}
-use Rattle.machine.specs.Partition.{each_from, tick_partition, process}
-use Rattle.machine.proofs.Folds.{each_more, each_done}
-use Rattle.partition.proofs.Laws.{each_start, read_in, read_out, untouched}
+use Rattle.machine.specs.Partition.{tick_partition, process, stored}
+use Rattle.partition.proofs.Laws.{each_more, each_done, untouched}
 use Rattle.partition.proofs.ticked.Goals as goal
-use Rattle.partition.proofs.ticked.Goals.{then-k-lt-PROCESSES, else-k-lt-PROCESSES}
+use Rattle.partition.proofs.ticked.Goals.{then-is_touched, else-is_touched}
 
 pub returns-then-not-is_normal : goal.returns-then-not-is_normal
 unfolding tick_partition
 returns-then-not-is_normal c = rw (← c.is_normal.ensures, not-true _ c.if-not-is_normal.true-raw)
 
-pub loop-id-init : goal.loop-id-init
-loop-id-init c = (omega arith, each_start _ _ 0 _ refl)
-
-pub loop-id-preserved-then-is_touched : goal.loop-id-preserved-then-is_touched
-loop-id-preserved-then-is_touched c =
-    let l = c.loop-id in
-    let t = c.args.t in
-    let k = c.slot-k in
-    let x : c.if-k-lt-PROCESSES.x ≡ process (l.id + 1) l.q = elim c.if-k-lt-PROCESSES.branch [ then-k-lt-PROCESSES w ↦ read_in (l.id + 1) k.result l.q c.if-k-lt-PROCESSES.x k.ensures w.if-k-lt-PROCESSES.true w.x-is | else-k-lt-PROCESSES w ↦ read_out (l.id + 1) k.result l.q c.if-k-lt-PROCESSES.x k.ensures w.if-k-lt-PROCESSES.false (w.x-is ∙ c.blank-x.ensures) ] in
-    (omega arith, rw (c.store-q.ensures, c.tick.ensures, x) (sym (each_more c.wide-n.result l.id l.q (ticked t) (omega arith)) ∙ l.invariant.1))
-
 pub loop-id-preserved : goal.loop-id-preserved
 loop-id-preserved c =
     let l = c.loop-id in
     let t = c.args.t in
-    let k = c.slot-k in
-    let x : c.if-k-lt-PROCESSES.x ≡ process (l.id + 1) l.q = elim c.if-k-lt-PROCESSES.branch [ then-k-lt-PROCESSES w ↦ read_in (l.id + 1) k.result l.q c.if-k-lt-PROCESSES.x k.ensures w.if-k-lt-PROCESSES.true w.x-is | else-k-lt-PROCESSES w ↦ read_out (l.id + 1) k.result l.q c.if-k-lt-PROCESSES.x k.ensures w.if-k-lt-PROCESSES.false (w.x-is ∙ c.blank-x.ensures) ] in
-    (omega arith, sym (each_more c.wide-n.result l.id l.q (ticked t) (omega arith) ∙ ap (each_from (ticked t) _ _) (untouched t _ _ l.q x (sym c.is_touched.ensures ∙ c.if-is_touched.false))) ∙ l.invariant.1)
+    let x : c.by_id-x.result ≡ process l.id l.q = search rules in
+    let next : c.if-is_touched.q ≡ stored l.id (ticked t (process l.id l.q)) l.q = elim c.if-is_touched.branch [
+      | then-is_touched w ↦ w.q-is ∙ rw (w.store-q.ensures, w.tick.ensures, x)
+      | else-is_touched w ↦ w.q-is ∙ sym (untouched t _ _ l.q x (sym c.is_touched.ensures ∙ w.if-is_touched.false))
+    ] in
+    rw next (sym (each_more (ticked t) c.args.p.process_count l.id l.q (omega arith)) ∙ l.invariant)
 
-pub returns : goal.returns
+pub returns-else-not-is_normal : goal.returns-else-not-is_normal
 unfolding tick_partition
-returns c =
-    let a = c.args in
+returns-else-not-is_normal c =
     let l = c.loop-id in
-    rw (← c.is_normal.ensures, not-false _ c.if-not-is_normal.false-raw)
-    (sym (each_done c.wide-n.result l.id l.q (ticked a.t) (omega arith)) ∙ l.invariant.1 ∙ ap (λ (x : ℕ). each_from (ticked a.t) x 1 a.p) c.wide-n.ensures)
+    rw (← c.is_normal.ensures, not-false _ c.if-not-is_normal.false-raw) (sym (each_done (ticked c.args.t) c.args.p.process_count l.id l.q (omega arith)) ∙ l.invariant)
+
+pub returns-after-is_touched : goal.returns-after-is_touched
+unfolding tick_partition
+returns-after-is_touched c =
+    let l = c.loop-id in
+    let t = c.args.t in
+    let n = c.args.p.process_count in
+    let x : c.by_id-x.result ≡ process l.id l.q = search rules in
+    let next : c.if-is_touched.q ≡ stored l.id (ticked t (process l.id l.q)) l.q = elim c.if-is_touched.branch [
+      | then-is_touched w ↦ w.q-is ∙ rw (w.store-q.ensures, w.tick.ensures, x)
+      | else-is_touched w ↦ w.q-is ∙ sym (untouched t _ _ l.q x (sym c.is_touched.ensures ∙ w.if-is_touched.false))
+    ] in
+    rw (← c.is_normal.ensures, not-false _ c.if-not-is_normal.false-raw, next) (sym (each_done (ticked t) n (l.id + 1) _ (omega arith)) ∙ sym (each_more (ticked t) n l.id l.q (omega arith)) ∙ l.invariant)

@@ -8,4 +8,4 @@ returns c =
     let read = c.read in
     let start = c in
     let l : read.result ≡ read_line start.args.text.now = reads _ _ read.ensures in
-    rw (c.numbers_of.ensures, c.step_line-h.ensures, l)
+    rw (c.from.ensures, c.step_line-h.ensures, l)

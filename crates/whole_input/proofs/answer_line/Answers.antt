@@ -10,7 +10,7 @@ returns c =
     let step_line = c.step_line-h in
     let start = c in
     let l : got.result ≡ read_at start.args.input.now start.args.at = reads _ _ got.ensures in
-    let numbers = c.numbers_of in (
+    let numbers = c.from in (
       rw (step_line.ensures, l),
       c.write_at.ensures.1 ∙ rw (numbers.ensures, step_line.ensures, l),
     )

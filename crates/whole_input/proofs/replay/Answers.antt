@@ -65,4 +65,4 @@ loop-at-preserved c = goes_on _ _ _ _ _ _ (block_skipped _ _ _ _ _ _ c.loop-at.i
 pub returns : goal.returns
 returns c =
     let g = ends _ _ _ _ _ _ c.loop-at.invariant c.loop-at-test.false in
-    (c.done.ensures ∙ g.0, g.1)
+    g

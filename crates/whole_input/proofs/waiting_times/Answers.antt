@@ -40,4 +40,4 @@ loop-at-preserved c = asked_on _ _ _ _ _ _ c.loop-at.invariant c.loop-at-test.tr
 pub returns : goal.returns
 returns c =
     let g = asking_ends _ _ _ _ _ _ c.loop-at.invariant c.loop-at-test.false in
-    (c.done.ensures ∙ g.0, g.1)
+    g

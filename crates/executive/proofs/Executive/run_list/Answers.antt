@@ -1,44 +1,36 @@
-use Prim.Native.Nat.{ℕ, ◌/◌, ◌≤◌, ◌<◌}
+use Prim.Native.Nat.{◌/◌, ◌≤◌, ◌<◌}
 use mathlib.Core.Bool.{true, false, cond, true≢false}
 use mathlib.Core.Path.{◌≡◌, refl, sym, ap, ◌∙◌, subst}
 use native.Mathlib.Nat.{div-mul-le_self}
 use native.Mathlib.Omega.{arith}
 use lib.Dec.{ltb}
-use lib.ListN.{length, get_or, length-set, get_or-eq_default}
+use lib.ListN.{length, length-set}
 use borrow.Author.Rules.{rules}
 use borrow.Author.Tests.{ltb-true, ltb-false}
-use Rattle.machine.specs.Channels.{other_queue, traffic_of}
-use Rattle.machine.specs.Decisions.{no_message}
-use Rattle.machine.specs.Fields.{number_of}
-use Rattle.machine.specs.Messages.{first}
-use Rattle.machine.specs.declared.Buffer.{Buffer}
 use Rattle.machine.specs.Windows.{lookup}
-use Rattle.machine.specs.declared.Channel.{Channel}
-use Rattle.machine.specs.Limits.{partition_limit, channel_limit, process_limit, semaphore_limit, event_limit, buffer_limit, blackboard_limit}
-use Rattle.machine.specs.Module.{no_channel, no_partition, channel, part, message, running_in, with_time}
-use Rattle.machine.specs.Partition.{process, semaphore, event, blackboard, running, applied, arrived_last, no_semaphore, no_event, no_buffer, no_blackboard, stored_buffer, moved_in, buffer, ended_by}
+use Rattle.machine.specs.Limits.{partition_limit, channel_limit}
+use Rattle.machine.specs.Module.{no_partition, part, message, running_in, with_time}
+use Rattle.machine.specs.Partition.{running}
 use Rattle.machine.specs.Questions.{changes, transfer_at}
 use Rattle.machine.specs.Step.{sees}
 use Rattle.machine.specs.Ticks.{tick_to}
 use Rattle.machine.specs.declared.Module.{Module}
-use Rattle.machine.proofs.Bounds.{stored_out, semaphore_out, event_out, buffer_out, blackboard_out}
 use Rattle.machine.proofs.Either.{either}
 use Rattle.machine.proofs.Folds.{tick_to_none}
 use Rattle.machine.proofs.Taken.{length_mapped}
-use Rattle.partition.proofs.Laws.{left_more, left_done, read_in, read_out, named_at, named_past, slot_out, stored_at, semaphore_at, event_at_holds, moved_at_holds, blackboard_at, ended_at_holds, none_ended}
 use Rattle.resident.specs.Mirrors.{Mirrors}
 use Rattle.resident.specs.Settled.{settled}
-use Rattle.resident.proofs.Laws.{mirrors_filled, mirrors_lengths, mirrors_same, mirrors_set, processes_of}
-use Rattle.resident.proofs.Settled.{settled_here, settled_there, settled_past, settled_same}
-use Rattle.services.specs.Looked.{taken_for, waiter_for, object_for}
-use Rattle.services.proofs.Laws.{none_created}
+use Rattle.resident.proofs.Laws.{mirrors_filled}
+use Rattle.resident.proofs.Settled.{settled_here, settled_past, settled_same}
 use Rattle.executive.specs.Lists.{six}
 use Rattle.events.specs.declared.Plan.{Plan}
-use Rattle.executive.proofs.Laws.{past_queue, Planned, Decides, plan_made, place_named, few_ticks, slot_spot, Held, seen_traffic, seen_place, seen_here, seen_none, made_is, shown_spot, runs_shown, none_shown, event_answered}
+use Rattle.executive.proofs.Laws.{Planned, Decides, plan_made, place_named, few_ticks, slot_spot, Held, seen_traffic, made_is, shown_spot, runs_shown, none_shown, event_answered}
 use Rattle.executive.proofs.Lists.{begins_early, early_same, Running, begins, fits, ends, goes_on}
-use Rattle.executive.proofs.Residents.{Beside, beside_looked, kept_fresh, none_beside, two_less, two_more, two_fits, set_size, ticks_here, ticks_there, ticks_none, Current, current_same, current_moved, not_stored, restart_changes, one_of, not_far, not_near, Ready, Done, done_as_holds, done_same, done_written, done_changed, done_restarted, done_moved, done_here, done_there, restarts_in, changes_in, buffer_keeps, number_at, number_past, waiter_read, waiter_none, running_at}
+use Rattle.machine.specs.Channels.{port_at}
+use Rattle.machine.specs.declared.Table.{Table}
+use Rattle.executive.proofs.Residents.{table_here, Beside, beside_looked, kept_fresh, none_beside, ticks_here, ticks_there, ticks_none, Current, current_same, current_moved, not_stored, restart_changes, one_of, not_far, not_near, Ready, Done, done_as_holds, done_same, done_written, done_changed, done_restarted, done_moved, done_here, done_there, restarts_in, changes_in, running_at}
 use Rattle.executive.proofs.Executive.run_list.Goals as goal
-use Rattle.executive.proofs.Executive.run_list.Goals.{After-is_restart, After-plan_of-x, Joined-change, Joined-changed, Joined-first-m, Joined-is_restart, Joined-place-lt-CHANNELS, Joined-slot-lt-PARTITIONS, Joined-stale, Joined-x-lt-PARTITIONS, Joined-x-spot, Start, Then-does_change, Then-is_restart, Then-seen-lt-PARTITIONS, else-calling_at-lt-PROCESSES, else-changed, else-does_create, else-first-m, else-is_restart+else-does_change+else-put-lt-CHANNELS+else-pass-lt-CHANNELS, else-is_restart+else-does_change+else-put-lt-CHANNELS+then-pass-lt-CHANNELS+else-end-lt-PARTITIONS, else-is_restart+else-does_change+else-put-lt-CHANNELS+then-pass-lt-CHANNELS+then-end-lt-PARTITIONS+else-end-spot, else-is_restart+else-does_change+else-put-lt-CHANNELS+then-pass-lt-CHANNELS+then-end-lt-PARTITIONS+then-end-spot, else-is_restart+else-does_change+then-put-lt-CHANNELS, else-is_restart+then-does_change+else-loop-turn-test, else-k-lt-BUFFERS, else-named_at-lt-PROCESSES, else-object-ne0, else-object_at-lt-SEMAPHORES, else-place-lt-CHANNELS, else-seen-lt-PARTITIONS, else-served_at-lt-PROCESSES, else-slot-lt-PARTITIONS, else-soon-j, else-spot-lt-PARTITIONS, else-stale, else-stale-2, else-x-lt-PARTITIONS, else-x-spot, in-Created, in-CreatedBuffer, in-Ended, in-Entered, in-Handed, in-Last, in-LevelSet, in-Moved+else-l-lt-PROCESSES, in-Moved+then-l-lt-PROCESSES, in-Nothing, in-Stored+else-k-lt-PROCESSES, in-Stored+then-k-lt-PROCESSES, in-StoredBlackboard+else-k-lt-BLACKBOARDS, in-StoredBlackboard+then-k-lt-BLACKBOARDS, in-StoredEvent+else-k-lt-EVENTS, in-StoredEvent+then-k-lt-EVENTS, in-StoredSemaphore+else-k-lt-SEMAPHORES, in-StoredSemaphore+then-k-lt-SEMAPHORES, then-calling_at-lt-PROCESSES, then-changed, then-does_create, then-first-m, then-is_restart, then-k-lt-BUFFERS, then-named_at-lt-PROCESSES, then-object-ne0, then-object_at-lt-SEMAPHORES, then-place-lt-CHANNELS, then-seen-lt-PARTITIONS+else-seen-spot, then-seen-lt-PARTITIONS+then-seen-spot, then-served_at-lt-PROCESSES, then-slot-lt-PARTITIONS, then-soon-j+else-j-spot, then-soon-j+then-j-spot, then-spot-lt-PARTITIONS, then-stale, then-stale-2, then-x-lt-PARTITIONS, then-x-spot+else-spot-lt-PARTITIONS-2, then-x-spot+then-spot-lt-PARTITIONS-2}
+use Rattle.executive.proofs.Executive.run_list.Goals.{After-is_restart, After-plan_of-x, Joined-changed, Joined-first-m, Joined-is_restart, Joined-slot-lt-PARTITIONS, Joined-stale, Joined-x-lt-PARTITIONS, Joined-x-spot, Start, Then-does_change, Then-is_restart, else-changed, else-first-m, else-is_restart+else-does_change+else-put-lt-CHANNELS+else-pass-lt-CHANNELS, else-is_restart+else-does_change+else-put-lt-CHANNELS+then-pass-lt-CHANNELS+else-end-lt-PARTITIONS, else-is_restart+else-does_change+else-put-lt-CHANNELS+then-pass-lt-CHANNELS+then-end-lt-PARTITIONS+else-end-spot, else-is_restart+else-does_change+else-put-lt-CHANNELS+then-pass-lt-CHANNELS+then-end-lt-PARTITIONS+then-end-spot, else-is_restart+else-does_change+then-put-lt-CHANNELS, else-is_restart+then-does_change, else-slot-lt-PARTITIONS, else-soon-j, else-spot-lt-PARTITIONS, else-stale, else-stale-2, else-x-lt-PARTITIONS, else-x-spot, then-changed, then-first-m, then-is_restart, then-slot-lt-PARTITIONS, then-soon-j+else-j-spot, then-soon-j+then-j-spot, then-spot-lt-PARTITIONS, then-stale, then-stale-2, then-x-lt-PARTITIONS, then-x-spot+else-spot-lt-PARTITIONS-2, then-x-spot+then-spot-lt-PARTITIONS-2}
 
 -- the window at the time after the event
 window : (c : Joined-first-m) → c.if-first-m.window ≡ lookup c.args.self.inner.table c.place_event-first.result.time
@@ -87,19 +79,10 @@ beside c =
     let k = (arrived c.before).0.kept in
     elim c.if-stale.branch [ then-stale w ↦ (rw (w.currents-is, w.objects-is, w.run-is) (beside_looked (mirrors_filled _ _ k.sizes w.fill.ensures) w.running-run.ensures)) | else-stale w ↦ (rw (w.currents-is, w.objects-is, w.run-is) (k.fresh w.if-stale.false)) ]
 
--- the channel that a call may name
-line : (c : Joined-place-lt-CHANNELS) → c.if-place-lt-CHANNELS.channel ≡ channel c.args.self.inner.table c.plan_of-x.result.place
-line c =
-    let wide : length c.args.self.inner.table.channels ≡ channel_limit = c.loop-i.invariant.1 in
-    elim c.if-place-lt-CHANNELS.branch [ then-place-lt-CHANNELS v ↦ (v.channel-is) | else-place-lt-CHANNELS v ↦ (v.channel-is ∙ c.no_channel-channel.ensures ∙ sym (get_or-eq_default c.args.self.inner.table.channels no_channel (omega (arith, wide, v.if-place-lt-CHANNELS.false)))) ]
-
-near : (c : Then-seen-lt-PARTITIONS) → c.plan_of-x.result.place < channel_limit
-near c = seen_place c.args.self.inner.table c.loop-i.invariant.1 c.plan_of-x.result.own c.plan_of-x.result.place (c.seen_slot-seen.ensures c.args.self.inner.table refl (line c.before.before.before)) c.if-seen-lt-PARTITIONS.true
-
 -- what is decided
-decided : (c : Joined-slot-lt-PARTITIONS) → Decides (planned c.before.before.before.before.before.before.before) c.if-slot-lt-PARTITIONS.d
+decided : (c : Joined-slot-lt-PARTITIONS) → Decides (planned c.before.before.before.before.before.before) c.if-slot-lt-PARTITIONS.d
 decided c =
-    let f = planned c.before.before.before.before.before.before.before in
+    let f = planned c.before.before.before.before.before.before in
     let a = arrived c.before.before in
     let bs = beside c.before in
     let T = c.args.self.inner.table in
@@ -108,79 +91,20 @@ decided c =
     let x = c.plan_of-x.result in
     let wide : length T.channels ≡ channel_limit = c.loop-i.invariant.1 in
     elim c.if-slot-lt-PARTITIONS.branch [
-      | then-slot-lt-PARTITIONS w ↦ (let hold : w.if-place-lt-CHANNELS.held ≡ message q x.place = elim w.if-place-lt-CHANNELS.branch [ then-place-lt-CHANNELS v ↦ (v.held-is) | else-place-lt-CHANNELS v ↦ (v.held-is ∙ w.no_message-held.ensures ∙ sym (get_or-eq_default c.if-x-spot.m.messages no_message (omega (arith, a.0.held.0, v.if-place-lt-CHANNELS.false)))) ] in
-          let line : w.if-place-lt-CHANNELS.channel ≡ channel T x.place = elim w.if-place-lt-CHANNELS.branch [ then-place-lt-CHANNELS v ↦ (v.channel-is) | else-place-lt-CHANNELS v ↦ (v.channel-is ∙ w.no_channel-channel.ensures ∙ sym (get_or-eq_default T.channels no_channel (omega (arith, wide, v.if-place-lt-CHANNELS.false)))) ] in
-          let at = w.seen_slot-seen.ensures T refl line in
-          let other : (o : _) → o ≡ cond (ltb x.place channel_limit) (other_queue x.own x.place w.if-place-lt-CHANNELS.channel) 0 → o ≡ cond (ltb x.place channel_limit) (other_queue x.own x.place (channel T x.place)) 0 = λ o e. e ∙ ap (λ (v : Channel). cond (ltb x.place channel_limit) (other_queue x.own x.place v) 0) line in
-          let view : w.if-seen-lt-PARTITIONS.traffic ≡ seen_traffic T q x.own x.place =
-          elim w.if-seen-lt-PARTITIONS.branch [ then-seen-lt-PARTITIONS+then-seen-spot v ↦ (seen_here T wide x.own x.place at v.if-seen-lt-PARTITIONS.true q a.0.held (other _ v.other_object-object.ensures) (v.traffic-is ∙ v.traffic_of-traffic.ensures ∙ ap (traffic_of (get_or q.queues x.place past_queue) v.other_object-object.result) (sym (ap (part q) v.if-seen-spot.true ∙ settled_here c.if-x-spot.spot p c.if-x-spot.m (let z = v.if-seen-spot.true in omega (arith, v.if-seen-lt-PARTITIONS.true, a.0.long)))))) | then-seen-lt-PARTITIONS+else-seen-spot v ↦ (seen_here T wide x.own x.place at v.if-seen-lt-PARTITIONS.true q a.0.held (other _ v.other_object-object.ensures) (v.traffic-is ∙ v.traffic_of-traffic-else-seen-spot.ensures ∙ ap (traffic_of (get_or q.queues x.place past_queue) v.other_object-object.result) (sym (settled_there c.if-x-spot.spot p c.if-x-spot.m w.seen_slot-seen.result v.if-seen-spot.false)))) | else-seen-lt-PARTITIONS v ↦ (seen_none T wide x.own x.place at v.if-seen-lt-PARTITIONS.false q (v.traffic-is ∙ w.no_traffic-traffic.ensures)) ] in
-          let here : part q x.slot ≡ p = ap (part q) (slot_spot f w.if-slot-lt-PARTITIONS.true ∙ a.1) ∙ settled_here c.if-x-spot.spot p c.if-x-spot.m (let z = slot_spot f w.if-slot-lt-PARTITIONS.true ∙ a.1 in omega (arith, w.if-slot-lt-PARTITIONS.true, a.0.long)) in
-          let id = w.number_of-id.result in
-          let named-so : id ≡ number_of x.request.a = w.number_of-id.ensures in
-          let k = w.slot-object_at.result in
-          let e = w.slot-object_at.ensures in
-          let named : w.if-named_at-lt-PROCESSES.named ≡ process (number_of x.request.a) p = elim w.if-named_at-lt-PROCESSES.branch [ then-named_at-lt-PROCESSES v ↦ (read_in id w.slot-named_at.result p _ w.slot-named_at.ensures v.if-named_at-lt-PROCESSES.true v.named-is) | else-named_at-lt-PROCESSES v ↦ (read_out id w.slot-named_at.result p _ w.slot-named_at.ensures v.if-named_at-lt-PROCESSES.false (v.named-is ∙ w.blank-named.ensures)) ] ∙ ap (λ (n : ℕ). process n p) named-so in
-          let calling : w.if-calling_at-lt-PROCESSES.calling ≡ process c.if-stale.run p = elim w.if-calling_at-lt-PROCESSES.branch [ then-calling_at-lt-PROCESSES v ↦ (read_in c.if-stale.run w.slot-calling_at.result p _ w.slot-calling_at.ensures v.if-calling_at-lt-PROCESSES.true v.calling-is) | else-calling_at-lt-PROCESSES v ↦ (read_out c.if-stale.run w.slot-calling_at.result p _ w.slot-calling_at.ensures v.if-calling_at-lt-PROCESSES.false (v.calling-is ∙ w.blank-calling.ensures)) ] in
-          let semaphore_is : w.if-object_at-lt-SEMAPHORES.semaphore ≡ semaphore (number_of x.request.a) p = elim w.if-object_at-lt-SEMAPHORES.branch [ then-object_at-lt-SEMAPHORES v ↦ (v.semaphore-is ∙ named_at semaphore_limit id k e no_semaphore p.semaphores v.if-object_at-lt-SEMAPHORES.true) | else-object_at-lt-SEMAPHORES v ↦ (v.semaphore-is ∙ w.no_semaphore-semaphore.ensures ∙ named_past semaphore_limit id k e no_semaphore p.semaphores v.if-object_at-lt-SEMAPHORES.false) ] ∙ ap (λ (n : ℕ). semaphore n p) named-so in
-          let event_is : w.if-object_at-lt-SEMAPHORES.event ≡ event (number_of x.request.a) p = elim w.if-object_at-lt-SEMAPHORES.branch [ then-object_at-lt-SEMAPHORES v ↦ (v.event-is ∙ named_at event_limit id k e no_event p.events v.if-object_at-lt-SEMAPHORES.true) | else-object_at-lt-SEMAPHORES v ↦ (v.event-is ∙ w.no_event-event.ensures ∙ named_past event_limit id k e no_event p.events v.if-object_at-lt-SEMAPHORES.false) ] ∙ ap (λ (n : ℕ). event n p) named-so in
-          let limit_is : w.if-object_at-lt-SEMAPHORES.limit ≡ (buffer (number_of x.request.a) p).limit = elim w.if-object_at-lt-SEMAPHORES.branch [ then-object_at-lt-SEMAPHORES v ↦ (v.limit-is ∙ number_at (λ (b : Buffer). b.limit) buffer_limit id k e no_buffer p.buffers _ refl v.if-object_at-lt-SEMAPHORES.true) | else-object_at-lt-SEMAPHORES v ↦ (v.limit-is ∙ number_past (λ (b : Buffer). b.limit) buffer_limit id k e no_buffer p.buffers v.if-object_at-lt-SEMAPHORES.false) ] ∙ ap (λ (n : ℕ). (buffer n p).limit) named-so in
-          let len_is : w.if-object_at-lt-SEMAPHORES.len ≡ (buffer (number_of x.request.a) p).queue.len = elim w.if-object_at-lt-SEMAPHORES.branch [ then-object_at-lt-SEMAPHORES v ↦ (v.len-is ∙ number_at (λ (b : Buffer). b.queue.len) buffer_limit id k e no_buffer p.buffers _ refl v.if-object_at-lt-SEMAPHORES.true) | else-object_at-lt-SEMAPHORES v ↦ (v.len-is ∙ number_past (λ (b : Buffer). b.queue.len) buffer_limit id k e no_buffer p.buffers v.if-object_at-lt-SEMAPHORES.false) ] ∙ ap (λ (n : ℕ). (buffer n p).queue.len) named-so in
-          let first_is : w.if-object_at-lt-SEMAPHORES.first_held ≡ first (buffer (number_of x.request.a) p).queue = elim w.if-object_at-lt-SEMAPHORES.branch [ then-object_at-lt-SEMAPHORES v ↦ (v.first_held-is ∙ v.first_of-first_held.ensures ∙ number_at (λ (b : Buffer). first b.queue) buffer_limit id k e no_buffer p.buffers _ refl v.if-object_at-lt-SEMAPHORES.true) | else-object_at-lt-SEMAPHORES v ↦ (v.first_held-is ∙ number_past (λ (b : Buffer). first b.queue) buffer_limit id k e no_buffer p.buffers v.if-object_at-lt-SEMAPHORES.false) ] ∙ ap (λ (n : ℕ). first (buffer n p).queue) named-so in
-          let blackboard-is : w.if-object_at-lt-SEMAPHORES.blackboard ≡ blackboard (number_of x.request.a) p = elim w.if-object_at-lt-SEMAPHORES.branch [ then-object_at-lt-SEMAPHORES v ↦ (v.blackboard-is ∙ named_at blackboard_limit id k e no_blackboard p.blackboards v.if-object_at-lt-SEMAPHORES.true) | else-object_at-lt-SEMAPHORES v ↦ (v.blackboard-is ∙ w.empty_blackboard-blackboard.ensures ∙ named_past blackboard_limit id k e no_blackboard p.blackboards v.if-object_at-lt-SEMAPHORES.false) ] ∙ ap (λ (n : ℕ). blackboard n p) named-so in
-          let served : w.if-served_at-lt-PROCESSES.served ≡ process w.if-object-ne0.waiter p = elim w.if-served_at-lt-PROCESSES.branch [ then-served_at-lt-PROCESSES v ↦ (read_in w.if-object-ne0.waiter w.slot-served_at.result p _ w.slot-served_at.ensures v.if-served_at-lt-PROCESSES.true v.served-is) | else-served_at-lt-PROCESSES v ↦ (read_out w.if-object-ne0.waiter w.slot-served_at.result p _ w.slot-served_at.ensures v.if-served_at-lt-PROCESSES.false (v.served-is ∙ w.blank-served.ensures)) ] in
-          let taken_is : w.if-does_create.taken ≡ taken_for x.call x.request.a p = elim w.if-does_create.branch [ then-does_create v ↦ (v.taken-is ∙ v.is_taken-taken.ensures) | else-does_create v ↦ (v.taken-is ∙ sym (none_created x.call (sym w.does_create.ensures ∙ v.if-does_create.false) x.request.a p)) ] in
-          let waiter-is : w.if-object-ne0.waiter ≡ waiter_for x.call (number_of x.request.a) p = elim w.if-object-ne0.branch [ then-object-ne0 v ↦ (waiter_read bs.mirrors x.call (number_of x.request.a) _ (w.object_for-object.ensures ∙ ap (object_for x.call) named-so) v.if-object-ne0.true (v.waiter-is ∙ v.first_on-waiter.ensures)) | else-object-ne0 v ↦ (waiter_none x.call (number_of x.request.a) _ p (w.object_for-object.ensures ∙ ap (object_for x.call) named-so) v.if-object-ne0.false v.waiter-is) ] in
+      | then-slot-lt-PARTITIONS w ↦ (let here : part q x.slot ≡ p = ap (part q) (slot_spot f w.if-slot-lt-PARTITIONS.true ∙ a.1) ∙ settled_here c.if-x-spot.spot p c.if-x-spot.m (let z = slot_spot f w.if-slot-lt-PARTITIONS.true ∙ a.1 in omega (arith, w.if-slot-lt-PARTITIONS.true, a.0.long)) in
+          let same : c.if-x-spot.m.table ≡ T = table_here f c.if-x-spot.spot p c.if-x-spot.m (ticked c.before.before) a.0.long a.1 in
+          let port : w.port_of-port.result ≡ port_at T x.own x.request.a (message q x.place) (seen_traffic T q x.own x.place) = rw (place_named f) (rw same at w.port_of-port.ensures) in
+          let view = w.view_of-view.ensures in
           record {
-            call = λ _. w.d-is ∙ made_is f (ticked c.before.before) w.if-slot-lt-PARTITIONS.true _ _ _ _ _ (bs.runs ∙ ap running (sym here)) w.release_for.ensures hold view (w.port_at-port.ensures T refl (line ∙ ap (channel T) (place_named f)))
-                (rw here (w.call-d.ensures p (record { mode = refl; level = refl; holder = refl; count = refl; semaphores = refl; events = refl; buffers = refl; blackboards = refl; named = named; calling = calling; semaphore = semaphore_is; event = event_is; limit = limit_is; len = len_is; first = first_is; blackboard = blackboard-is; served = served }) taken_is waiter-is));
+            call = λ _. w.d-is ∙ made_is f (ticked c.before.before) w.if-slot-lt-PARTITIONS.true _ _ _ _ _ (bs.runs ∙ ap running (sym here)) w.release_for.ensures refl refl port
+                (rw here (rw view.context at (w.call-d.ensures p view.shows view.taken (view.waiter _ bs.mirrors))));
             none = λ far. absurd (omega (arith, w.if-slot-lt-PARTITIONS.true, far));
           })
       | else-slot-lt-PARTITIONS w ↦ (record { call = λ near. absurd (omega (arith, w.if-slot-lt-PARTITIONS.false, near)); none = λ _. w.d-is })
     ]
 
-pub loop-turn-init : goal.loop-turn-init
-loop-turn-init c = (omega arith, refl, mirrors_lengths (beside (goal.at.loop-turn-init c).Joined-stale).mirrors, λ _. (beside (goal.at.loop-turn-init c).Joined-stale).mirrors)
-
-pub loop-turn-smaller : goal.loop-turn-smaller
-loop-turn-smaller c = two_less c.loop-turn.turn c.loop-turn-test.true
-
--- a change made where it lies
-made : (c : Joined-change) → (c.match-change.here ≡ applied c.loop-turn.change c.loop-turn.here) × ((length c.match-change.currents ≡ process_limit) × (length c.match-change.objects ≡ process_limit)) × (c.match-change.stale ≡ false → Mirrors c.match-change.here c.match-change.currents c.match-change.objects)
-unfolding arrived_last
-made c =
-    let p = c.loop-turn.here in
-    let sz = c.loop-turn.invariant.2 in
-    let mir = c.loop-turn.invariant.3 in
-    elim c.match-change.branch [
-      | in-Nothing w ↦ ((rw (w.here-is, w.in-Nothing.is), rw (w.currents-is, w.objects-is) sz, λ z. rw (w.currents-is, w.objects-is) (mirrors_same (mir (sym w.stale-is ∙ z)) (ap processes_of w.here-is))))
-      | in-Stored+then-k-lt-PROCESSES w ↦ ((rw (w.here-is, w.in-Stored.is) (stored_at _ _ p _ w.slot-k.ensures _ _ w.if-k-lt-PROCESSES.true w.arrival_with-here.ensures w.waiting_with-here.ensures), (rw w.currents-is (set_size c.loop-turn.currents w.slot-k.result _ sz.0), rw w.objects-is (set_size c.loop-turn.objects w.slot-k.result _ sz.1)), λ z. rw (w.currents-is, w.objects-is) (mirrors_set (mir (sym w.stale-is ∙ z)) w.slot-k.result _ (ap processes_of w.here-is) refl w.object_of.ensures)))
-      | in-Stored+else-k-lt-PROCESSES w ↦ ((rw (w.here-is, w.in-Stored.is) (sym (stored_out _ _ p (slot_out process_limit w.in-Stored.id _ w.slot-k.ensures w.if-k-lt-PROCESSES.false))), rw (w.currents-is, w.objects-is) sz, λ z. rw (w.currents-is, w.objects-is) (mirrors_same (mir (sym w.stale-is ∙ z)) (ap processes_of w.here-is))))
-      | in-Created w ↦ ((rw (w.here-is, w.in-Created.is) w.create-here.ensures, rw (w.currents-is, w.objects-is) sz, λ z. absurd (true≢false (sym w.stale-is ∙ z))))
-      | in-Last w ↦ ((rw (w.here-is, w.in-Last.is, w.last_in-here.ensures), rw (w.currents-is, w.objects-is) sz, λ z. rw (w.currents-is, w.objects-is) (mirrors_same (mir (sym w.stale-is ∙ z)) (ap processes_of w.here-is))))
-      | in-StoredSemaphore+then-k-lt-SEMAPHORES w ↦ ((rw (w.here-is, w.in-StoredSemaphore.is) (semaphore_at _ _ p _ _ w.slot-k-in-StoredSemaphore.ensures w.if-k-lt-SEMAPHORES.true w.counted.ensures), rw (w.currents-is, w.objects-is) sz, λ z. rw (w.currents-is, w.objects-is) (mirrors_same (mir (sym w.stale-is ∙ z)) (ap processes_of w.here-is))))
-      | in-StoredSemaphore+else-k-lt-SEMAPHORES w ↦ ((rw (w.here-is, w.in-StoredSemaphore.is) (sym (semaphore_out _ _ p (slot_out semaphore_limit w.in-StoredSemaphore.id _ w.slot-k-in-StoredSemaphore.ensures w.if-k-lt-SEMAPHORES.false))), rw (w.currents-is, w.objects-is) sz, λ z. rw (w.currents-is, w.objects-is) (mirrors_same (mir (sym w.stale-is ∙ z)) (ap processes_of w.here-is))))
-      | in-StoredEvent+then-k-lt-EVENTS w ↦ ((rw (w.here-is, w.in-StoredEvent.is) (event_at_holds _ _ p _ _ w.slot-k-in-StoredEvent.ensures w.if-k-lt-EVENTS.true w.counted-then-k-lt-EVENTS.ensures), rw (w.currents-is, w.objects-is) sz, λ z. rw (w.currents-is, w.objects-is) (mirrors_same (mir (sym w.stale-is ∙ z)) (ap processes_of w.here-is))))
-      | in-StoredEvent+else-k-lt-EVENTS w ↦ ((rw (w.here-is, w.in-StoredEvent.is) (sym (event_out _ _ p (slot_out event_limit w.in-StoredEvent.id _ w.slot-k-in-StoredEvent.ensures w.if-k-lt-EVENTS.false))), rw (w.currents-is, w.objects-is) sz, λ z. rw (w.currents-is, w.objects-is) (mirrors_same (mir (sym w.stale-is ∙ z)) (ap processes_of w.here-is))))
-      | in-CreatedBuffer w ↦ ((rw (w.here-is, w.in-CreatedBuffer.is) w.create_buffer-here.ensures, rw (w.currents-is, w.objects-is) sz, λ z. rw (w.currents-is, w.objects-is) (mirrors_same (mir (sym w.stale-is ∙ z)) (ap processes_of (w.here-is ∙ w.create_buffer-here.ensures) ∙ buffer_keeps _ _ p))))
-      | in-Moved+then-l-lt-PROCESSES w ↦ (let a = w.in-Moved.y in
-          let mv : w.if-k-lt-BUFFERS.here ≡ stored_buffer w.in-Moved.id (moved_in a (buffer w.in-Moved.id p)) p = elim w.if-k-lt-BUFFERS.branch [ then-k-lt-BUFFERS v ↦ (rw (v.here-is, v.change-v.ensures) (moved_at_holds _ _ p a _ _ w.slot-k-in-Moved.ensures v.if-k-lt-BUFFERS.true v.counted-then-k-lt-BUFFERS.ensures)) | else-k-lt-BUFFERS v ↦ (v.here-is ∙ sym (buffer_out _ _ p (slot_out buffer_limit w.in-Moved.id _ w.slot-k-in-Moved.ensures v.if-k-lt-BUFFERS.false))) ] in
-          (rw w.in-Moved.is (w.here-is ∙ stored_at _ _ w.if-k-lt-BUFFERS.here _ w.slot-l.ensures _ _ w.if-l-lt-PROCESSES.true w.arrival_with-here-then-l-lt-PROCESSES.ensures w.waiting_with-here-then-l-lt-PROCESSES.ensures ∙ ended_at_holds a _ w.if-k-lt-BUFFERS.here w.ended_id-other.ensures _ w.slot-l.ensures _ w.if-l-lt-PROCESSES.true w.ended_as-ended.ensures ∙ ap (ended_by a) mv), (rw w.currents-is (set_size c.loop-turn.currents w.slot-l.result _ sz.0), rw w.objects-is (set_size c.loop-turn.objects w.slot-l.result _ sz.1)), λ z. let m4 : Mirrors w.if-k-lt-BUFFERS.here c.loop-turn.currents c.loop-turn.objects = mirrors_same (mir (sym w.stale-is ∙ z)) (ap processes_of mv ∙ buffer_keeps _ _ p) in rw (w.currents-is, w.objects-is) (mirrors_set m4 w.slot-l.result _ (ap processes_of w.here-is) refl w.object_of-then-l-lt-PROCESSES.ensures)))
-      | in-Moved+else-l-lt-PROCESSES w ↦ (let a = w.in-Moved.y in
-          let mv : w.if-k-lt-BUFFERS.here ≡ stored_buffer w.in-Moved.id (moved_in a (buffer w.in-Moved.id p)) p = elim w.if-k-lt-BUFFERS.branch [ then-k-lt-BUFFERS v ↦ (rw (v.here-is, v.change-v.ensures) (moved_at_holds _ _ p a _ _ w.slot-k-in-Moved.ensures v.if-k-lt-BUFFERS.true v.counted-then-k-lt-BUFFERS.ensures)) | else-k-lt-BUFFERS v ↦ (v.here-is ∙ sym (buffer_out _ _ p (slot_out buffer_limit w.in-Moved.id _ w.slot-k-in-Moved.ensures v.if-k-lt-BUFFERS.false))) ] in
-          (rw w.in-Moved.is (w.here-is ∙ none_ended a _ w.if-k-lt-BUFFERS.here w.ended_id-other.ensures _ w.slot-l.ensures w.if-l-lt-PROCESSES.false ∙ ap (ended_by a) mv), rw (w.currents-is, w.objects-is) sz, λ z. rw (w.currents-is, w.objects-is) (mirrors_same (mir (sym w.stale-is ∙ z)) (ap processes_of (w.here-is ∙ mv) ∙ buffer_keeps _ _ p))))
-      | in-StoredBlackboard+then-k-lt-BLACKBOARDS w ↦ ((rw (w.here-is, w.in-StoredBlackboard.is) (blackboard_at _ _ p _ _ w.slot-k-in-StoredBlackboard.ensures w.if-k-lt-BLACKBOARDS.true w.counted-then-k-lt-BLACKBOARDS.ensures), rw (w.currents-is, w.objects-is) sz, λ z. rw (w.currents-is, w.objects-is) (mirrors_same (mir (sym w.stale-is ∙ z)) (ap processes_of w.here-is))))
-      | in-StoredBlackboard+else-k-lt-BLACKBOARDS w ↦ ((rw (w.here-is, w.in-StoredBlackboard.is) (sym (blackboard_out _ _ p (slot_out blackboard_limit w.in-StoredBlackboard.id _ w.slot-k-in-StoredBlackboard.ensures w.if-k-lt-BLACKBOARDS.false))), rw (w.currents-is, w.objects-is) sz, λ z. rw (w.currents-is, w.objects-is) (mirrors_same (mir (sym w.stale-is ∙ z)) (ap processes_of w.here-is))))
-      | in-Ended w ↦ ((rw (w.here-is, w.in-Ended.is) w.end_queue-here.ensures, rw (w.currents-is, w.objects-is) sz, λ z. absurd (true≢false (sym w.stale-is ∙ z))))
-      | in-Handed w ↦ ((rw (w.here-is, w.in-Handed.is) w.end_queue-here-in-Handed.ensures, rw (w.currents-is, w.objects-is) sz, λ z. absurd (true≢false (sym w.stale-is ∙ z))))
-      | in-LevelSet w ↦ ((rw (w.here-is, w.in-LevelSet.is), rw (w.currents-is, w.objects-is) sz, λ z. rw (w.currents-is, w.objects-is) (mirrors_same (mir (sym w.stale-is ∙ z)) (ap processes_of w.here-is))))
-      | in-Entered w ↦ ((rw (w.here-is, w.in-Entered.is) w.enter_normal-here.ensures, rw (w.currents-is, w.objects-is) sz, λ z. absurd (true≢false (sym w.stale-is ∙ z))))
-    ]
-
-pub loop-turn-preserved : goal.loop-turn-preserved
-loop-turn-preserved c = (two_more c.loop-turn.turn c.loop-turn-test.true, left_more c.loop-turn.turn c.loop-turn.change c.second_change-second.result c.loop-turn.here c.match-change.here _ c.loop-turn-test.true (made (goal.at.loop-turn-preserved c).Joined-change).0 c.loop-turn.invariant.1, (made (goal.at.loop-turn-preserved c).Joined-change).1, (made (goal.at.loop-turn-preserved c).Joined-change).2)
-
 -- all that is known before something is done
-ready : (c : After-is_restart) → Ready (planned c.before.before.before.before.before.before.before.before.before.before.before) c.if-x-spot.spot c.if-x-spot.here c.if-x-spot.m c.if-stale.currents c.if-stale.objects c.if-stale.run c.loop-j.soon c.if-slot-lt-PARTITIONS.d c.reply_of-reply.result
+ready : (c : After-is_restart) → Ready (planned c.before.before.before.before.before.before.before.before.before.before) c.if-x-spot.spot c.if-x-spot.here c.if-x-spot.m c.if-stale.currents c.if-stale.objects c.if-stale.run c.loop-j.soon c.if-slot-lt-PARTITIONS.d c.reply_of-reply.result
 ready c =
     let a = arrived c.before.before.before.before.before.before in
     record { ticked = ticked c.before.before.before.before.before.before; long = a.0.long; here = a.1; beside = beside c.before.before.before.before.before; early = a.0.early; decides = decided c.before.before.before.before; says = c.reply_of-reply.ensures }
@@ -189,19 +113,19 @@ ready c =
 did_change : (c : Joined-is_restart) → changes c.if-slot-lt-PARTITIONS.d ≡ true → Done (settled c.loop-i.spot c.loop-i.here c.loop-i.m) c.plan_of-x.result c.reply_of-reply.result c.if-x-spot.spot c.if-is_restart.m c.if-is_restart.here c.if-is_restart.currents c.if-is_restart.objects c.if-stale.run c.if-is_restart.soon c.if-is_restart.stale c.if-is_restart.changed
 did_change c = λ h.
     let g = ready c.before in
-    elim c.if-is_restart.branch [ then-is_restart w ↦ (done_as_holds w.m-is w.here-is w.currents-is w.objects-is w.soon-is w.stale-is w.changed-is (done_restarted g (sym c.is_restart.ensures ∙ w.if-is_restart.true) w.mode_of.ensures w.restart-m.result w.restart-m.ensures _ refl)) | else-is_restart+then-does_change+else-loop-turn-test w ↦ (done_as_holds w.m-is w.here-is w.currents-is w.objects-is w.soon-is w.stale-is w.changed-is (done_changed g (sym w.does_change.ensures ∙ (search (rules, w.if-does_change.true))) (sym c.is_restart.ensures ∙ w.if-is_restart.false) w.loop-turn.here (rw (← w.first_change-change.ensures, ← w.second_change-second.ensures) (left_done w.loop-turn.turn w.loop-turn.change w.second_change-second.result w.loop-turn.here _ w.loop-turn-test.false w.loop-turn.invariant.1)) w.loop-turn.invariant.2 w.loop-turn.invariant.3)) | else-is_restart+else-does_change+then-put-lt-CHANNELS w ↦ (absurd (true≢false (sym h ∙ sym w.does_change.ensures ∙ (search (rules, w.if-does_change.false))))) | else-is_restart+else-does_change+else-put-lt-CHANNELS+then-pass-lt-CHANNELS+then-end-lt-PARTITIONS+then-end-spot w ↦ (absurd (true≢false (sym h ∙ sym w.does_change.ensures ∙ (search (rules, w.if-does_change.false))))) | else-is_restart+else-does_change+else-put-lt-CHANNELS+then-pass-lt-CHANNELS+then-end-lt-PARTITIONS+else-end-spot w ↦ (absurd (true≢false (sym h ∙ sym w.does_change.ensures ∙ (search (rules, w.if-does_change.false))))) | else-is_restart+else-does_change+else-put-lt-CHANNELS+then-pass-lt-CHANNELS+else-end-lt-PARTITIONS w ↦ (absurd (true≢false (sym h ∙ sym w.does_change.ensures ∙ (search (rules, w.if-does_change.false))))) | else-is_restart+else-does_change+else-put-lt-CHANNELS+else-pass-lt-CHANNELS w ↦ (absurd (true≢false (sym h ∙ sym w.does_change.ensures ∙ (search (rules, w.if-does_change.false))))) ]
+    elim c.if-is_restart.branch [ then-is_restart w ↦ (done_as_holds w.m-is w.here-is w.currents-is w.objects-is w.soon-is w.stale-is w.changed-is (done_restarted g (sym c.is_restart.ensures ∙ w.if-is_restart.true) w.mode_of.ensures w.restart-m.result w.restart-m.ensures _ refl)) | else-is_restart+then-does_change w ↦ (done_as_holds w.m-is w.here-is w.currents-is w.objects-is w.soon-is w.stale-is w.changed-is (done_changed g (sym w.does_change.ensures ∙ (search (rules, w.if-does_change.true))) (sym c.is_restart.ensures ∙ w.if-is_restart.false) w.make_changes-stale.new.here (rw (← w.first_change-first.ensures, ← w.second_change-second.ensures) w.make_changes-stale.ensures.made) (w.make_changes-stale.array_long, w.make_changes-stale.array_long2) (λ z. w.make_changes-stale.ensures.beside z (beside c.before.before.before.before.before.before).mirrors))) | else-is_restart+else-does_change+then-put-lt-CHANNELS w ↦ (absurd (true≢false (sym h ∙ sym w.does_change.ensures ∙ (search (rules, w.if-does_change.false))))) | else-is_restart+else-does_change+else-put-lt-CHANNELS+then-pass-lt-CHANNELS+then-end-lt-PARTITIONS+then-end-spot w ↦ (absurd (true≢false (sym h ∙ sym w.does_change.ensures ∙ (search (rules, w.if-does_change.false))))) | else-is_restart+else-does_change+else-put-lt-CHANNELS+then-pass-lt-CHANNELS+then-end-lt-PARTITIONS+else-end-spot w ↦ (absurd (true≢false (sym h ∙ sym w.does_change.ensures ∙ (search (rules, w.if-does_change.false))))) | else-is_restart+else-does_change+else-put-lt-CHANNELS+then-pass-lt-CHANNELS+else-end-lt-PARTITIONS w ↦ (absurd (true≢false (sym h ∙ sym w.does_change.ensures ∙ (search (rules, w.if-does_change.false))))) | else-is_restart+else-does_change+else-put-lt-CHANNELS+else-pass-lt-CHANNELS w ↦ (absurd (true≢false (sym h ∙ sym w.does_change.ensures ∙ (search (rules, w.if-does_change.false))))) ]
 
 -- a transfer
 did_pass : (c : Joined-is_restart) → changes c.if-slot-lt-PARTITIONS.d ≡ false → transfer_at c.if-slot-lt-PARTITIONS.d < channel_limit → Done (settled c.loop-i.spot c.loop-i.here c.loop-i.m) c.plan_of-x.result c.reply_of-reply.result c.if-x-spot.spot c.if-is_restart.m c.if-is_restart.here c.if-is_restart.currents c.if-is_restart.objects c.if-stale.run c.if-is_restart.soon c.if-is_restart.stale c.if-is_restart.changed
 did_pass c = λ h n.
     let g = ready c.before in
-    elim c.if-is_restart.branch [ then-is_restart w ↦ (absurd (true≢false (sym (restart_changes c.if-slot-lt-PARTITIONS.d (sym c.is_restart.ensures ∙ w.if-is_restart.true)) ∙ h))) | else-is_restart+then-does_change+else-loop-turn-test w ↦ (absurd (true≢false (sym (sym w.does_change.ensures ∙ (search (rules, w.if-does_change.true))) ∙ h))) | else-is_restart+else-does_change+then-put-lt-CHANNELS w ↦ (absurd (one_of c.if-slot-lt-PARTITIONS.d c.message_at-put.ensures w.if-put-lt-CHANNELS.true n)) | else-is_restart+else-does_change+else-put-lt-CHANNELS+then-pass-lt-CHANNELS+then-end-lt-PARTITIONS+then-end-spot w ↦ (done_as_holds refl w.here-is w.currents-is w.objects-is w.soon-is w.stale-is w.changed-is (done_here g _ c.transfer_at-pass.ensures w.if-pass-lt-CHANNELS.true w.transfer_of-transfer.ensures _ w.change.ensures _ w.ended_slot-end.ensures w.if-end-lt-PARTITIONS.true w.if-end-spot.true w.after_transfer-here.result w.after_transfer-here.ensures _ w.m-is)) | else-is_restart+else-does_change+else-put-lt-CHANNELS+then-pass-lt-CHANNELS+then-end-lt-PARTITIONS+else-end-spot w ↦ (done_as_holds refl w.here-is w.currents-is w.objects-is w.soon-is w.stale-is w.changed-is (done_there g _ c.transfer_at-pass.ensures w.if-pass-lt-CHANNELS.true w.transfer_of-transfer.ensures _ w.change.ensures _ w.ended_slot-end.ensures w.if-end-lt-PARTITIONS.true w.if-end-spot.false w.after_transfer-q.result w.after_transfer-q.ensures _ w.m-is)) | else-is_restart+else-does_change+else-put-lt-CHANNELS+then-pass-lt-CHANNELS+else-end-lt-PARTITIONS w ↦ (done_as_holds refl w.here-is w.currents-is w.objects-is w.soon-is w.stale-is w.changed-is (done_moved g _ c.transfer_at-pass.ensures w.if-pass-lt-CHANNELS.true w.transfer_of-transfer.ensures _ w.change.ensures _ w.ended_slot-end.ensures w.if-end-lt-PARTITIONS.false _ w.m-is)) | else-is_restart+else-does_change+else-put-lt-CHANNELS+else-pass-lt-CHANNELS w ↦ (absurd (not_far c.transfer_at-pass.ensures w.if-pass-lt-CHANNELS.false n)) ]
+    elim c.if-is_restart.branch [ then-is_restart w ↦ (absurd (true≢false (sym (restart_changes c.if-slot-lt-PARTITIONS.d (sym c.is_restart.ensures ∙ w.if-is_restart.true)) ∙ h))) | else-is_restart+then-does_change w ↦ (absurd (true≢false (sym (sym w.does_change.ensures ∙ (search (rules, w.if-does_change.true))) ∙ h))) | else-is_restart+else-does_change+then-put-lt-CHANNELS w ↦ (absurd (one_of c.if-slot-lt-PARTITIONS.d c.message_at-put.ensures w.if-put-lt-CHANNELS.true n)) | else-is_restart+else-does_change+else-put-lt-CHANNELS+then-pass-lt-CHANNELS+then-end-lt-PARTITIONS+then-end-spot w ↦ (done_as_holds refl w.here-is w.currents-is w.objects-is w.soon-is w.stale-is w.changed-is (done_here g _ c.transfer_at-pass.ensures w.if-pass-lt-CHANNELS.true w.transfer_of-transfer.ensures _ w.change.ensures _ w.ended_slot-end.ensures w.if-end-lt-PARTITIONS.true w.if-end-spot.true w.after_transfer-here.result w.after_transfer-here.ensures _ w.m-is)) | else-is_restart+else-does_change+else-put-lt-CHANNELS+then-pass-lt-CHANNELS+then-end-lt-PARTITIONS+else-end-spot w ↦ (done_as_holds refl w.here-is w.currents-is w.objects-is w.soon-is w.stale-is w.changed-is (done_there g _ c.transfer_at-pass.ensures w.if-pass-lt-CHANNELS.true w.transfer_of-transfer.ensures _ w.change.ensures _ w.ended_slot-end.ensures w.if-end-lt-PARTITIONS.true w.if-end-spot.false w.after_transfer-q.result w.after_transfer-q.ensures _ w.m-is)) | else-is_restart+else-does_change+else-put-lt-CHANNELS+then-pass-lt-CHANNELS+else-end-lt-PARTITIONS w ↦ (done_as_holds refl w.here-is w.currents-is w.objects-is w.soon-is w.stale-is w.changed-is (done_moved g _ c.transfer_at-pass.ensures w.if-pass-lt-CHANNELS.true w.transfer_of-transfer.ensures _ w.change.ensures _ w.ended_slot-end.ensures w.if-end-lt-PARTITIONS.false _ w.m-is)) | else-is_restart+else-does_change+else-put-lt-CHANNELS+else-pass-lt-CHANNELS w ↦ (absurd (not_far c.transfer_at-pass.ensures w.if-pass-lt-CHANNELS.false n)) ]
 
 -- a message on a channel, or nothing
 did_else : (c : Joined-is_restart) → changes c.if-slot-lt-PARTITIONS.d ≡ false → channel_limit ≤ transfer_at c.if-slot-lt-PARTITIONS.d → Done (settled c.loop-i.spot c.loop-i.here c.loop-i.m) c.plan_of-x.result c.reply_of-reply.result c.if-x-spot.spot c.if-is_restart.m c.if-is_restart.here c.if-is_restart.currents c.if-is_restart.objects c.if-stale.run c.if-is_restart.soon c.if-is_restart.stale c.if-is_restart.changed
 did_else c = λ h n.
     let g = ready c.before in
-    elim c.if-is_restart.branch [ then-is_restart w ↦ (absurd (true≢false (sym (restart_changes c.if-slot-lt-PARTITIONS.d (sym c.is_restart.ensures ∙ w.if-is_restart.true)) ∙ h))) | else-is_restart+then-does_change+else-loop-turn-test w ↦ (absurd (true≢false (sym (sym w.does_change.ensures ∙ (search (rules, w.if-does_change.true))) ∙ h))) | else-is_restart+else-does_change+then-put-lt-CHANNELS w ↦ (done_as_holds refl w.here-is w.currents-is w.objects-is w.soon-is w.stale-is w.changed-is (done_written g _ c.message_at-put.ensures w.if-put-lt-CHANNELS.true w.message_of-message.ensures _ w.m-is)) | else-is_restart+else-does_change+else-put-lt-CHANNELS+then-pass-lt-CHANNELS+then-end-lt-PARTITIONS+then-end-spot w ↦ (absurd (not_near c.transfer_at-pass.ensures w.if-pass-lt-CHANNELS.true n)) | else-is_restart+else-does_change+else-put-lt-CHANNELS+then-pass-lt-CHANNELS+then-end-lt-PARTITIONS+else-end-spot w ↦ (absurd (not_near c.transfer_at-pass.ensures w.if-pass-lt-CHANNELS.true n)) | else-is_restart+else-does_change+else-put-lt-CHANNELS+then-pass-lt-CHANNELS+else-end-lt-PARTITIONS w ↦ (absurd (not_near c.transfer_at-pass.ensures w.if-pass-lt-CHANNELS.true n)) | else-is_restart+else-does_change+else-put-lt-CHANNELS+else-pass-lt-CHANNELS w ↦ (done_as_holds w.m-is w.here-is w.currents-is w.objects-is w.soon-is w.stale-is w.changed-is (done_same g (sym w.does_change.ensures ∙ (search (rules, w.if-does_change.false))) _ _ c.message_at-put.ensures w.if-put-lt-CHANNELS.false c.transfer_at-pass.ensures w.if-pass-lt-CHANNELS.false)) ]
+    elim c.if-is_restart.branch [ then-is_restart w ↦ (absurd (true≢false (sym (restart_changes c.if-slot-lt-PARTITIONS.d (sym c.is_restart.ensures ∙ w.if-is_restart.true)) ∙ h))) | else-is_restart+then-does_change w ↦ (absurd (true≢false (sym (sym w.does_change.ensures ∙ (search (rules, w.if-does_change.true))) ∙ h))) | else-is_restart+else-does_change+then-put-lt-CHANNELS w ↦ (done_as_holds refl w.here-is w.currents-is w.objects-is w.soon-is w.stale-is w.changed-is (done_written g _ c.message_at-put.ensures w.if-put-lt-CHANNELS.true w.message_of-message.ensures _ w.m-is)) | else-is_restart+else-does_change+else-put-lt-CHANNELS+then-pass-lt-CHANNELS+then-end-lt-PARTITIONS+then-end-spot w ↦ (absurd (not_near c.transfer_at-pass.ensures w.if-pass-lt-CHANNELS.true n)) | else-is_restart+else-does_change+else-put-lt-CHANNELS+then-pass-lt-CHANNELS+then-end-lt-PARTITIONS+else-end-spot w ↦ (absurd (not_near c.transfer_at-pass.ensures w.if-pass-lt-CHANNELS.true n)) | else-is_restart+else-does_change+else-put-lt-CHANNELS+then-pass-lt-CHANNELS+else-end-lt-PARTITIONS w ↦ (absurd (not_near c.transfer_at-pass.ensures w.if-pass-lt-CHANNELS.true n)) | else-is_restart+else-does_change+else-put-lt-CHANNELS+else-pass-lt-CHANNELS w ↦ (done_as_holds w.m-is w.here-is w.currents-is w.objects-is w.soon-is w.stale-is w.changed-is (done_same g (sym w.does_change.ensures ∙ (search (rules, w.if-does_change.false))) _ _ c.message_at-put.ensures w.if-put-lt-CHANNELS.false c.transfer_at-pass.ensures w.if-pass-lt-CHANNELS.false)) ]
 
 -- each way through the event
 did : (c : Joined-is_restart) → Done (settled c.loop-i.spot c.loop-i.here c.loop-i.m) c.plan_of-x.result c.reply_of-reply.result c.if-x-spot.spot c.if-is_restart.m c.if-is_restart.here c.if-is_restart.currents c.if-is_restart.objects c.if-stale.run c.if-is_restart.soon c.if-is_restart.stale c.if-is_restart.changed
@@ -217,7 +141,7 @@ left_beside c =
 -- the running process shown
 shown : (c : Joined-x-lt-PARTITIONS) → c.if-x-lt-PARTITIONS.running ≡ cond (sees c.plan_of-x.result.request c.plan_of-x.result.current) (running_in c.plan_of-x.result.current (settled c.if-x-spot.spot c.if-is_restart.here c.if-is_restart.m)) 0
 shown c =
-    let f = planned c.before.before.before.before.before.before.before.before.before.before.before.before.before.before.before.before in
+    let f = planned c.before.before.before.before.before.before.before.before.before.before.before.before.before.before.before in
     let b = did c.before.before.before.before in
     let size : length c.if-is_restart.m.partitions ≡ partition_limit = sym (length-set c.if-is_restart.m.partitions c.if-x-spot.spot c.if-is_restart.here) ∙ b.after.long in
     elim c.if-x-lt-PARTITIONS.branch [ then-x-lt-PARTITIONS w ↦ (let e = shown_spot f w.if-x-lt-PARTITIONS.true in runs_shown f b.after w.if-x-lt-PARTITIONS.true (w.running-is ∙ running_at c.if-is_restart.m c.if-x-spot.spot c.if-is_restart.here c.plan_of-x.result.spot (arrived c.before.before.before.before.before.before.before.before.before.before.before).1 (rw e at w.if-x-lt-PARTITIONS.true) size (left_beside c.before.before).runs)) | else-x-lt-PARTITIONS w ↦ (w.running-is ∙ none_shown f b.after w.if-x-lt-PARTITIONS.false) ]
@@ -246,17 +170,23 @@ loop-i-init c =
 pub overflow_mul-at : goal.overflow_mul-at
 overflow_mul-at c = let h = fits c.loop-i.invariant.0 c.loop-i-test.true in omega (arith, h)
 
+pub port_of-port-requires : goal.port_of-port-requires
+port_of-port-requires c =
+    let b = (goal.at.port_of-port-requires c).Joined-stale in
+    let a = arrived b.before in
+    let same = table_here (planned b.before.before.before.before.before) b.if-x-spot.spot b.if-x-spot.here b.if-x-spot.m (ticked b.before) a.0.long a.1 in
+    record {
+      channels = ap (λ (t : Table). length t.channels) same ∙ b.loop-i.invariant.1;
+      messages = a.0.held.0;
+      queues = a.0.held.1;
+      partitions = a.0.long;
+    }
+
 pub event_at-requires : goal.event_at-requires
 event_at-requires c = fits c.loop-i.invariant.0 c.loop-i-test.true
 
 pub put_answer-requires : goal.put_answer-requires
 put_answer-requires c = fits c.loop-i.invariant.0 c.loop-i-test.true
-
-pub overflow_add-i : goal.overflow_add-i
-overflow_add-i c =
-    let h = fits c.loop-i.invariant.0 c.loop-i-test.true in
-    let g : length c.args.list.now < 18446744073709551616 = omega (arith, c.well_formed) in
-    record { fits = omega (arith, h, g, c.loop-i.invariant.0.size) }
 
 pub loop-i-smaller : goal.loop-i-smaller
 loop-i-smaller c = omega (arith, c.loop-i-test.true)
@@ -280,46 +210,16 @@ pub returns-else-spot-lt-PARTITIONS-3 : goal.returns-else-spot-lt-PARTITIONS-3
 returns-else-spot-lt-PARTITIONS-3 c = let e = ends c.loop-i.invariant.0 c.loop-i-test.false in (sym (settled_past c.loop-i.spot c.loop-i.here c.loop-i.m (omega (arith, c.if-spot-lt-PARTITIONS-3.false, c.loop-i.invariant.5))) ∙ e.0, e.1, e.2)
 
 restart_in : (c : Then-is_restart) → c.plan_of-x.result.slot < partition_limit
-restart_in c = let g = ready c.before in restarts_in (planned c.before.before.before.before.before.before.before.before.before.before.before.before) c.if-x-spot.spot c.if-x-spot.here c.if-x-spot.m g.ticked g.long g.here c.if-slot-lt-PARTITIONS.d g.decides (sym c.is_restart.ensures ∙ c.if-is_restart.true)
+restart_in c = let g = ready c.before in restarts_in (planned c.before.before.before.before.before.before.before.before.before.before.before) c.if-x-spot.spot c.if-x-spot.here c.if-x-spot.m g.ticked g.long g.here c.if-slot-lt-PARTITIONS.d g.decides (sym c.is_restart.ensures ∙ c.if-is_restart.true)
 
 change_in : (c : Then-does_change) → c.plan_of-x.result.slot < partition_limit
-change_in c = let g = ready c.before.before.before in changes_in (planned c.before.before.before.before.before.before.before.before.before.before.before.before.before.before) c.if-x-spot.spot c.if-x-spot.here c.if-x-spot.m g.ticked g.long g.here c.if-slot-lt-PARTITIONS.d g.decides (sym c.does_change.ensures ∙ (search (rules, c.if-does_change.true)))
-
-pub offset_bounds-m-place-then-seen-lt-PARTITIONS : goal.offset_bounds-m-place-then-seen-lt-PARTITIONS
-offset_bounds-m-place-then-seen-lt-PARTITIONS c = search (rules, near (goal.at.offset_bounds-m-place-then-seen-lt-PARTITIONS c).Then-seen-lt-PARTITIONS)
-
-pub bounds-m-place-then-seen-lt-PARTITIONS : goal.bounds-m-place-then-seen-lt-PARTITIONS
-bounds-m-place-then-seen-lt-PARTITIONS c = search (rules, near (goal.at.bounds-m-place-then-seen-lt-PARTITIONS c).Then-seen-lt-PARTITIONS)
+change_in c = let g = ready c.before.before.before in changes_in (planned c.before.before.before.before.before.before.before.before.before.before.before.before.before) c.if-x-spot.spot c.if-x-spot.here c.if-x-spot.m g.ticked g.long g.here c.if-slot-lt-PARTITIONS.d g.decides (sym c.does_change.ensures ∙ (search (rules, c.if-does_change.true)))
 
 pub offset_bounds-m-slot : goal.offset_bounds-m-slot
 offset_bounds-m-slot c = search (rules, restart_in (goal.at.offset_bounds-m-slot c).Then-is_restart)
 
 pub bounds-m-slot : goal.bounds-m-slot
 bounds-m-slot c = search (rules, restart_in (goal.at.bounds-m-slot c).Then-is_restart)
-
-pub offset_bounds-here-k : goal.offset_bounds-here-k
-offset_bounds-here-k c = omega (arith, c.if-k-lt-PROCESSES.true)
-
-pub offset_bounds-here-k-then-k-lt-SEMAPHORES : goal.offset_bounds-here-k-then-k-lt-SEMAPHORES
-offset_bounds-here-k-then-k-lt-SEMAPHORES c = omega (arith, c.if-k-lt-SEMAPHORES.true)
-
-pub offset_bounds-here-k-then-k-lt-EVENTS : goal.offset_bounds-here-k-then-k-lt-EVENTS
-offset_bounds-here-k-then-k-lt-EVENTS c = omega (arith, c.if-k-lt-EVENTS.true)
-
-pub offset_bounds-here-k-then-k-lt-BUFFERS : goal.offset_bounds-here-k-then-k-lt-BUFFERS
-offset_bounds-here-k-then-k-lt-BUFFERS c = omega (arith, c.if-k-lt-BUFFERS.true)
-
-pub offset_bounds-here-k-then-k-lt-BUFFERS-2 : goal.offset_bounds-here-k-then-k-lt-BUFFERS-2
-offset_bounds-here-k-then-k-lt-BUFFERS-2 c = search (rules, c.if-k-lt-BUFFERS.true)
-
-pub offset_bounds-here-l : goal.offset_bounds-here-l
-offset_bounds-here-l c = omega (arith, c.if-l-lt-PROCESSES.true)
-
-pub offset_bounds-here-k-then-k-lt-BLACKBOARDS : goal.offset_bounds-here-k-then-k-lt-BLACKBOARDS
-offset_bounds-here-k-then-k-lt-BLACKBOARDS c = omega (arith, c.if-k-lt-BLACKBOARDS.true)
-
-pub overflow_add-turn : goal.overflow_add-turn
-overflow_add-turn c = record { fits = two_fits c.loop-turn.turn c.loop-turn-test.true }
 
 pub offset_bounds-soon-slot : goal.offset_bounds-soon-slot
 offset_bounds-soon-slot c = search (rules, change_in (goal.at.offset_bounds-soon-slot c).Then-does_change)
@@ -372,9 +272,6 @@ offset_bounds-soon-j-else-j-spot c = search rules
 pub bounds-soon-j-else-j-spot : goal.bounds-soon-j-else-j-spot
 bounds-soon-j-else-j-spot c = search rules
 
-pub overflow_add-j : goal.overflow_add-j
-overflow_add-j c = search rules
-
 pub bounds-m-spot : goal.bounds-m-spot
 bounds-m-spot c = search rules
 
@@ -383,117 +280,6 @@ offset_bounds-m-spot-then-spot-lt-PARTITIONS-2 c = search rules
 
 pub bounds-m-spot-then-spot-lt-PARTITIONS-2 : goal.bounds-m-spot-then-spot-lt-PARTITIONS-2
 bounds-m-spot-then-spot-lt-PARTITIONS-2 c = search rules
-
-pub offset_bounds-m-place : goal.offset_bounds-m-place
-offset_bounds-m-place c = search rules
-
-pub bounds-m-place : goal.bounds-m-place
-bounds-m-place c = search rules
-
-pub offset_bounds-table-place : goal.offset_bounds-table-place
-offset_bounds-table-place c = search rules
-
-pub bounds-table-place : goal.bounds-table-place
-bounds-table-place c = search rules
-
-pub offset_bounds-m-seen : goal.offset_bounds-m-seen
-offset_bounds-m-seen c = search rules
-
-pub bounds-m-seen : goal.bounds-m-seen
-bounds-m-seen c = search rules
-
-pub offset_bounds-here-named_at : goal.offset_bounds-here-named_at
-offset_bounds-here-named_at c = search rules
-
-pub bounds-here-named_at : goal.bounds-here-named_at
-bounds-here-named_at c = search rules
-
-pub offset_bounds-here-calling_at : goal.offset_bounds-here-calling_at
-offset_bounds-here-calling_at c = search rules
-
-pub bounds-here-calling_at : goal.bounds-here-calling_at
-bounds-here-calling_at c = search rules
-
-pub offset_bounds-here-object_at : goal.offset_bounds-here-object_at
-offset_bounds-here-object_at c = search rules
-
-pub bounds-here-object_at : goal.bounds-here-object_at
-bounds-here-object_at c = search rules
-
-pub offset_bounds-here-object_at-then-object_at-lt-SEMAPHORES : goal.offset_bounds-here-object_at-then-object_at-lt-SEMAPHORES
-offset_bounds-here-object_at-then-object_at-lt-SEMAPHORES c = search rules
-
-pub bounds-here-object_at-then-object_at-lt-SEMAPHORES : goal.bounds-here-object_at-then-object_at-lt-SEMAPHORES
-bounds-here-object_at-then-object_at-lt-SEMAPHORES c = search rules
-
-pub offset_bounds-here-object_at-then-object_at-lt-SEMAPHORES-2 : goal.offset_bounds-here-object_at-then-object_at-lt-SEMAPHORES-2
-offset_bounds-here-object_at-then-object_at-lt-SEMAPHORES-2 c = search rules
-
-pub bounds-here-object_at-then-object_at-lt-SEMAPHORES-2 : goal.bounds-here-object_at-then-object_at-lt-SEMAPHORES-2
-bounds-here-object_at-then-object_at-lt-SEMAPHORES-2 c = search rules
-
-pub offset_bounds-here-object_at-then-object_at-lt-SEMAPHORES-3 : goal.offset_bounds-here-object_at-then-object_at-lt-SEMAPHORES-3
-offset_bounds-here-object_at-then-object_at-lt-SEMAPHORES-3 c = search rules
-
-pub bounds-here-object_at-then-object_at-lt-SEMAPHORES-3 : goal.bounds-here-object_at-then-object_at-lt-SEMAPHORES-3
-bounds-here-object_at-then-object_at-lt-SEMAPHORES-3 c = search rules
-
-pub offset_bounds-here-served_at : goal.offset_bounds-here-served_at
-offset_bounds-here-served_at c = search rules
-
-pub bounds-here-served_at : goal.bounds-here-served_at
-bounds-here-served_at c = search rules
-
-pub bounds-here-k : goal.bounds-here-k
-bounds-here-k c = search rules
-
-pub offset_bounds-here-k-then-k-lt-PROCESSES : goal.offset_bounds-here-k-then-k-lt-PROCESSES
-offset_bounds-here-k-then-k-lt-PROCESSES c = search rules
-
-pub bounds-here-k-then-k-lt-PROCESSES : goal.bounds-here-k-then-k-lt-PROCESSES
-bounds-here-k-then-k-lt-PROCESSES c = search rules
-
-pub bounds-currents-k : goal.bounds-currents-k
-bounds-currents-k c = search rules
-
-pub offset_bounds-objects-k : goal.offset_bounds-objects-k
-offset_bounds-objects-k c = search rules
-
-pub bounds-objects-k : goal.bounds-objects-k
-bounds-objects-k c = search rules
-
-pub bounds-here-k-then-k-lt-SEMAPHORES : goal.bounds-here-k-then-k-lt-SEMAPHORES
-bounds-here-k-then-k-lt-SEMAPHORES c = search rules
-
-pub bounds-here-k-then-k-lt-EVENTS : goal.bounds-here-k-then-k-lt-EVENTS
-bounds-here-k-then-k-lt-EVENTS c = search rules
-
-pub bounds-here-k-then-k-lt-BUFFERS : goal.bounds-here-k-then-k-lt-BUFFERS
-bounds-here-k-then-k-lt-BUFFERS c = search rules
-
-pub bounds-here-k-then-k-lt-BUFFERS-2 : goal.bounds-here-k-then-k-lt-BUFFERS-2
-bounds-here-k-then-k-lt-BUFFERS-2 c = search rules
-
-pub bounds-here-l : goal.bounds-here-l
-bounds-here-l c = search rules
-
-pub offset_bounds-here-l-then-l-lt-PROCESSES : goal.offset_bounds-here-l-then-l-lt-PROCESSES
-offset_bounds-here-l-then-l-lt-PROCESSES c = search rules
-
-pub bounds-here-l-then-l-lt-PROCESSES : goal.bounds-here-l-then-l-lt-PROCESSES
-bounds-here-l-then-l-lt-PROCESSES c = search rules
-
-pub bounds-currents-l : goal.bounds-currents-l
-bounds-currents-l c = search rules
-
-pub offset_bounds-objects-l : goal.offset_bounds-objects-l
-offset_bounds-objects-l c = search rules
-
-pub bounds-objects-l : goal.bounds-objects-l
-bounds-objects-l c = search rules
-
-pub bounds-here-k-then-k-lt-BLACKBOARDS : goal.bounds-here-k-then-k-lt-BLACKBOARDS
-bounds-here-k-then-k-lt-BLACKBOARDS c = search rules
 
 pub bounds-m-put : goal.bounds-m-put
 bounds-m-put c = search rules

@@ -1,12 +1,8 @@
-use Prim.Native.Nat.{◌-◌, ◌≤◌}
-use mathlib.Core.Bool.{false}
+use Prim.Native.Nat.{◌≤◌}
 use mathlib.Core.Path.{◌≡◌}
 use lib.ListN.{length}
-use Rattle.machine.specs.Limits.{partition_limit, channel_limit, process_limit}
+use Rattle.machine.specs.Limits.{partition_limit, channel_limit}
 use Rattle.machine.specs.Windows.{lookup}
-use Rattle.machine.specs.Partition.{applied}
-use Rattle.partition.proofs.Laws.{left}
-use Rattle.resident.specs.Mirrors.{Mirrors}
 use Rattle.resident.specs.Settled.{settled}
 use Rattle.executive.specs.Lists.{Early}
 use Rattle.executive.proofs.Lists.{Running}
@@ -16,17 +12,5 @@ use Rattle.executive.proofs.Executive.run_list.Given as goal
 abbrev pub invariant-loop-j : goal.invariant-loop-j
 invariant-loop-j l = (l.j ≤ l.x.ticks) × (l.x.ticks ≤ partition_limit) × Ticking (settled l.spot l.initial.here l.initial.m) l.spot l.j l.m l.here l.currents l.objects l.run l.soon l.stale
 
-abbrev pub decreases-loop-j : goal.decreases-loop-j
-decreases-loop-j l = l.x.ticks - l.j
-
-abbrev pub invariant-loop-turn : goal.invariant-loop-turn
-invariant-loop-turn l = (l.turn ≤ 2) × (left l.turn l.change l.second l.here ≡ applied l.second (applied l.initial.change l.initial.here)) × ((length l.currents ≡ process_limit) × (length l.objects ≡ process_limit)) × (l.stale ≡ false → Mirrors l.here l.currents l.objects)
-
-abbrev pub decreases-loop-turn : goal.decreases-loop-turn
-decreases-loop-turn l = 2 - l.turn
-
 abbrev pub invariant-loop-i : goal.invariant-loop-i
 invariant-loop-i l = Running l.initial.m l.initial.list l.n l.i (settled l.spot l.here l.m) l.list l.last × (length l.table.channels ≡ channel_limit) × (l.window ≡ lookup l.table l.m.t) × Beside l.here l.currents l.objects l.run × Early (settled l.spot l.here l.m) l.soon × (length l.m.partitions ≡ partition_limit)
-
-abbrev pub decreases-loop-i : goal.decreases-loop-i
-decreases-loop-i l = l.n - l.i

@@ -80,7 +80,7 @@ pub print-to-requires : goal.print-to-requires
 print-to-requires c _ = omega (arith, (here (goal.at.print-to-requires c).Joined-is_between).room, fits (goal.at.print-to-requires c).Joined-is_between)
 
 pub overflow_add-to-then-is_due : goal.overflow_add-to-then-is_due
-overflow_add-to-then-is_due c = let h = printed_fits c.if-is_between.out c.loop-at.to _ c.turn_of-y.result.prints c.turn_of-y.result.numbers c.print-to.ensures.0 (fits (goal.at.overflow_add-to-then-is_due c).Joined-is_between) (here (goal.at.overflow_add-to-then-is_due c).Joined-is_between).room in let g : length c.args.out.now < 18446744073709551616 = omega (arith, c.well_formed) in omega (arith, h, g, (here (goal.at.overflow_add-to-then-is_due c).Joined-is_between).size)
+overflow_add-to-then-is_due c = let h = printed_fits c.if-is_between.out c.loop-at.to _ c.turn_of-y.result.numbers c.print-to.ensures.0 (fits (goal.at.overflow_add-to-then-is_due c).Joined-is_between) (here (goal.at.overflow_add-to-then-is_due c).Joined-is_between).room in let g : length c.args.out.now < 18446744073709551616 = omega (arith, c.well_formed) in omega (arith, h, g, (here (goal.at.overflow_add-to-then-is_due c).Joined-is_between).size)
 
 pub loop-at-smaller-then-is_due : goal.loop-at-smaller-then-is_due
 loop-at-smaller-then-is_due c = omega (arith, c.loop-at-test.true)
@@ -96,4 +96,4 @@ loop-at-preserved c = goes_on _ _ _ _ _ _ _ (here (goal.at.loop-at-preserved c).
 
 pub returns : goal.returns
 returns c =
-    elim c.loop-at-test.branch [ else-loop-at-test w ↦ (all_taken _ _ _ _ _ _ _ c.loop-at.invariant (omega (arith, w)) _ c.left_code.ensures) | then-loop-at-test+then-out-to-lt-LINE w ↦ (no_room_holds _ _ _ _ _ _ _ c.loop-at.invariant (omega (arith, w)) _ c.left_code.ensures) ]
+    elim c.loop-at-test.branch [ else-loop-at-test w ↦ (all_taken _ _ _ _ _ _ _ c.loop-at.invariant (omega (arith, w)) _ c.left_result.ensures) | then-loop-at-test+then-out-to-lt-LINE w ↦ (no_room_holds _ _ _ _ _ _ _ c.loop-at.invariant (omega (arith, w)) _ c.left_result.ensures) ]

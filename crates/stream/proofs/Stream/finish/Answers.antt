@@ -6,11 +6,6 @@ use Rattle.stream.proofs.Chunks.{held_inside, held_length, prints_fit, finish_st
 use borrow.Author.Rules.{rules}
 use Rattle.stream.proofs.Stream.finish.Goals as goal
 
-pub slice_bounds-held-end : goal.slice_bounds-held-end
-slice_bounds-held-end c =
-    let long : length c.args.self.held ≡ held_limit = search rules in
-    held_inside c.args.self.held _ _ (long) c.held_count-n.ensures
-
 pub slice_bounds-turn_of-end : goal.slice_bounds-turn_of-end
 slice_bounds-turn_of-end c =
     let long : length c.args.self.held ≡ held_limit = search rules in

@@ -4,14 +4,14 @@
 ghost use Rattle.std.specs.Prelude.{◌≡◌, ◌-◌, false, cond, leb, OnOk};
 ghost use Rattle.machine.specs.Limits.{partition_limit, channel_limit};
 ghost use Rattle.machine.specs.Fields.{number_of};
-ghost use Rattle.machine.specs.Decisions.{checked};
+ghost use Rattle.machine.specs.Decisions.{checked, code_of};
 ghost use Rattle.machine.specs.Partition.{within};
 ghost use Rattle.machine.specs.Module.{no_channel, channel};
 ghost use Rattle.machine.specs.declared.Decision.{Decision as DecisionT};
 ghost use Rattle.machine.specs.declared.Decision.TheVariants.{Refused};
 ghost use Rattle.machine.specs.declared.Table.{Table as TableT};
 ghost use Rattle.machine.specs.Channels.{queuing, seen_at, port_at, apart, channel_checks, write, read, kept_to};
-ghost use Rattle.decisions.specs.Results.{decided, after};
+ghost use Rattle.decisions.specs.Results.{decided, code_given, after};
 
 use machine::{
     Channel, Context, Decision, Field, Message, Module, Port, Refusal, Table, Time, Traffic,
@@ -96,6 +96,7 @@ pub fn is_apart(c: Channel, k: u32) -> bool
 // The checks of a call on a channel, by whether it is one of the other kind and by the end that the caller's partition must be.
 #[tactic(auto, unfolding(machine::specs::Decisions::checked, machine::specs::Channels::channel_checks))]
 pub fn check_end(x: Port, other: bool, wanted: u8) -> Result<(), Refusal>
+    ensures code { code_given result ≡ code_of (channel_checks x other wanted) }
     ensures checks { (d : DecisionT) → after result d ≡ checked Refused (channel_checks x other wanted) d }
     ensures kind { OnOk result (other ≡ false) }
 {

@@ -4,9 +4,9 @@
 ghost use Rattle.std.specs.Prelude.{◌≡◌, ◌+◌, ◌<◌, ℕ, ◌&&◌, ◌||◌, [], ◌∷◌, true, eqb, ltb, leb, take, OnOk, IfOk};
 ghost use Rattle.machine.specs.Fields.{is_number};
 ghost use Rattle.machine.specs.Mode.{mode_number};
-ghost use Rattle.machine.specs.Decisions.{coded, checked, reply_of, changed, blocked, creation_checks, wait_checks, unknown, name_taken};
+ghost use Rattle.machine.specs.Decisions.{coded, checked, code_of, reply_of, changed, blocked, creation_checks, wait_checks, unknown, name_taken};
 ghost use Rattle.machine.specs.Questions.{changes, restarts, mode_of, first_change, second_change, message_at, message_of, transfer_at, transfer_of};
-ghost use Rattle.decisions.specs.Results.{decided, after};
+ghost use Rattle.decisions.specs.Results.{decided, code_given, after};
 ghost use Rattle.machine.specs.declared.Decision.{Decision as DecisionT};
 ghost use Rattle.machine.specs.declared.Decision.TheVariants.{Refused};
 ghost use Rattle.decisions.specs.Names.{process_name, semaphore_name, event_name, buffer_name, blackboard_name};
@@ -263,6 +263,7 @@ impl View {
     // The id of what is created next of a kind of which count exist and at most limit can, by the checks of a creation.
     #[tactic(auto, unfolding(machine::specs::Decisions::checked))]
     pub fn next_id(self, count: u8, limit: usize, admitted: bool) -> Result<u32, Refusal>
+        ensures code { code_given result ≡ code_of (creation_checks (leb limit count) self.taken admitted (eqb (mode_number self.mode) 3)) }
         ensures checks { (d : DecisionT) → after result d ≡ checked Refused (creation_checks (leb limit count) self.taken admitted (eqb (mode_number self.mode) 3)) d }
         ensures id { IfOk result (λ id. id ≡ count + 1) }
         ensures room { OnOk result (count < limit) }

@@ -6,7 +6,7 @@ ghost use Rattle.std.specs.Prelude.{◌≡◌};
 ghost use Rattle.batch.specs.Batch.{answered_list};
 
 use executive::Executive;
-use machine::{Answer, EventRecord, Line, Module, Numbers, Time};
+use machine::{Answer, EventRecord, Field, Line, Module, Numbers, Time};
 use std::io;
 
 // The bytes that the program reads at most.
@@ -123,7 +123,7 @@ fn run_input(rt: &impl Print, rounds: u32, input: &[u8]) -> io::Result<()> {
 
 fn rounds_of(input: &[u8]) -> u32 {
     match line::read_at(input, 0) {
-        Line::Six(n) => fields::number_of(fields::field_of(n.n1)),
+        Line::Six(n) => fields::number_of(Field::from(n.n1)),
         Line::Bad => 0,
     }
 }

@@ -41,7 +41,7 @@ use Rattle.machine.specs.declared.Transfer.{Transfer}
 use Rattle.machine.specs.declared.Reply.{Reply}
 use Rattle.machine.specs.declared.Request.{Request}
 use Rattle.machine.specs.declared.Table.{Table}
-use Rattle.machine.specs.declared.Waiting.{Waiting}
+use Rattle.machine.specs.Windows.{Waiting}
 use Rattle.machine.proofs.Applied.{NoTick, called_no_tick, after_changed, after_restarted, after_written, after_passed, after_same}
 use Rattle.machine.proofs.Reached.{refilled_table}
 use Rattle.machine.proofs.Restarts.{refilled_time, refilled_sizes}

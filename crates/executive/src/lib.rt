@@ -11,7 +11,7 @@ ghost use Rattle.machine.specs.Channels.{port_at, traffic_at};
 ghost use Rattle.machine.specs.Step.{restarted, step};
 ghost use Rattle.machine.specs.Replay.{answer_numbers, unread};
 ghost use Rattle.machine.specs.Table.{read_table};
-ghost use Rattle.machine.specs.Windows.{waiting_of};
+ghost use Rattle.machine.specs.Windows.{waited, waiting_of};
 ghost use Rattle.events.specs.Plans.{no_answer};
 ghost use Rattle.resident.specs.Mirrors.{Mirrors};
 ghost use Rattle.resident.specs.Settled.{settled};
@@ -25,7 +25,7 @@ ghost use Rattle.executive.specs.Lists.{six, event_at, after_list, answered_list
 use decisions::View;
 use machine::{
     Answer, Buffer, Change, Channel, Context, Decision, Event, Field, Mode, Module, Partition,
-    Port, Process, Traffic, Waiting,
+    Port, Process, Refusal, Request, Traffic,
 };
 
 #[derive(Clone, Copy)]
@@ -331,7 +331,7 @@ impl Executive {
         let mut soon = [0u32; Module::PARTITIONS];
         for i in 0..n {
             let at = i * SIX;
-            let asked = fields::request_of(event_at(list, at));
+            let asked = Request::from(event_at(list, at));
             let first = places::place_event(table.size, m.t, asked);
             if first.time != m.t {
                 window = windows::lookup_at(table, first.time);
@@ -503,11 +503,9 @@ impl Executive {
     }
 
     // The waiting time from t on of a partition.
-    pub fn waiting_time(self, t: i64, k: i64) -> Waiting
-        ensures { result ≡ waiting_of self.inner.table t k }
+    pub fn waiting_time(self, t: i64, k: i64) -> Result<u32, Refusal>
+        ensures { waited result ≡ waiting_of self.inner.table t k }
     {
-        let m = self.inner;
-        let table = m.table;
-        windows::waiting_time(table, t, k)
+        windows::waiting_time(self.inner.table, t, k)
     }
 }

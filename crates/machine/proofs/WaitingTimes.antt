@@ -13,7 +13,7 @@ use Rattle.machine.specs.declared.Event.{Event as EventT}
 use Rattle.machine.specs.declared.Module.{Module}
 use Rattle.machine.specs.declared.Lookup.{Lookup}
 use Rattle.machine.specs.declared.Table.{Table}
-use Rattle.machine.specs.declared.Waiting.{Waiting}
+use Rattle.machine.specs.Windows.{Waiting}
 use Rattle.machine.specs.declared.Window.{Window}
 use Rattle.machine.specs.Limits.{time_limit, greatest_time}
 use Rattle.machine.specs.Module.{current}

@@ -5,11 +5,12 @@ use Rattle.machine.specs.Limits.{time_limit}
 use Rattle.machine.specs.Fields.{between, number_of, field}
 use Rattle.machine.specs.Process.{capped}
 use Rattle.machine.specs.Time.{Time}
-use Rattle.std.specs.Prelude.{None, Some}
+use Rattle.std.specs.Prelude.{None, Some, Result, Ok, Err}
 use Rattle.machine.specs.declared.Window.{Window}
 use Rattle.machine.specs.declared.Table.{Table}
 use Rattle.machine.specs.declared.Lookup.{Lookup}
-use Rattle.machine.specs.declared.Waiting.{Waiting}
+use Rattle.machine.specs.declared.Refusal.{Refusal}
+use Rattle.machine.specs.Refusals.{code}
 
 abbrev pub no_window : Window
 no_window = record { start = 0; duration = 0; partition = 0; flag = false }
@@ -81,6 +82,16 @@ release_point T t k = capped (release_after T t k)
 -- 13, with n 0, for t or partition out of range (in the empty record there is no partition)
 abbrev pub waiting_refused : Table → Field → Field → Bool
 waiting_refused T t k = not (between 0 time_limit t) || not (between 1 T.size k)
+
+-- code 0 and n, or 13 and 0
+pub record Waiting : Type 0 where
+  pub code : ℕ
+  pub n : ℕ
+
+-- the number or the refusal
+abbrev pub waited : Result ℕ Refusal → Waiting
+waited (Ok n) = record { code = 0; n = n }
+waited (Err e) = record { code = code e; n = 0 }
 
 -- The waiting time, given t and a partition: exactly the least n in 1..M such that a window of it, of either flag, starts at (t + n) mod M.
 unfoldable pub waiting_of : Table → ℤ → ℤ → Waiting

@@ -456,13 +456,6 @@ pub struct Reading {
     pub lines: u32,
 }
 
-// The waiting time: code 0 and n, or 13 and 0.
-#[derive(Clone, Copy)]
-pub struct Waiting {
-    pub code: u8,
-    pub n: u32,
-}
-
 impl Module {
     pub const PROCESSES: usize = 16;
 

@@ -222,7 +222,7 @@ fn row_at(input: &[u8], at: usize, line: u32) -> Result<Row, Refused>
     let Line::Six(n) = line::read(&input[at..end]) else {
         return Err(refused);
     };
-    Ok(fields::row_of(n))
+    Ok(Row::from(n))
 }
 
 // The lines after line 1.

@@ -12,7 +12,7 @@ use Rattle.machine.specs.declared.Line.TheVariants.{Six, Bad}
 use Rattle.machine.specs.declared.Numbers.{Numbers}
 use Rattle.machine.specs.declared.Row.{Row}
 use Rattle.machine.specs.declared.Table.{Table}
-use Rattle.machine.specs.declared.Waiting.{Waiting}
+use Rattle.machine.specs.Windows.{Waiting}
 use Rattle.machine.specs.Fields.{field, number_of, row_of}
 use Rattle.machine.specs.Limits.{line_length, number_limit}
 use Rattle.machine.specs.Line.{line_refusal, line_text, in_range, all_in_range, read_line, lines, line_end, read_at, written, written_at}

@@ -4,7 +4,7 @@ use Rattle.machine.specs.declared.Line.{Line}
 use Rattle.machine.specs.declared.Line.TheVariants.{Six, Bad}
 use Rattle.machine.specs.declared.Row.{Row}
 use Rattle.machine.specs.declared.Table.{Table}
-use Rattle.machine.specs.declared.Waiting.{Waiting}
+use Rattle.machine.specs.Windows.{Waiting}
 use Rattle.machine.specs.Fields.{row_of, is_number}
 use Rattle.machine.specs.Line.{line_refusal}
 use Rattle.machine.specs.Replay.{texts, refusal_numbers, bad_table_line, event_lines}

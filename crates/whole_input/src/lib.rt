@@ -9,7 +9,7 @@ ghost use Rattle.whole_input.specs.WholeInput.{no_room, refusal_printed, Counts,
 ghost use Rattle.whole_input.specs.WaitingTimes.{is_question, gets, line_waiting, asked};
 
 use executive::Executive;
-use machine::{Line, Module, Numbers, Row, Waiting};
+use machine::{Line, Module, Numbers, Refusal, Row};
 
 mod programs;
 
@@ -17,9 +17,6 @@ pub use programs::{Asking, Printing, Replaying, result, run};
 
 // The number of an output that is too short, and of a line that is no six numbers.
 const REFUSED: u8 = 11;
-
-// The number of a question whose unused numbers are not all 0.
-const UNASKED: u8 = 13;
 
 // Why nothing was printed: what the line of a refusal has before its four 0. Any code may be shown, so it is no `Refusal`, which would admit fewer.
 #[derive(Clone, Copy)]
@@ -130,32 +127,27 @@ fn is_question(r: Row) -> bool
 }
 
 // What a line gets: 11 where it is no six numbers, 13 where an unused number is not 0, else the waiting time.
-fn waiting_of(e: Executive, l: Line) -> Waiting
-    ensures { result ≡ gets e.inner.table l }
+fn waiting_of(e: Executive, l: Line) -> Result<u32, Refusal>
+    ensures { waited result ≡ gets e.inner.table l }
 {
-    match l {
-        Line::Six(n) => {
-            if !is_question(fields::row_of(n)) {
-                return Waiting {
-                    code: UNASKED,
-                    n: 0,
-                };
-            }
-            e.waiting_time(n.n1, n.n2)
-        }
-        Line::Bad => Waiting {
-            code: REFUSED,
-            n: 0,
-        },
+    let Line::Six(n) = l else {
+        return Err(Refusal::BadLine);
+    };
+    if !is_question(Row::from(n)) {
+        return Err(Refusal::Malformed);
     }
+    e.waiting_time(n.n1, n.n2)
 }
 
 // The answer to the line at a position of the input, written at a position of the output: code, n, four 0.
 fn ask_line(e: Executive, input: &[u8], at: usize, out: &mut [u8], to: usize)
     ensures { out.new ≡ written_at to out.old (line_waiting e.inner.table (read_at input.now at)) }
 {
-    let w = waiting_of(e, line::read_at(input, at));
-    let _ = line::write_at(out, to, event_lines::refusal(w.code, w.n));
+    let (code, n) = match waiting_of(e, line::read_at(input, at)) {
+        Ok(n) => (0, n),
+        Err(e) => (e.code(), 0),
+    };
+    let _ = line::write_at(out, to, event_lines::refusal(code, n));
 }
 
 // Reads a table, then a question a line, and prints one answer line for each; or the one line of a bad table. Where the output is too

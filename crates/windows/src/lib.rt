@@ -2,10 +2,10 @@
 #![tactic(auto)]
 
 ghost use Rattle.std.specs.Prelude.{◌≡◌};
-ghost use Rattle.machine.specs.Windows.{windows, covers, flagged_for, next_start, lookup, release_point, waiting_of};
+ghost use Rattle.machine.specs.Windows.{windows, covers, flagged_for, next_start, lookup, release_point, waiting_of, waited};
 ghost use Rattle.windows.specs.Sought.{sought};
 
-use machine::{Lookup, Module, Table, Waiting, Window};
+use machine::{Field, Lookup, Module, Refusal, Table, Window};
 
 // Which windows a search for a start goes by: any, those of a partition, those of a partition with flag 1.
 #[derive(Clone, Copy)]
@@ -98,23 +98,17 @@ pub fn release_point(table: Table, t: u32, k: u32) -> u32
 }
 
 // The waiting time: 13 where t or the partition is out of range.
-pub fn waiting_time(table: Table, t: i64, k: i64) -> Waiting
-    ensures { result ≡ waiting_of table t k }
+pub fn waiting_time(table: Table, t: i64, k: i64) -> Result<u32, Refusal>
+    ensures { waited result ≡ waiting_of table t k }
 {
-    let at = fields::field_of(t);
-    let own = fields::field_of(k);
+    let at = Field::from(t);
+    let own = Field::from(k);
     if !fields::is_between(at, 0, Module::END) {
-        return Waiting { code: 13, n: 0 };
+        return Err(Refusal::Malformed);
     }
     if !fields::is_between(own, 1, u32::from(table.size)) {
-        return Waiting { code: 13, n: 0 };
+        return Err(Refusal::Malformed);
     }
-    Waiting {
-        code: 0,
-        n: next_start(
-            table,
-            fields::number_of(at),
-            Sought::OwnedBy(fields::number_of(own)),
-        ),
-    }
+    let own = Sought::OwnedBy(fields::number_of(own));
+    Ok(next_start(table, fields::number_of(at), own))
 }

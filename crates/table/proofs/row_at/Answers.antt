@@ -12,4 +12,4 @@ pub returns-in_default : goal.returns-in_default
 returns-in_default c = let a = c.args in ap (row_in a.line) (sym (part_read a.input.now a.at _ c.read.ensures _ c.in_default.is))
 
 pub returns : goal.returns
-returns c = let a = c.args in rw c.row_of.ensures (ap (row_in a.line) (sym (part_read a.input.now a.at _ c.read.ensures _ c.in-Six.is)))
+returns c = let a = c.args in rw c.from.ensures (ap (row_in a.line) (sym (part_read a.input.now a.at _ c.read.ensures _ c.in-Six.is)))

@@ -41,7 +41,7 @@ window c =
 
 -- what is found of the event before its partition is looked at
 planned : (c : After-plan_of-x) → Planned (settled c.loop-i.spot c.loop-i.here c.loop-i.m) c.event_at.result c.args.self.inner.table c.plan_of-x.result
-planned c = record { same = c.loop-i.invariant.0.table; long = c.loop-i.invariant.0.long; held = c.loop-i.invariant.0.held; plan = plan_made c.args.self.inner.table _ _ c.request_of-asked.ensures (c.place_event-first.ensures c.args.self.inner.table refl) (window c.before) (c.plan_of-x.ensures c.args.self.inner.table refl) }
+planned c = record { same = c.loop-i.invariant.0.table; long = c.loop-i.invariant.0.long; held = c.loop-i.invariant.0.held; plan = plan_made c.args.self.inner.table _ _ c.from-asked.ensures (c.place_event-first.ensures c.args.self.inner.table refl) (window c.before) (c.plan_of-x.ensures c.args.self.inner.table refl) }
 
 pub loop-j-init : goal.loop-j-init
 loop-j-init c = (omega arith, few_ticks (planned (goal.at.loop-j-init c).After-plan_of-x), record { state = sym (tick_to_none _); long = c.loop-i.invariant.5; held = c.loop-i.invariant.0.held; kept = kept_fresh c.loop-i.invariant.3; early = early_same c.loop-i.invariant.4 refl refl })

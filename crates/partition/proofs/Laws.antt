@@ -26,7 +26,7 @@ use Rattle.machine.specs.Limits.{message_limit, process_limit, semaphore_limit, 
 use Rattle.machine.specs.Ids.{members, ids_of, kept, appended, follow}
 use Rattle.machine.specs.Messages.{queue_of, put}
 use Rattle.machine.specs.Process.{blank_process, due, ticked, ready, on_object}
-use Rattle.machine.specs.Partition.{within, by_id, process, buffer, no_buffer, moved_in, with_processes, with_semaphores, with_events, with_buffers, with_blackboards, stored, created, preferred, chosen, changed_all, stored_semaphore, stored_event, stored_buffer, stored_blackboard, ended_by, applied, each_from}
+use Rattle.machine.specs.Partition.{within, by_id, process, buffer, no_buffer, moved_in, with_processes, with_semaphores, with_events, with_buffers, with_blackboards, stored, created, preferred, chosen, changed_all, stored_semaphore, stored_event, stored_buffer, stored_blackboard, ended_by, applied}
 use Rattle.machine.proofs.Bounds.{inside, outside_zero, outside_high, named_in, named_out, stored_in, created_in, semaphore_in, event_in, buffer_in, blackboard_in, stored_out}
 use Rattle.machine.proofs.Either.{either}
 use Rattle.machine.proofs.Lists.{scan_next, length_kept, members_of, put_queue_of}
@@ -35,16 +35,6 @@ use Rattle.machine.proofs.Tests.{or_left, or_right}
 use Rattle.arrays.proofs.Laws.{joined}
 use Rattle.partition.specs.Places.{slot_of, in_byte}
 use Rattle.partition.specs.Waits.{ended_id, ended_as}
-
--- a loop over the processes, from id on: one more, and past the last
-module _ (f : Process → Process) (n id : ℕ) (p : Partition) where
-  pub each_more : id ≤ n → each_from f (n + 1 - id) id p ≡ each_from f (n + 1 - (id + 1)) (id + 1) (stored id (f (process id p)) p)
-  unfolding each_from
-  each_more h = let e : n + 1 - id ≡ suc (n + 1 - (id + 1)) = omega arith in rw e
-
-  pub each_done : n < id → each_from f (n + 1 - id) id p ≡ p
-  unfolding each_from
-  each_done h = let e : n + 1 - id ≡ 0 = omega arith in rw e
 
 -- ---------------------------------------------------------------- a list filled in place
 -- the ids before place i of which f says true were found; what the code makes of them where it says so of the next, and where not

@@ -386,10 +386,10 @@ pub fn ticked(p: Partition, t: u32) -> Partition
         return p;
     }
     let mut q = p;
-    for id in 1..=u32::from(p.process_count) {
-        let x = by_id(&q.processes, id, Process::blank());
+    for k in 0..p.process_count {
+        let x = record_in(&q, k + 1);
         if is_touched(x, t) {
-            q = store(q, id, process::tick(x, t));
+            q = store(q, u32::from(k + 1), process::tick(x, t));
         }
     }
     q
@@ -411,8 +411,8 @@ pub fn enter_normal(p: Partition, c: Context) -> Partition
         holder: 0,
         ..p
     };
-    for id in 1..=u32::from(p.process_count) {
-        q = enter_process(q, c, id);
+    for k in 0..p.process_count {
+        q = enter_process(q, c, u32::from(k + 1));
     }
     q
 }

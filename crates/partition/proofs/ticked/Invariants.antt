@@ -4,5 +4,5 @@ use Rattle.machine.specs.Process.{ticked}
 use Rattle.machine.specs.Partition.{each_from}
 use Rattle.partition.proofs.ticked.Given as goal
 
-abbrev pub invariant-loop-id : goal.invariant-loop-id
-invariant-loop-id l = each_from (ticked l.t) (l.fn.p.process_count + 1 - l.id) l.id l.q ≡ each_from (ticked l.t) l.fn.p.process_count 1 l.initial.q
+abbrev pub invariant-loop-k : goal.invariant-loop-k
+invariant-loop-k l = each_from (ticked l.t) (l.fn.p.process_count - l.k) (l.k + 1) l.q ≡ each_from (ticked l.t) l.fn.p.process_count 1 l.initial.q

@@ -6,7 +6,7 @@ ghost use Rattle.std.specs.Prelude.{◌≡◌};
 ghost use Rattle.batch.specs.Batch.{answered_list};
 
 use executive::Executive;
-use machine::{Answer, EventRecord, Field, Line, Module, Numbers, Time};
+use machine::{Answer, Event, EventRecord, Field, Line, Module, Numbers};
 use std::io;
 
 // The bytes that the program reads at most.
@@ -37,15 +37,13 @@ struct Starts {
 }
 
 fn start_of(s: Starts, i: u32) -> Executive {
-    let k = (i % 2) as usize;
-    s.executives[k]
+    s.executives[(i % 2) as usize]
 }
 
 fn run_often(s: Starts, list: Answered, rounds: u32) -> Answered {
     let mut l = list;
     for i in 0..rounds {
-        let records = l.records;
-        l = run(start_of(s, i), records);
+        l = run(start_of(s, i), l.records);
     }
     l
 }
@@ -53,7 +51,7 @@ fn run_often(s: Starts, list: Answered, rounds: u32) -> Answered {
 // ---------------------------------------------------------------- the input
 fn record_of(n: Numbers) -> EventRecord {
     EventRecord {
-        event: event_lines::event_of(n),
+        event: Event::from(n),
         answer: Answer {
             code: 0,
             value: 0,
@@ -84,14 +82,12 @@ fn event_at(input: &[u8], at: usize) -> EventRecord {
 }
 
 fn list_at(input: &[u8], start: usize) -> Answered {
-    let x = tick();
     let mut l = Answered {
-        records: [x; EVENTS],
+        records: [tick(); EVENTS],
     };
     let mut at = start;
-    for i in 0..EVENTS {
-        let x = event_at(input, at);
-        l.records[i] = x;
+    for x in &mut l.records {
+        *x = event_at(input, at);
         at = line::next_line(input, at);
     }
     l
@@ -100,23 +96,22 @@ fn list_at(input: &[u8], start: usize) -> Answered {
 // ---------------------------------------------------------------- the output
 fn print_answer(rt: &impl Print, a: Answer) -> io::Result<()> {
     let mut out = [0u8; Module::LINE];
-    line::write(&mut out, event_lines::numbers_of(a));
+    let _ = line::write(&mut out, Numbers::from(a));
     rt.write_all(&out)
 }
 
 fn print_answers(rt: &impl Print, l: Answered) -> io::Result<()> {
-    for i in 0..EVENTS {
-        let x = l.records[i];
-        let a = x.answer;
-        print_answer(rt, a)?;
+    for x in &l.records {
+        print_answer(rt, x.answer)?;
     }
     Ok(())
 }
 
 fn run_input(rt: &impl Print, rounds: u32, input: &[u8]) -> io::Result<()> {
     let o = Executive::open(input);
-    let x = o.executive;
-    let s = Starts { executives: [x; 2] };
+    let s = Starts {
+        executives: [o.executive; 2],
+    };
     let at = o.lines as usize * Module::LINE;
     print_answers(rt, run_often(s, list_at(input, at), rounds))
 }
@@ -130,8 +125,10 @@ fn rounds_of(input: &[u8]) -> u32 {
 
 fn main(rt: HostRuntime) -> io::Result<()> {
     let mut input = [0u8; INPUT];
-    let read = standard_io::read_whole(rt, &mut input);
-    let n = read.length;
+    let n = match standard_io::read_whole(rt, &mut input) {
+        Ok(n) => n,
+        Err(cut) => cut.length,
+    };
     if n <= Module::LINE {
         return Ok(());
     }

@@ -1,9 +1,7 @@
 -- The container of the cases: for each a header line, NAME BYTES, then that many bytes.
-use Rattle.std.specs.Prelude.{ℕ, suc, ◌+◌, ◌-◌, ◌*◌, min, cond, ◌&&◌, List, [], ◌∷◌, length, take, drop, eqb, ltb, leb}
+use Rattle.std.specs.Prelude.{ℕ, suc, ◌+◌, ◌-◌, ◌*◌, min, cond, ◌&&◌, List, [], ◌∷◌, length, take, drop, eqb, ltb, leb, Option, None, Some}
 use Rattle.machine.specs.Line.{line_feed, space, zero_digit, base}
 use Rattle.damaged_lines.specs.declared.Case.{Case}
-use Rattle.damaged_lines.specs.declared.Found.{Found}
-use Rattle.damaged_lines.specs.declared.Found.TheVariants.{At, Nothing}
 
 -- how many bytes stand before the first b
 unfoldable pub bytes_before : ℕ → List ℕ → ℕ
@@ -31,9 +29,9 @@ header_case input name end = record {
   end = end + 1 + size_of (take (end - (name + 1)) (drop (name + 1) input)) 0;
 }
 
-abbrev pub case_at : List ℕ → ℕ → Found
+abbrev pub case_at : List ℕ → ℕ → Option Case
 case_at input at =
     let name = place_of space input at in
     let end = place_of line_feed input at in
     let c = header_case input name end in
-    cond (ltb name end && (ltb end (length input) && leb c.end (length input))) (At c) Nothing
+    cond (ltb name end && (ltb end (length input) && leb c.end (length input))) (Some c) None

@@ -2,13 +2,12 @@
 // accepted table the code of each line that follows it.
 #![tactic(auto)]
 
-ghost use Rattle.std.specs.Prelude.{◌≡◌, ◌-◌, min, ◌+◌, ◌*◌, ◌≤◌, length, IfOk};
+ghost use Rattle.std.specs.Prelude.{◌≡◌, ◌-◌, min, ◌+◌, ◌*◌, length};
 ghost use Rattle.machine.specs.Line.{base, zero_digit, line_code};
 ghost use Rattle.damaged_lines.specs.Container.{place_of, longest, size_of, case_at};
 
-use machine::{Line, Module};
+use machine::{Line, Module, Refusal};
 use std::io;
-use std::io::Read;
 
 // The bytes that the program reads at most.
 const INPUT: usize = 262144;
@@ -24,31 +23,24 @@ struct Case {
     end: usize,
 }
 
-#[derive(Clone, Copy)]
-enum Found {
-    At(Case),
-    Nothing,
-}
-
 // Where the first b from a position on stands, or the end.
 fn find(s: &[u8], at: usize, b: u8) -> usize
     ensures { result ≡ place_of b s.now at }
 {
-    let mut i = at;
-    while i < s.len() {
-        if s[i] == b {
-            return i;
-        }
-        i += 1;
+    if s.len() <= at {
+        return at;
     }
-    i
+    match s[at..].iter().position(|x| *x == b) {
+        Some(i) => at + i,
+        None => s.len(),
+    }
 }
 
 // What a byte is worth as a digit: nothing below '0'.
 fn digit(b: u8) -> usize
     ensures { result ≡ b - zero_digit }
 {
-    if b < b'0' { 0 } else { (b - b'0') as usize }
+    b.saturating_sub(b'0') as usize
 }
 
 // The number with one more digit.
@@ -58,39 +50,38 @@ fn with_digit(v: usize, b: u8) -> usize
     if LONGEST <= v {
         return LONGEST;
     }
-    let n = v * 10 + digit(b);
-    if n < LONGEST { n } else { LONGEST }
+    (v * 10 + digit(b)).min(LONGEST)
 }
 
 fn size_of(s: &[u8]) -> usize
     ensures { result ≡ size_of s.now 0 }
 {
     let mut v: usize = 0;
-    for i in 0..s.len() {
-        v = with_digit(v, s[i]);
+    for b in s {
+        v = with_digit(v, *b);
     }
     v
 }
 
 // The case whose header is at a position.
-fn case_at(input: &[u8], at: usize) -> Found
+fn case_at(input: &[u8], at: usize) -> Option<Case>
     ensures { result ≡ case_at input.now at }
 {
     let name = find(input, at, b' ');
     let end = find(input, at, b'\n');
     if end <= name {
-        return Found::Nothing;
+        return None;
     }
     if input.len() <= end {
-        return Found::Nothing;
+        return None;
     }
     let digits = name + 1;
     let body = end + 1;
     let size = size_of(&input[digits..end]);
     if input.len() - body < size {
-        return Found::Nothing;
+        return None;
     }
-    Found::At(Case {
+    Some(Case {
         name,
         body,
         end: body + size,
@@ -102,7 +93,7 @@ fn code_of(l: Line) -> u8
 {
     match l {
         Line::Six(_) => 0,
-        Line::Bad => 11,
+        Line::Bad => Refusal::BadLine.code(),
     }
 }
 
@@ -138,35 +129,17 @@ fn print_no_case(rt: &impl Print) -> io::Result<()> {
 fn print_cases(rt: &impl Print, input: &[u8]) -> io::Result<()> {
     let mut at: usize = 0;
     while at < input.len() {
-        let Found::At(c) = case_at(input, at) else {
+        let Some(c) = case_at(input, at) else {
             return print_no_case(rt);
         };
-        let name = c.name;
-        let body = c.body;
-        let end = c.end;
-        print_case(rt, &input[at..name], &input[body..end])?;
-        at = end;
+        print_case(rt, &input[at..c.name], &input[c.body..c.end])?;
+        at = c.end;
     }
     Ok(())
 }
 
-// Reads until the buffer is full or the input ends, and gives how many bytes lie at its front.
-fn read_full(from: &mut impl Read, input: &mut [u8]) -> io::Result<usize>
-    ensures { IfOk result (λ n. n ≤ length input.new) }
-{
-    let mut at: usize = 0;
-    while at < input.len() {
-        let n = from.read(&mut input[at..])?;
-        if n == 0 {
-            break;
-        }
-        at += n;
-    }
-    Ok(at)
-}
-
 fn main(rt: HostRuntime) -> io::Result<()> {
     let mut input = [0u8; INPUT];
-    let n = read_full(&mut rt.stdin(), &mut input)?;
+    let n = standard_io::read_whole_from(&mut rt.stdin(), &mut input).map_err(|cut| cut.error)?;
     print_cases(&rt, &input[..n])
 }

@@ -1,6 +1,8 @@
 -- The current partition lies in a local of the loop: what the loop makes of it and of the module is what the machine makes of the module
 -- with that partition in its place. Assumes nothing.
 use Rattle.std.specs.Prelude.{Option}
+use mathlib.Core.Logic.{◌⊎◌, inl, inr}
+use Rattle.machine.specs.Time.{Time}
 use Rattle.machine.specs.declared.Mode.{Mode}
 use Rattle.machine.specs.Mode.{mode_number}
 use Prim.Native.Nat.{ℕ, zero, suc, ◌+◌, ◌-◌, ◌≤◌, ◌<◌}
@@ -441,3 +443,9 @@ not_near e h t = omega arith
 
 pub two_fits : (n : ℕ) → n < 2 → n + 1 < 256
 two_fits n h = omega arith
+
+-- a decision that leaves everything as it is, but for the tick
+pub nothing_done : (d : Decision) → ((n : ℕ) × (d ≡ Refused n)) ⊎ (((n : ℕ) × (v : Time) × (d ≡ Unchanged n v)) ⊎ (d ≡ Ticked)) → (changes d ≡ false) × (channel_limit ≡ message_at d) × (channel_limit ≡ transfer_at d)
+nothing_done d (inl (n, e)) = (ap changes e, sym (ap message_at e), sym (ap transfer_at e))
+nothing_done d (inr (inl (n, v, e))) = (ap changes e, sym (ap message_at e), sym (ap transfer_at e))
+nothing_done d (inr (inr e)) = (ap changes e, sym (ap message_at e), sym (ap transfer_at e))

@@ -383,40 +383,50 @@ impl Executive {
                 d = services::call(view, port, x.call, request);
             }
             let reply = decisions::reply_of(d);
-            let put = decisions::message_at(d);
-            let pass = decisions::transfer_at(d);
             let mut changed = false;
             stale = false;
-            if decisions::is_restart(d) {
-                m = restart(m, x.own, decisions::mode_of(d));
-                here = m.partitions[slot];
-                soon = [0; Module::PARTITIONS];
-                stale = true;
-                changed = true;
-            } else if decisions::does_change(d) {
-                let first = decisions::first_change(d);
-                let second = decisions::second_change(d);
-                stale = make_changes(&mut here, &mut currents, &mut objects, first, second);
-                soon[slot] = 0;
-                changed = true;
-            } else if put < Module::CHANNELS {
-                let message = decisions::message_of(d);
-                m.messages[put] = message;
-            } else if pass < Module::CHANNELS {
-                let transfer = decisions::transfer_of(d);
-                let q = m.queues[pass];
-                m.queues[pass] = messages::change(q, transfer);
-                let end = queuing::ended_slot(table, x.own, pass, transfer);
-                if end < Module::PARTITIONS {
-                    soon[end] = 0;
-                    if end == spot {
-                        here = partition::after_transfer(here, transfer);
-                        stale = true;
-                        changed = true;
-                    } else {
-                        let p = m.partitions[end];
-                        let q = partition::after_transfer(p, transfer);
-                        m.partitions[end] = q;
+            match d {
+                Decision::Refused(_) | Decision::Unchanged(_, _) | Decision::Ticked => {}
+                Decision::Blocked(id, y) => {
+                    let change = Change::Stored(id as u32, y);
+                    stale = make_change(&mut here, &mut currents, &mut objects, change);
+                    soon[slot] = 0;
+                    changed = true;
+                }
+                Decision::Changed(first, second, _) => {
+                    stale = make_changes(&mut here, &mut currents, &mut objects, first, second);
+                    soon[x.slot] = 0;
+                    changed = true;
+                }
+                Decision::Restarted(mode) => {
+                    m = restart(m, x.own, mode);
+                    here = m.partitions[slot];
+                    soon = [0; Module::PARTITIONS];
+                    stale = true;
+                    changed = true;
+                }
+                Decision::Written(place, message) => {
+                    let put = place as usize;
+                    if put < Module::CHANNELS {
+                        m.messages[put] = Some(message);
+                    }
+                }
+                Decision::Passed(place, transfer, _) => {
+                    let pass = place as usize;
+                    if pass < Module::CHANNELS {
+                        m.queues[pass] = messages::change(m.queues[pass], transfer);
+                        let end = queuing::ended_slot(table, x.own, pass, transfer);
+                        if end < Module::PARTITIONS {
+                            soon[end] = 0;
+                            if end == spot {
+                                here = partition::after_transfer(here, transfer);
+                                stale = true;
+                                changed = true;
+                            } else {
+                                let p = m.partitions[end];
+                                m.partitions[end] = partition::after_transfer(p, transfer);
+                            }
+                        }
                     }
                 }
             }

@@ -1,38 +1,17 @@
 // Messages, first in first out.
 #![tactic(auto)]
 
-ghost use Rattle.std.specs.Prelude.{◌≡◌, ◌≤◌, ◌+◌, cond, length, ltb, min, set};
-ghost use Rattle.machine.specs.Limits.{message_limit};
-ghost use Rattle.machine.specs.Messages.{held, put, taken, first, sent, received, moved, ends_wait};
+ghost use Rattle.std.specs.Prelude.{◌≡◌};
+ghost use Rattle.machine.specs.Messages.{put, taken, first, sent, received, moved, ends_wait};
 
-use machine::{Module, Queue, Transfer};
-
-// How many messages a queue holds, the array's length at most.
-fn count(q: Queue) -> usize
-    ensures { (result ≡ length (held q)) × (result ≤ message_limit) }
-{
-    usize::from(q.len).min(Module::MESSAGES)
-}
-
-// One joins last what an array holds, and a full array stays as it is: gives how many it holds then.
-pub fn join_last<T: Copy>(items: &mut [T], len: u8, x: T) -> u8
-    ensures items { items.new ≡ cond (ltb len (length items.old)) (set items.old len x) items.old }
-    ensures len { result ≡ cond (ltb len (length items.old)) (min (len + 1) 255) len }
-{
-    let n = usize::from(len);
-    if n < items.len() {
-        items[n] = x;
-        return len.saturating_add(1);
-    }
-    len
-}
+use machine::{Queue, Transfer};
 
 // One joins last.
 pub fn put(q: Queue, m: u32) -> Queue
     ensures { result ≡ put m q }
 {
     let mut r = q;
-    r.len = join_last(&mut r.items, q.len, m);
+    r.len = arrays::join_last(&mut r.items, q.len, m);
     r
 }
 
@@ -41,8 +20,10 @@ pub fn take_first(q: Queue) -> Queue
     ensures { result ≡ taken q }
 {
     let mut rest = Queue::empty();
-    for i in 1..count(q) {
-        rest = put(rest, q.items[i]);
+    if let Some((_, later)) = arrays::held(&q.items, q.len).split_first() {
+        for m in later {
+            rest = put(rest, *m);
+        }
     }
     rest
 }

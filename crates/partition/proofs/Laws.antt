@@ -32,7 +32,7 @@ use Rattle.machine.proofs.Either.{either}
 use Rattle.machine.proofs.Lists.{scan_next, length_kept, members_of, put_queue_of}
 use Rattle.machine.proofs.Quiet.{stored_same, ticked_same}
 use Rattle.machine.proofs.Tests.{or_left, or_right}
-use Rattle.messages.proofs.Laws.{joined}
+use Rattle.arrays.proofs.Laws.{joined}
 use Rattle.partition.specs.Places.{slot_of, in_byte}
 use Rattle.partition.specs.Waits.{ended_id, ended_as}
 

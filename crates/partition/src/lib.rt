@@ -29,15 +29,8 @@ fn append(q: Ids, id: u8) -> Ids
     ensures { result ≡ appended id q }
 {
     let mut r = q;
-    r.len = messages::join_last(&mut r.items, q.len, id);
+    r.len = arrays::join_last(&mut r.items, q.len, id);
     r
-}
-
-// The ids of a list.
-pub fn ids_in(q: &Ids) -> &[u8]
-    ensures { result.now ≡ members q.now }
-{
-    &q.items[..usize::from(q.len).min(Module::PROCESSES)]
 }
 
 // The ids of a list that pass a test. The new list is filled where it lies: a function that gives a list would copy it at each turn.
@@ -49,10 +42,10 @@ pub fn keep<F: Fn(u8) -> bool>(q: Ids, test: F) -> Ids
         items: [0; Module::PROCESSES],
         len: 0,
     };
-    for id in ids_in(&q) {
+    for id in arrays::held(&q.items, q.len) {
         if test(*id) {
             let len = found.len;
-            found.len = messages::join_last(&mut found.items, len, *id);
+            found.len = arrays::join_last(&mut found.items, len, *id);
         }
     }
     found
@@ -63,7 +56,7 @@ pub fn first_where<F: Fn(u8) -> bool>(q: Ids, test: F) -> u8
     requires { F.IsAlwaysCallable test }
     ensures { (f : ℕ → Bool) → ((x : ℕ) (r : Bool) → F.post test x r → r ≡ f x) → result ≡ get_or (kept f (members q)) 0 0 }
 {
-    for id in ids_in(&q) {
+    for id in arrays::held(&q.items, q.len) {
         if test(*id) {
             return *id;
         }
@@ -135,7 +128,7 @@ pub fn greatest<F: Fn(u8) -> u8>(q: Ids, priority: F) -> u8
     ensures { (f : ℕ → ℕ) → ((x r : ℕ) → F.post priority x r → r ≡ f x) → result ≡ (fold (λ c id. preferred c id (f id)) (record { id = 0; priority = 0 }) (members q)).id }
 {
     let mut best = Choice { id: 0, priority: 0 };
-    for id in ids_in(&q) {
+    for id in arrays::held(&q.items, q.len) {
         best = or_later(best, *id, priority(*id));
     }
     best.id
@@ -200,7 +193,7 @@ pub fn waiting_messages(p: Partition, object: u16, n: u8) -> Queue
 {
     let ids = first_waiters(p, object, n);
     let mut q = Queue::empty();
-    for id in ids_in(&ids) {
+    for id in arrays::held(&ids.items, ids.len) {
         q = messages::put(q, process::carried_by(record_in(&p, *id)));
     }
     q
@@ -329,7 +322,7 @@ fn end_waits(p: Partition, ids: Ids, hands: bool, m: u32) -> Partition
     ensures { result ≡ changed_all (served_with hands m) (members ids) p }
 {
     let mut q = p;
-    for id in ids_in(&ids) {
+    for id in arrays::held(&ids.items, ids.len) {
         q = end_wait(q, *id, hands, m);
     }
     q

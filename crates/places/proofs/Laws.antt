@@ -1,6 +1,6 @@
--- The fields that a call uses, by one law over the list of calls, and tests one after another. Assumes nothing.
+-- The fields that a call uses, by one law over the list of calls. Assumes nothing.
 use Prim.Native.Nat.{ℕ, zero, suc, ◌-◌, ◌<◌}
-use mathlib.Core.Bool.{Bool, true, false, ◌||◌}
+use mathlib.Core.Bool.{false}
 use mathlib.Core.Path.{◌≡◌, refl, sym, ◌∙◌}
 use mathlib.Core.List.{List, ◌∷◌, map}
 use native.Mathlib.Omega.{arith}
@@ -9,13 +9,6 @@ use lib.ListN.{get_or, get_or-map, get_or-eq_default}
 use borrow.Author.Tests.{ne_eqb}
 use Rattle.machine.specs.Limits.{call_limit}
 use Rattle.machine.specs.Services.{Service, services, no_service, service_of}
-
--- a test before others
-pub or_on : (a b : Bool) → a ≡ true → true ≡ (a || b)
-or_on a b e = rw e
-
-pub or_next : (a b r : Bool) → a ≡ false → r ≡ b → r ≡ (a || b)
-or_next a b r e h = rw e h
 
 -- the fields that each number uses, from 0 on
 abbrev used : List ℕ

@@ -1,6 +1,5 @@
 -- From a reader to a writer, where their bytes are known. Assumes nothing.
-use Rattle.std.proofs.Common.{ℕ, ◌+◌, ◌≤◌, ◌<◌, min, Bool, true, false, List, [], ◌++◌, length, take, drop, eqb, Option, None, Result, Ok, Err, IfSome, ◌≡◌, refl, sym, ap, ◌∙◌, arith, append_assoc, append-nil}
-use Rattle.std.specs.Io.{ReadsAtMost}
+use Rattle.std.proofs.Common.{ℕ, ◌+◌, ◌≤◌, ◌<◌, Bool, true, false, List, [], ◌++◌, length, take, drop, eqb, Option, None, Some, Result, Ok, Err, IfSome, ◌≡◌, refl, sym, ap, ◌∙◌, arith, append_assoc, append-nil}
 use Rattle.std.specs.Io.KnownBytes.{Appends, Consumes, IsAtEnd, ReadConsumes}
 use Rattle.std.proofs.KnownBytes.{Appends-nil, Appends-trans, Consumes-nil, Consumes-trans, Consumes-kept, Consumes-whole}
 use mathlib.Core.Bool.{and-false}
@@ -11,7 +10,6 @@ use borrow.Author.Tests.{eqb-true, le-ltb}
 use Rattle.machine.specs.Limits.{line_length}
 use Rattle.machine.specs.Replay.{replayed, replayed_record}
 use Rattle.machine.proofs.Either.{either}
-use Rattle.machine.proofs.Tests.{by_test}
 use Rattle.executive.specs.declared.Executive.{Executive}
 use Rattle.stream.specs.declared.Stream.{Stream}
 use Rattle.stream.specs.declared.Advance.{Advance}
@@ -22,13 +20,11 @@ use Rattle.event_lines.specs.Blocks.{over}
 use Rattle.stream.specs.Stream.{begun, turn_in, is_ended, run, advanced, closed, finished, finished_of, fed_all}
 use Rattle.stream.proofs.Pieces.{rest_text, fed_on, fed_text}
 use Rattle.stream.proofs.Whole.{stream_printed}
-use Rattle.standard_io.specs.declared.Got.{Got}
-use Rattle.standard_io.specs.declared.Got.TheVariants.{Bytes, Nothing, Failure}
 use Rattle.standard_io.specs.declared.End.{End}
 use Rattle.standard_io.specs.declared.End.TheVariants.{Going, Input, Table, Unread, Unwritten}
 use Rattle.standard_io.specs.declared.Shown.{Shown}
 use Rattle.standard_io.specs.declared.Turn.{Turn}
-use Rattle.standard_io.specs.StandardIo.{answer_of, got_of, bytes_of, shown_of, end_after, after_read, TookRead, Told, Carried, is_going, ReadToEnd, last_end, input_end, after_last, last_text, LastTurn, text_after, ReplayedOver, ReplayedWhole}
+use Rattle.standard_io.specs.StandardIo.{got_of, bytes_of, shown_of, end_after, after_shown, after_read, TookRead, Told, Carried, is_going, ReadToEnd, last_end, input_end, after_last, last_text, LastTurn, text_after, ReplayedOver, ReplayedWhole}
 use Rattle.standard_io.proofs.Laws.{reads_go, last_record}
 
 absurd_end : {P : Type 0} → (◌≡◌ {A = ℕ} 0 1) → P
@@ -91,44 +87,47 @@ telling_ends prints held holds s₀ chunk s i written k h t =
 
 -- ---------------------------------------------------------------- a read
 -- what a read gave the reader had, and has no longer
-pub read_consumes : {E : Type 0} (had left : Option (List ℕ)) (answer : Result ℕ E) (buf : List ℕ) → ReadsAtMost answer buf → ReadConsumes had left answer buf
-    → (got : Got) → got ≡ got_of (answer_of answer) (length buf) → Consumes had left (bytes_of got buf)
-read_consumes had left (Ok n) buf few c got e =
-    rw e
-    (by_test (λ (g : Got). Consumes had left (bytes_of g buf)) (eqb n 0)
-    (λ t. let z : n ≡ 0 = eqb-true n 0 t in rw z at c.0)
-    (λ t. let m : min n (length buf) ≡ n = omega (arith, few.0) in rw m c.0))
-read_consumes had left (Err x) buf few c got e = rw e (Consumes-kept had had left [] (Consumes-nil had) c)
+pub read_consumes : {E : Type 0} (had left : Option (List ℕ)) (answer : Result ℕ E) (buf : List ℕ) → ReadConsumes had left answer buf → Consumes had left (bytes_of (got_of answer) buf)
+read_consumes had left (Ok n) buf c = c.0
+read_consumes had left (Err x) buf c = Consumes-kept had had left [] (Consumes-nil had) c
 
 -- nothing is given only at the end
-pub nothing_left : {E : Type 0} (had left : Option (List ℕ)) (answer : Result ℕ E) (buf : List ℕ) → ReadConsumes had left answer buf → 0 < length buf
-    → (got : Got) → got ≡ got_of (answer_of answer) (length buf) → got ≡ Nothing → IsAtEnd left
-nothing_left had left (Ok n) buf c some got e q =
-    either (eqb n 0) (λ t. c.1 (eqb-true n 0 t) some) (λ t. absurd_end (let z = rw t at e in cc))
-nothing_left had left (Err x) buf c some got e q = absurd_end (cc)
+pub nothing_left : {E : Type 0} (had left : Option (List ℕ)) (answer : Result ℕ E) (buf : List ℕ) → ReadConsumes had left answer buf → 0 < length buf → got_of answer ≡ Some 0 → IsAtEnd left
+nothing_left had left (Ok n) buf c some q = c.1 (cc) some
+nothing_left had left (Err x) buf c some q = absurd_end (cc)
 
-pub nothing_told : (prints : Bool) (held : Option (List ℕ)) (s : Stream) (got : Got) (bytes : List ℕ) (end : End) → bytes_of got bytes ≡ [] → Told prints held held s (bytes_of got bytes) (record { stream = s; end = end })
+pub nothing_told : (prints : Bool) (held : Option (List ℕ)) (s : Stream) (got : Option ℕ) (bytes : List ℕ) (end : End) → bytes_of got bytes ≡ [] → Told prints held held s (bytes_of got bytes) (record { stream = s; end = end })
 unfolding fed_all
 nothing_told prints held s got bytes end e = rw e (record { fed = refl; wrote = λ _. nothing_appended prints held })
 
+shown_written : (written refused : Bool) → (end_after written refused ≡ Unwritten → ⊥) → written ≡ true
+shown_written true refused h = refl
+shown_written false refused h = absurd (h refl)
+
+pub shown_told : {E : Type 0} (prints : Bool) (held holds : Option (List ℕ)) (s : Stream) (bytes : List ℕ) (answer : Result ℕ E) (n : ℕ) → answer ≡ Ok n → (p : Shown) → p.stream ≡ (fed_all s (take n bytes)).stream
+    → (p.written ≡ true → Appends held holds (shown_of prints (fed_all s (take n bytes)).text)) → (r : Turn) → r ≡ after_shown p → Told prints held holds s (bytes_of (got_of answer) bytes) r
+shown_told prints held holds s bytes answer n e p f w r g =
+    rw (e, g) (record { fed = f; wrote = λ h. w (shown_written p.written (is_ended p.stream.place.stage) h) })
+
 -- reading ends at the input's end only where a read gave nothing
-ends_nothing : (s : Stream) (got : Got) (bytes : List ℕ) (written : Bool) → (after_read s got bytes written).end ≡ Input → got ≡ Nothing
-ends_nothing s (Bytes n) bytes written e = goes_on written (is_ended (fed_all s (take n bytes)).stream.place.stage) e
+ends_nothing : (s : Stream) (got : Option ℕ) (bytes : List ℕ) (written : Bool) → (after_read s got bytes written).end ≡ Input → got ≡ Some 0
+ends_nothing s (Some n) bytes written e = either (eqb n 0)
+    (λ t. ap Some (eqb-true n 0 t))
+    (λ t. goes_on written (is_ended (fed_all s (take n bytes)).stream.place.stage) (rw t at e))
   where
     goes_on : {P : Type 0} (w r : Bool) → end_after w r ≡ Input → P
     goes_on true true q = absurd_end (cc)
     goes_on true false q = absurd_end (cc)
     goes_on false r q = absurd_end (cc)
-ends_nothing s Nothing bytes written e = refl
-ends_nothing s Failure bytes written e = absurd_end (cc)
+ends_nothing s None bytes written e = absurd_end (cc)
 
-pub carried_once : {E : Type 0} (prints : Bool) (had left held holds : Option (List ℕ)) (s : Stream) (answer : Result ℕ E) (buf : List ℕ) → ReadsAtMost answer buf → ReadConsumes had left answer buf
-    → 0 < length buf → (got : Got) → got ≡ got_of (answer_of answer) (length buf) → (t : Turn) → TookRead prints s got buf t → Told prints held holds s (bytes_of got buf) t
+pub carried_once : {E : Type 0} (prints : Bool) (had left held holds : Option (List ℕ)) (s : Stream) (answer : Result ℕ E) (buf : List ℕ) → ReadConsumes had left answer buf
+    → 0 < length buf → (t : Turn) → TookRead prints s (got_of answer) buf t → Told prints held holds s (bytes_of (got_of answer) buf) t
     → Carried prints had left held holds s t
-carried_once prints had left held holds s answer buf few c some got e t k told = record {
-  read = bytes_of got buf;
-  consumed = read_consumes had left answer buf few c got e;
-  all = λ i. nothing_left had left answer buf c some got e (ends_nothing s got buf k.written (sym (ap (λ (x : Turn). x.end) k.is) ∙ i));
+carried_once prints had left held holds s answer buf c some t k told = record {
+  read = bytes_of (got_of answer) buf;
+  consumed = read_consumes had left answer buf c;
+  all = λ i. nothing_left had left answer buf c some (ends_nothing s (got_of answer) buf k.written (sym (ap (λ (x : Turn). x.end) k.is) ∙ i));
   told = told;
 }
 
@@ -260,10 +259,10 @@ replayed_whole prints had left held holds e end k i =
     Consumes-whole had left k.read (ReplayedWhole prints held holds (record { executive = e; end = end })) k.consumed (k.all i) (record { leaves = leaves; wrote = wrote })
 
 -- ---------------------------------------------------------------- a whole input
-module _ (had mid left : Option (List ℕ)) (input input' : List ℕ) (at : ℕ) (got : Got) (before : Consumes had mid (take at input)) (now : Consumes mid left (bytes_of got (drop at input')))
+module _ (had mid left : Option (List ℕ)) (input input' : List ℕ) (at : ℕ) (got : Option ℕ) (before : Consumes had mid (take at input)) (now : Consumes mid left (bytes_of got (drop at input')))
     (kept : take at input' ≡ take at input) where
   -- the buffer's front after a read that gave bytes
-  pub read_further : (n : ℕ) → got ≡ Bytes n → Consumes had left (take (at + n) input')
+  pub read_further : (n : ℕ) → got ≡ Some n → Consumes had left (take (at + n) input')
   read_further n e =
       let q : take (at + n) input' ≡ take at input ++ take n (drop at input') = take-add at n input' ∙ ap (λ (l : List ℕ). l ++ take n (drop at input')) kept in
       let more : Consumes mid left (take n (drop at input')) = rw e at now in

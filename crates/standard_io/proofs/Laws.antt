@@ -1,15 +1,14 @@
 -- What the loops over what is read keep. Assumes nothing.
-use Prim.Native.Nat.{ℕ, suc, ◌+◌, ◌-◌, ◌≤◌, ◌<◌, min}
+use Prim.Native.Nat.{ℕ, suc, ◌+◌, ◌-◌, ◌≤◌, ◌<◌}
 use mathlib.Core.Bool.{Bool, true, false}
 use mathlib.Core.Path.{◌≡◌, refl, sym, ap, ◌∙◌}
 use mathlib.Core.List.{List, [], ◌++◌}
 use native.Mathlib.Omega.{arith}
-use native.Mathlib.Nat.{min-le_right}
+use native.Mathlib.Numerals.{add-one}
 use lib.ListN.{length, take, drop, length-append, length-drop, drop_of_length-le}
 use lib.Seq.{drop-drop}
 use lib.Dec.{eqb}
-use lib.IntN.{ℤ, pos, negsuc}
-use borrow.Author.Tests.{eqb-false}
+use borrow.Author.Tests.{ne_eqb}
 use Rattle.machine.specs.Limits.{line_length}
 use Rattle.machine.specs.Replay.{replayed_record}
 use Rattle.machine.proofs.Tests.{by_test, not_both}
@@ -24,13 +23,15 @@ use Rattle.stream.specs.Stream.{begun, turn_in, is_ended, run, advanced, closed,
 use Rattle.stream.proofs.Chunks.{finished_closed, held_length}
 use Rattle.stream.proofs.Pieces.{run_within, run_some, run_room, fed_rest, fed_on}
 use Rattle.stream.proofs.Whole.{stream_record}
-use Rattle.standard_io.specs.declared.Got.{Got}
-use Rattle.standard_io.specs.declared.Got.TheVariants.{Bytes, Nothing, Failure}
+use Rattle.std.specs.Prelude.{Option, None, Some, Result, Ok, Err}
+use Rattle.std.specs.Result.{is_ok, is_err}
+use Rattle.std.specs.Io.{ReadsAtMost}
+use Rattle.standard_io.specs.declared.Cut.{Cut}
 use Rattle.standard_io.specs.declared.End.{End}
 use Rattle.standard_io.specs.declared.End.TheVariants.{Going, Input, Table, Unread, Unwritten}
 use Rattle.standard_io.specs.declared.Shown.{Shown}
 use Rattle.standard_io.specs.declared.Turn.{Turn}
-use Rattle.standard_io.specs.StandardIo.{got_of, Quiet, byte_count, end_after, after_shown, after_read, TookRead, ReadOnce, is_going, Reads, ReadToEnd, last_of, last_end, after_last, LastTurn, record_after, AfterInput, GotFrom, Filled, ReadWhole, IsPrefixLen}
+use Rattle.standard_io.specs.StandardIo.{got_of, Quiet, end_after, after_shown, after_read, TookRead, ReadOnce, is_going, Reads, ReadToEnd, last_of, last_end, after_last, LastTurn, record_after, AfterInput, GotFrom, Filled, ReadWhole, IsPrefixLen}
 use Rattle.standard_io.specs.StandardIo.Reads.{before, next}
 use Rattle.standard_io.specs.StandardIo.Filled.{empty, more}
 use Rattle.standard_io.specs.StandardIo.Over.{full, ended, cut}
@@ -92,32 +93,30 @@ module _ (s₀ : Stream) (chunk out₀ : List ℕ) (s : Stream) (i : ℕ) (out :
   }
 
 -- ---------------------------------------------------------------- a read
--- no more bytes are taken than the buffer has
-pub got_within : (z : ℤ) (most : ℕ) (got : Got) → got ≡ got_of z most → byte_count got ≤ most
-got_within (pos n) most got e =
-    rw e (by_test (λ (g : Got). byte_count g ≤ most) (eqb n 0) (λ t. omega arith) (λ t. min-le_right n most))
-got_within (negsuc n) most got e = rw e (omega arith)
+-- a failed write is none that succeeded
+pub ok_is_true : {T E : Type 0} (r : Result T E) → is_err r ≡ false → is_ok r ≡ true
+ok_is_true (Ok x) h = refl
+ok_is_true (Err e) h = no_end (cc)
 
-pub bytes_within : (got : Got) (n most : ℕ) → got ≡ Bytes n → byte_count got ≤ most → n ≤ most
-bytes_within got n most e h = rw e at h
-
--- a read that gives bytes gives one at least, where there is room
-got_some : (z : ℤ) (most n : ℕ) → 0 < most → Bytes n ≡ got_of z most → 0 < n
-got_some (pos k) most n h e =
-    by_test (λ (g : Got). Bytes n ≡ g → 0 < n) (eqb k 0)
-    (λ _ q. no_end (cc))
-    (λ t q. let m : n ≡ min k most = ap byte_count q in omega (arith, m, eqb-false k 0 t)) e
-got_some (negsuc k) most n h e = no_end (cc)
+pub not_both_results : {T E : Type 0} {P : Type 0} (r : Result T E) → is_ok r ≡ true → is_err r ≡ true → P
+not_both_results (Ok x) g h = no_end (cc)
+not_both_results (Err e) g h = no_end (cc)
 
 -- by the read's answer
-pub shown_read : (s : Stream) (bytes : List ℕ) (n : ℕ) (got : Got) → got ≡ Bytes n → (prints : Bool) (p : Shown) → (p.stream ≡ (fed_all s (take n bytes)).stream) × Quiet prints p.written → (r : Turn) → r ≡ after_shown p → TookRead prints s got bytes r
-shown_read s bytes n got e prints p f r g = record { written = p.written; quiet = f.1; is = g ∙ rw (e, f.0) }
+module _ {E : Type 0} (prints : Bool) (s : Stream) (bytes : List ℕ) (answer : Result ℕ E) where
+  pub shown_read : (n : ℕ) → answer ≡ Ok n → (n ≡ 0 → ⊥) → (p : Shown) → (p.stream ≡ (fed_all s (take n bytes)).stream) × Quiet prints p.written → (r : Turn) → r ≡ after_shown p
+      → TookRead prints s (got_of answer) bytes r
+  shown_read n e some p f r g = let z = ne_eqb n 0 some in record { written = p.written; quiet = f.1; is = g ∙ rw (e, z, f.0) }
 
-pub nothing_read : (prints : Bool) (s : Stream) (bytes : List ℕ) (got : Got) → got ≡ Nothing → TookRead prints s got bytes (record { stream = s; end = Input })
-nothing_read prints s bytes got e = record { written = true; quiet = λ _. refl; is = rw e }
+  pub nothing_read : answer ≡ Ok 0 → TookRead prints s (got_of answer) bytes (record { stream = s; end = Input })
+  nothing_read e = record { written = true; quiet = λ _. refl; is = rw e }
 
-pub failed_read : (prints : Bool) (s : Stream) (bytes : List ℕ) (got : Got) → got ≡ Failure → TookRead prints s got bytes (record { stream = s; end = Unread })
-failed_read prints s bytes got e = record { written = true; quiet = λ _. refl; is = rw e }
+  pub failed_read : (x : E) → answer ≡ Err x → TookRead prints s (got_of answer) bytes (record { stream = s; end = Unread })
+  failed_read x e = record { written = true; quiet = λ _. refl; is = rw e }
+
+pub read_once : {E : Type 0} (prints : Bool) (s : Stream) (bytes : List ℕ) (answer : Result ℕ E) → ReadsAtMost answer bytes → (r : Turn) → TookRead prints s (got_of answer) bytes r → ReadOnce prints s r
+read_once prints s bytes (Ok n) few r k = record { got = Some n; bytes = bytes; from = few.0; took = k }
+read_once prints s bytes (Err e) few r k = record { got = None; bytes = bytes; from = tt; took = k }
 
 -- ---------------------------------------------------------------- the whole input
 -- the stream after some input
@@ -149,16 +148,17 @@ write_ends true true h e = no_end (cc)
 write_ends true false h e = no_end (cc)
 write_ends false refused h e = no_end (cc)
 
-took_goes : (prints : Bool) (s : Stream) (got : Got) (bytes : List ℕ) (written : Bool) → Quiet prints written → Goes prints s (after_read s got bytes written)
-took_goes prints s (Bytes n) bytes written q =
+took_goes : (prints : Bool) (s : Stream) (got : Option ℕ) (bytes : List ℕ) (written : Bool) → Quiet prints written → Goes prints s (after_read s got bytes written)
+took_goes prints s (Some n) bytes written q =
     let refused = is_ended (fed_all s (take n bytes)).stream.place.stage in
-    record {
+    by_test (Goes prints s) (eqb n 0)
+    (λ t. record { fed = none_fed s; table = λ e. no_end (cc); quiet = λ p e. no_end (cc) })
+    (λ t. record {
       fed = record { read = take n bytes; is = refl };
       table = λ e. table_refused written refused e;
       quiet = λ p e. write_ends written refused (q p) e;
-    }
-took_goes prints s Nothing bytes written q = record { fed = none_fed s; table = λ e. no_end (cc); quiet = λ p e. no_end (cc) }
-took_goes prints s Failure bytes written q = record { fed = none_fed s; table = λ e. no_end (cc); quiet = λ p e. no_end (cc) }
+    })
+took_goes prints s None bytes written q = record { fed = none_fed s; table = λ e. no_end (cc); quiet = λ p e. no_end (cc) }
 
 pub reads_go : (prints : Bool) (n : ℕ) (r : Turn) → Reads prints n r → Goes prints begun r
 reads_go prints _ _ before = record { fed = none_fed begun; table = λ e. no_end (cc); quiet = λ p e. no_end (cc) }
@@ -239,32 +239,26 @@ last_same prints t n e a b =
 
 -- ---------------------------------------------------------------- the loop
 -- between two reads: so many are made, reading goes on, and the buffers have their size
-pub record Reading (prints : Bool) (input₀ out₀ : List ℕ) (turns₀ : ℕ) (t : Turn) (input out : List ℕ) (turns : ℕ) : Type 0 where
-  pub few : turns ≤ turns₀
-  pub reads : Reads prints (turns₀ - turns) t
+pub record Reading (prints : Bool) (input₀ out₀ : List ℕ) (t : Turn) (input out : List ℕ) (turn : ℕ) : Type 0 where
+  pub reads : Reads prints turn t
   pub going : is_going t.end ≡ true
   pub size_in : length input ≡ length input₀
   pub size_out : length out ≡ length out₀
 
-pub reading_begins : (prints : Bool) (input out : List ℕ) (turns : ℕ) (s : Stream) → s ≡ begun → Reading prints input out turns (record { stream = s; end = Going }) input out turns
-reading_begins prints input out turns s e =
-    let none : turns - turns ≡ 0 = omega arith in
-    record { few = omega arith; reads = rw (none, e) before; going = refl; size_in = refl; size_out = refl }
+pub reading_begins : (prints : Bool) (input out : List ℕ) (s : Stream) → s ≡ begun → Reading prints input out (record { stream = s; end = Going }) input out 0
+reading_begins prints input out s e = record { reads = rw e before; going = refl; size_in = refl; size_out = refl }
 
-module _ (prints : Bool) (input₀ out₀ : List ℕ) (turns₀ : ℕ) (t : Turn) (input out : List ℕ) (turns : ℕ) (k : Reading prints input₀ out₀ turns₀ t input out turns) where
+module _ (prints : Bool) (input₀ out₀ : List ℕ) (t : Turn) (input out : List ℕ) (turn : ℕ) (k : Reading prints input₀ out₀ t input out turn) where
   -- the turns are used up
-  pub reading_stops : turns ≤ 0 → turns₀ ≡ 18446744073709551615 → ReadToEnd prints t
-  reading_stops h most = record { count = turns₀ - turns; reads = k.reads; all = λ _. omega arith }
+  pub reading_stops : turn ≡ 18446744073709551615 → ReadToEnd prints t
+  reading_stops most = record { count = turn; reads = k.reads; all = λ _. most }
 
-  module _ (more : 0 < turns) (u : Turn) (once : ReadOnce prints t.stream u) where
-    once_more : Reads prints (turns₀ - (turns - 1)) u
-    once_more = let n : turns₀ - (turns - 1) ≡ suc (turns₀ - turns) = omega (arith, k.few) in rw n (next (turns₀ - turns) t u k.reads k.going once)
-
-    pub reading_goes : is_going u.end ≡ true → (input' out' : List ℕ) → length input' ≡ length input → length out' ≡ length out → Reading prints input₀ out₀ turns₀ u input' out' (turns - 1)
-    reading_goes g input' out' a b = record { few = omega (arith, k.few); reads = once_more; going = g; size_in = a ∙ k.size_in; size_out = b ∙ k.size_out }
+  module _ (u : Turn) (once : ReadOnce prints t.stream u) where
+    pub reading_goes : is_going u.end ≡ true → (input' out' : List ℕ) → length input' ≡ length input → length out' ≡ length out → Reading prints input₀ out₀ u input' out' (turn + 1)
+    reading_goes g input' out' a b = record { reads = rw add-one (next turn t u k.reads k.going once); going = g; size_in = a ∙ k.size_in; size_out = b ∙ k.size_out }
 
     pub reading_ends : is_going u.end ≡ false → ReadToEnd prints u
-    reading_ends g = record { count = turns₀ - (turns - 1); reads = once_more; all = λ e. not_both (is_going u.end) e g }
+    reading_ends g = record { count = suc turn; reads = next turn t u k.reads k.going once; all = λ e. not_both (is_going u.end) e g }
 
 -- ---------------------------------------------------------------- a whole input
 -- between two reads: so many bytes are held, and the buffer has its size
@@ -282,27 +276,25 @@ pub record FilledOn (input₀ input input' : List ℕ) (at n : ℕ) : Type 0 whe
   pub inside : at + n ≤ length input
   pub next : Filling input₀ input' (at + n)
 
-module _ (input₀ input : List ℕ) (at : ℕ) (k : Filling input₀ input at) (less : at < length input) (got : Got) (g : GotFrom (length input - at) got) where
-  got_left : GotFrom (length input₀ - at) got
-  got_left = rw k.size at g
-
+module _ {E : Type 0} (input₀ input : List ℕ) (at : ℕ) (k : Filling input₀ input at) (less : at < length input) (answer : Result ℕ E) (g : GotFrom (length input - at) (got_of answer)) where
   short : at < length input₀
   short = omega (arith, k.size)
 
-  pub filling_goes : (n : ℕ) → got ≡ Bytes n → (input' : List ℕ) → length input' ≡ length input → FilledOn input₀ input input' at n
-  filling_goes n e input' s =
-      let within : at + n ≤ length input = omega (arith, bytes_within got n (length input - at) e (got_within g.answer (length input - at) got g.is)) in
+  pub filling_goes : (n : ℕ) → answer ≡ Ok n → (n ≡ 0 → ⊥) → (input' : List ℕ) → length input' ≡ length input → FilledOn input₀ input input' at n
+  filling_goes n e z input' s =
+      let fits : n ≤ length input - at = rw e at g in
+      let left : n ≤ length input₀ - at = rw k.size at fits in
       record {
-        some = got_some g.answer (length input - at) n (omega arith) (sym e ∙ g.is);
-        inside = within;
-        next = record { filled = more at n k.filled short (rw e at got_left); within = omega (arith, within, k.size); size = s ∙ k.size };
+        some = omega (arith, z);
+        inside = omega (arith, fits);
+        next = record { filled = more at n k.filled short (omega (arith, z)) left; within = omega (arith, fits, k.size); size = s ∙ k.size };
       }
 
-  pub filling_ends : got ≡ Nothing → ReadWhole (length input₀) (record { length = at; failed = false })
-  filling_ends e = record { filled = k.filled; over = ended at short (rw e at got_left) }
+  pub filling_ends : ReadWhole (length input₀) (Ok at)
+  filling_ends = record { filled = k.filled; over = ended at short (omega arith) }
 
-  pub filling_cut : got ≡ Failure → ReadWhole (length input₀) (record { length = at; failed = true })
-  filling_cut e = record { filled = k.filled; over = cut at short (rw e at got_left) }
+  pub filling_cut : (c : Cut) → c.length ≡ at → ReadWhole (length input₀) (Err c)
+  filling_cut c e = record { filled = rw e k.filled; over = cut c (omega (arith, e, short)) tt }
 
 -- the bytes held lie at the front of the buffer
 pub filling_counts : (input₀ input : List ℕ) (at : ℕ) → Filling input₀ input at → (input' : List ℕ) → length input' ≡ length input → IsPrefixLen at input'
@@ -310,7 +302,7 @@ filling_counts input₀ input at k input' s =
     let within : at ≤ length input' = omega (arith, k.within, k.size, s) in
     (within, held_length _ _ within)
 
-pub filling_full : (input₀ input : List ℕ) (at : ℕ) → Filling input₀ input at → length input ≤ at → ReadWhole (length input₀) (record { length = at; failed = false })
+pub filling_full : (input₀ input : List ℕ) (at : ℕ) → Filling input₀ input at → length input ≤ at → ReadWhole (length input₀) (Ok at)
 filling_full input₀ input at k h =
     let q : at ≡ length input₀ = omega (arith, k.within, k.size) in
     record { filled = k.filled; over = rw q full }

@@ -1,39 +1,26 @@
 -- What the system gives is free: what a read answers, the bytes that it leaves in the buffer, whether a write succeeds. The rest is settled by it.
-use Rattle.std.specs.Prelude.{ℕ, suc, ◌+◌, ◌-◌, ◌<◌, ◌≤◌, min, ◌≡◌, Option, Result, Ok, Err, Bool, true, false, cond, List, [], length, take, eqb, ℤ, pos, negsuc}
+use Rattle.std.specs.Prelude.{ℕ, suc, ◌+◌, ◌-◌, ◌<◌, ◌≤◌, ◌≡◌, Option, None, Some, IfSome, Result, Ok, Err, Bool, true, false, cond, List, [], length, take, eqb}
 use Rattle.machine.specs.declared.Module.{Module}
 use Rattle.std.specs.Io.KnownBytes.{Appends, Consumes, IsAtEnd}
 use Rattle.machine.specs.Replay.{replayed, replayed_record}
 use Rattle.stream.specs.declared.Stream.{Stream}
 use Rattle.stream.specs.Stream.{begun, is_ended, closed, fed_all}
-use Rattle.standard_io.specs.declared.Got.{Got}
-use Rattle.standard_io.specs.declared.Got.TheVariants.{Bytes, Nothing, Failure}
 use Rattle.standard_io.specs.declared.End.{End}
 use Rattle.standard_io.specs.declared.End.TheVariants.{Going, Input, Table, Unread, Unwritten}
 use Rattle.standard_io.specs.declared.Shown.{Shown}
 use Rattle.standard_io.specs.declared.Turn.{Turn}
 use Rattle.standard_io.specs.declared.Replayed.{Replayed}
-use Rattle.standard_io.specs.declared.Whole.{Whole}
+use Rattle.standard_io.specs.declared.Cut.{Cut}
 
--- the system's answer to a read, as a number: how many bytes, and below 0 where it failed
-abbrev pub answer_of : {E : Type 0} → Result ℕ E → ℤ
-answer_of (Ok n) = pos n
-answer_of (Err e) = negsuc 0
-
--- what the answer of a read means: so many bytes at the front of a buffer of this length, at 0 the input's end, below 0 a failure
-abbrev pub got_of : ℤ → ℕ → Got
-got_of (pos n) most = cond (eqb n 0) Nothing (Bytes (min n most))
-got_of (negsuc n) most = Failure
-
-abbrev pub byte_count : Got → ℕ
-byte_count (Bytes n) = n
-byte_count Nothing = 0
-byte_count Failure = 0
+-- what the system's answer to a read means: so many bytes at the front of a buffer, at 0 the input's end; or it failed
+abbrev pub got_of : {E : Type 0} → Result ℕ E → Option ℕ
+got_of (Ok n) = Some n
+got_of (Err e) = None
 
 -- the bytes that a read gave
-abbrev pub bytes_of : Got → List ℕ → List ℕ
-bytes_of (Bytes n) bytes = take n bytes
-bytes_of Nothing bytes = []
-bytes_of Failure bytes = []
+abbrev pub bytes_of : Option ℕ → List ℕ → List ℕ
+bytes_of (Some n) bytes = take n bytes
+bytes_of None bytes = []
 
 -- what is written of a text: nothing where nothing is to be printed
 abbrev pub shown_of : Bool → List ℕ → List ℕ
@@ -51,25 +38,24 @@ abbrev pub after_shown : Shown → Turn
 after_shown p = record { stream = p.stream; end = end_after p.written (is_ended p.stream.place.stage) }
 
 -- the stream and why reading ended, if it did, after a read that left these bytes in the buffer, and writes that succeeded or not
-abbrev pub after_read : Stream → Got → List ℕ → Bool → Turn
-after_read s (Bytes n) bytes written = after_shown (record { stream = (fed_all s (take n bytes)).stream; written = written })
-after_read s Nothing bytes written = record { stream = s; end = Input }
-after_read s Failure bytes written = record { stream = s; end = Unread }
+abbrev pub after_read : Stream → Option ℕ → List ℕ → Bool → Turn
+after_read s (Some n) bytes written =
+    cond (eqb n 0) (record { stream = s; end = Input }) (after_shown (record { stream = (fed_all s (take n bytes)).stream; written = written }))
+after_read s None bytes written = record { stream = s; end = Unread }
 
 -- what a read gave was taken; whether the writes succeeded is free, if there were any
-pub record TookRead (prints : Bool) (s : Stream) (got : Got) (bytes : List ℕ) (r : Turn) : Type 0 where
+pub record TookRead (prints : Bool) (s : Stream) (got : Option ℕ) (bytes : List ℕ) (r : Turn) : Type 0 where
   pub written : Bool
   pub quiet : Quiet prints written
   pub is : r ≡ after_read s got bytes written
 
--- what a read into so many bytes gave; its answer is free
-pub record GotFrom (most : ℕ) (got : Got) : Type 0 where
-  pub answer : ℤ
-  pub is : got ≡ got_of answer most
+-- what a read into so many bytes gave: it is free, but for that they have room
+abbrev pub GotFrom : ℕ → Option ℕ → Type 0
+GotFrom most got = IfSome got (λ n. n ≤ most)
 
 -- one read; the bytes that it leaves in the buffer are free too
 pub record ReadOnce (prints : Bool) (s : Stream) (r : Turn) : Type 0 where
-  pub got : Got
+  pub got : Option ℕ
   pub bytes : List ℕ
   pub from : GotFrom (length bytes) got
   pub took : TookRead prints s got bytes r
@@ -195,13 +181,13 @@ pub record ReplayedWhole (prints : Bool) (held holds : Option (List ℕ)) (r : R
 -- reads one after another, each into what is left of a buffer, gave so many bytes
 pub data Filled (most : ℕ) : ℕ → Type 0 where
   empty : Filled most 0
-  more : (at n : ℕ) → Filled most at → at < most → GotFrom (most - at) (Bytes n) → Filled most (at + n)
+  more : (at n : ℕ) → Filled most at → at < most → 0 < n → GotFrom (most - at) (Some n) → Filled most (at + n)
 
 -- why no further read was made: the buffer is full, or the last read gave the input's end, or it failed
-pub data Over (most : ℕ) : Whole → Type 0 where
-  full : Over most (record { length = most; failed = false })
-  ended : (at : ℕ) → at < most → GotFrom (most - at) Nothing → Over most (record { length = at; failed = false })
-  cut : (at : ℕ) → at < most → GotFrom (most - at) Failure → Over most (record { length = at; failed = true })
+pub data Over (most : ℕ) : Result ℕ Cut → Type 0 where
+  full : Over most (Ok most)
+  ended : (at : ℕ) → at < most → GotFrom (most - at) (Some 0) → Over most (Ok at)
+  cut : (c : Cut) → c.length < most → GotFrom (most - c.length) None → Over most (Err c)
 
 -- so many bytes lie at the front of a buffer
 abbrev pub IsPrefixLen : ℕ → List ℕ → Type 0
@@ -211,6 +197,11 @@ IsPrefixLen n xs = (n ≤ length xs) × (n ≡ length (take n xs))
 abbrev pub Wrote : ℕ → Bool → Type 0
 Wrote n written = n ≡ 0 → written ≡ true
 
-pub record ReadWhole (most : ℕ) (r : Whole) : Type 0 where
-  pub filled : Filled most r.length
+-- how many bytes of an input lie at the front of a buffer
+abbrev pub whole_length : Result ℕ Cut → ℕ
+whole_length (Ok n) = n
+whole_length (Err c) = c.length
+
+pub record ReadWhole (most : ℕ) (r : Result ℕ Cut) : Type 0 where
+  pub filled : Filled most (whole_length r)
   pub over : Over most r

@@ -3,27 +3,19 @@
 // the system fails; what is done with what a read gives is settled. A failed read or write of these two is told on standard error.
 #![tactic(auto)]
 
-ghost use Rattle.std.specs.Prelude.{◌≡◌, ◌-◌, ◌<◌, ◌≤◌, true, false, length, take, drop, IfSome};
+ghost use Rattle.std.specs.Prelude.{◌≡◌, ◌-◌, ◌<◌, ◌≤◌, true, length, take, drop, replicate, IfSome, IsOk, Some};
+ghost use Rattle.std.specs.Result.{is_ok};
 ghost use Rattle.std.specs.Io.KnownBytes.{Appends, Consumes, IsAtEnd};
 ghost use Rattle.machine.specs.Limits.{line_length};
 ghost use Rattle.stream.specs.Stream.{begun, fed_all, closed};
 ghost use Rattle.standard_io.specs.declared.End.TheVariants.{Input, Unwritten};
-ghost use Rattle.standard_io.specs.declared.Got.TheVariants.{Nothing};
-ghost use Rattle.standard_io.specs.StandardIo.{answer_of, got_of, Quiet, end_after, after_shown, byte_count, bytes_of, shown_of, TookRead, Told, ReadOnce, Carried, is_going, is_failure, ReadToEnd, input_end, after_last, LastTurn, last_text, AfterInput, ReplayedOver, ReplayedWhole, GotFrom, ReadWhole, IsPrefixLen, Wrote};
+ghost use Rattle.standard_io.specs.StandardIo.{got_of, Quiet, end_after, after_shown, bytes_of, shown_of, ReadOnce, Carried, is_going, is_failure, ReadToEnd, input_end, after_last, LastTurn, last_text, AfterInput, ReplayedOver, ReplayedWhole, GotFrom, whole_length, ReadWhole, IsPrefixLen, Wrote};
 
 use executive::Executive;
 use machine::Module;
 use std::io;
 use std::io::{Read, Write};
 use stream::Stream;
-
-// What a read gives: so many bytes at the front of the buffer, nothing at the input's end, or a failure.
-#[derive(Clone, Copy)]
-enum Got {
-    Bytes(usize),
-    Nothing,
-    Failure,
-}
 
 // Why reading ended: it goes on; at the input's end; after a refused table; since a read failed; since a write failed.
 #[derive(Clone, Copy)]
@@ -35,7 +27,7 @@ pub enum End {
     Unwritten,
 }
 
-// A stream after a chunk, and whether what was to be printed was written.
+// A stream after a chunk, and whether what was to be printed was written. It is no result: the stream goes on where a write failed too.
 #[derive(Clone, Copy)]
 struct Shown {
     stream: Stream,
@@ -56,24 +48,24 @@ pub struct Replayed {
     pub end: End,
 }
 
-// How many bytes of an input lie at the front of a buffer, and whether a read failed after them.
-#[derive(Clone, Copy)]
-pub struct Whole {
+// A read failed, after so many bytes of an input, which lie at the front of a buffer.
+#[derive(Drop)]
+pub struct Cut {
     pub length: usize,
-    pub failed: bool,
+    pub error: io::Error,
 }
 
 // ---------------------------------------------------------------- output
-// Writes the front of an output, where it is to be printed; false where it cannot be written.
-fn print<W: Write>(to: &mut W, prints: bool, out: &[u8], n: usize) -> bool
+// Writes the front of an output, where it is to be printed.
+fn print<W: Write>(to: &mut W, prints: bool, out: &[u8], n: usize) -> io::Result<()>
     requires { n ≤ length out.now }
-    ensures quiet { Quiet prints result }
-    ensures wrote { result ≡ true → Appends (W.contents to.old) (W.contents to.new) (shown_of prints (take n out.now)) }
+    ensures quiet { Quiet prints (is_ok result) }
+    ensures wrote { IsOk result → Appends (W.contents to.old) (W.contents to.new) (shown_of prints (take n out.now)) }
 {
     if !prints {
-        return true;
+        return Ok(());
     }
-    to.write_all(&out[..n]).is_ok()
+    to.write_all(&out[..n])
 }
 
 // The stream after a chunk, printed piece by piece through an output.
@@ -87,28 +79,16 @@ fn print_chunk<W: Write>(to: &mut W, s: Stream, chunk: &[u8], out: &mut [u8], pr
     let mut at: usize = 0;
     while at < chunk.len() {
         let a = stream.advance(&chunk[at..], out);
-        if !print(to, prints, out, a.printed) {
+        if print(to, prints, out, a.printed).is_err() {
             written = false;
         }
-        let next = a.stream;
-        stream = next;
+        stream = a.stream;
         at += a.taken;
     }
     Shown { stream, written }
 }
 
 // ---------------------------------------------------------------- input
-// What the answer of a read into a buffer means.
-fn got_of(answer: io::Result<usize>, buf: &[u8]) -> Got
-    ensures { result ≡ got_of (answer_of answer) (length buf.now) }
-{
-    match answer {
-        Err(_) => Got::Failure,
-        Ok(0) => Got::Nothing,
-        Ok(n) => Got::Bytes(n.min(buf.len())),
-    }
-}
-
 // Why reading ended after a chunk: not where it was written and the table, if it was read, is accepted.
 fn end_after(written: bool, refused: bool) -> End
     ensures { result ≡ end_after written refused }
@@ -122,34 +102,9 @@ fn end_after(written: bool, refused: bool) -> End
 fn after_shown(p: Shown) -> Turn
     ensures { result ≡ after_shown p }
 {
-    let stream = p.stream;
-    let end = end_after(p.written, stream.is_ended());
-    Turn { stream, end }
-}
-
-// Takes what a read gave.
-fn take_read<W: Write>(
-    to: &mut W,
-    s: Stream,
-    got: Got,
-    input: &[u8],
-    out: &mut [u8],
-    prints: bool,
-) -> Turn
-    requires { (line_length ≤ length out.old) × (byte_count got ≤ length input.now) }
-    ensures took { TookRead prints s got input.now result }
-    ensures told { Told prints (W.contents to.old) (W.contents to.new) s (bytes_of got input.now) result }
-{
-    match got {
-        Got::Bytes(n) => after_shown(print_chunk(to, s, &input[..n], out, prints)),
-        Got::Nothing => Turn {
-            stream: s,
-            end: End::Input,
-        },
-        Got::Failure => Turn {
-            stream: s,
-            end: End::Unread,
-        },
+    Turn {
+        stream: p.stream,
+        end: end_after(p.written, p.stream.is_ended()),
     }
 }
 
@@ -166,20 +121,23 @@ fn read_once<R: Read, W: Write>(
     ensures once { ReadOnce prints s result }
     ensures carried { 0 < length input.old → Carried prints (R.remaining from.old) (R.remaining from.new) (W.contents to.old) (W.contents to.new) s result }
 {
-    let answer = from.read(input);
-    take_read(to, s, got_of(answer, input), input, out, prints)
+    match from.read(input) {
+        Ok(0) => Turn {
+            stream: s,
+            end: End::Input,
+        },
+        Ok(n) => after_shown(print_chunk(to, s, &input[..n], out, prints)),
+        Err(_) => Turn {
+            stream: s,
+            end: End::Unread,
+        },
+    }
 }
 
 fn is_going(end: End) -> bool
     ensures { result ≡ is_going end }
 {
-    match end {
-        End::Going => true,
-        End::Input => false,
-        End::Table => false,
-        End::Unread => false,
-        End::Unwritten => false,
-    }
+    matches!(end, End::Going)
 }
 
 // The bytes of a block of lines: a read that gives as many cuts no line, and what it gives is run as one block.
@@ -188,39 +146,30 @@ const CHUNK: usize = event_lines::BLOCK * Module::LINE;
 // The bytes that are printed at once: the answers of a chunk, as a rule.
 const OUTPUT: usize = 65536;
 
-fn chunk_buffer() -> [u8; CHUNK]
-    ensures { 62464 ≡ length result }
+// A buffer of zeros.
+pub fn buffer<const N: usize>() -> [u8; N]
+    ensures long { length result ≡ N }
+    ensures zeros { result ≡ replicate N 0 }
 {
-    [0; CHUNK]
+    [0; N]
 }
 
-fn output_buffer() -> [u8; OUTPUT]
-    ensures { 65536 ≡ length result }
-{
-    [0; OUTPUT]
-}
-
-// Reads to the end. A proved loop has to end, and nothing says that the input does: the turns are counted down from a
-// number that no run uses up.
+// Reads to the end. A proved loop has to end, and nothing says that the input does: it has more turns than any run uses up.
 fn read_all<R: Read, W: Write>(from: &mut R, to: &mut W, prints: bool) -> Turn
     ensures ended { ReadToEnd prints result }
     ensures carried { Carried prints (R.remaining from.old) (R.remaining from.new) (W.contents to.old) (W.contents to.new) begun result }
 {
-    let mut input = chunk_buffer();
-    let mut out = output_buffer();
+    let mut input = buffer::<CHUNK>();
+    let mut out = buffer::<OUTPUT>();
     let mut t = Turn {
         stream: Stream::begin(),
         end: End::Going,
     };
-    let mut turns = u64::MAX;
-    while turns > 0 {
-        let s = t.stream;
-        t = read_once(from, to, s, prints, &mut input, &mut out);
-        let end = t.end;
-        if !is_going(end) {
+    for turn in 0..u64::MAX {
+        t = read_once(from, to, t.stream, prints, &mut input, &mut out);
+        if !is_going(t.end) {
             break;
         }
-        turns -= 1;
     }
     t
 }
@@ -231,11 +180,12 @@ fn print_last<W: Write>(to: &mut W, s: Stream, prints: bool) -> Shown
     ensures shown { (result.stream ≡ (closed s).stream) × Quiet prints result.written }
     ensures wrote { result.written ≡ true → Appends (W.contents to.old) (W.contents to.new) (shown_of prints (closed s).text) }
 {
-    let mut out = output_buffer();
+    let mut out = buffer::<OUTPUT>();
     let a = s.finish(&mut out);
-    let written = print(to, prints, &out, a.printed);
-    let stream = a.stream;
-    Shown { stream, written }
+    Shown {
+        stream: a.stream,
+        written: print(to, prints, &out, a.printed).is_ok(),
+    }
 }
 
 // Why the replay ended where the last line was printed.
@@ -248,9 +198,10 @@ fn input_end(written: bool) -> End
 fn after_last(p: Shown) -> Turn
     ensures { result ≡ after_last p }
 {
-    let stream = p.stream;
-    let end = input_end(p.written);
-    Turn { stream, end }
+    Turn {
+        stream: p.stream,
+        end: input_end(p.written),
+    }
 }
 
 // At the input's end the bytes after the last LF are a line; a line that a failure cut is none.
@@ -258,10 +209,8 @@ fn last_turn<W: Write>(to: &mut W, t: Turn, prints: bool) -> Turn
     ensures last { LastTurn prints t result }
     ensures wrote { (result.end ≡ Unwritten → ⊥) → Appends (W.contents to.old) (W.contents to.new) (shown_of prints (last_text t.end t.stream)) }
 {
-    let s = t.stream;
-    let end = t.end;
-    match end {
-        End::Input => after_last(print_last(to, s, prints)),
+    match t.end {
+        End::Input => after_last(print_last(to, t.stream, prints)),
         End::Going => t,
         End::Table => t,
         End::Unread => t,
@@ -296,11 +245,9 @@ pub fn replay_over<R: Read, W: Write>(from: &mut R, to: &mut W, prints: bool) ->
 {
     let read = read_all(from, to, prints);
     let t = last_turn(to, read, prints);
-    let end = t.end;
-    let s = t.stream;
     Replayed {
-        executive: s.executive(),
-        end,
+        executive: t.stream.executive(),
+        end: t.end,
     }
 }
 
@@ -315,76 +262,65 @@ pub fn replay(rt: HostRuntime, prints: bool) -> Replayed
 
 // ---------------------------------------------------------------- whole inputs
 // One read into a buffer from a position on.
-fn read_from<R: Read>(from: &mut R, input: &mut [u8], at: usize) -> Got
+fn read_from<R: Read>(from: &mut R, input: &mut [u8], at: usize) -> io::Result<usize>
     requires { at ≤ length input.old }
-    ensures got { GotFrom (length input.old - at) result }
-    ensures consumed { Consumes (R.remaining from.old) (R.remaining from.new) (bytes_of result (drop at input.new)) }
-    ensures end { at < length input.old → result ≡ Nothing → IsAtEnd (R.remaining from.new) }
+    ensures got { GotFrom (length input.old - at) (got_of result) }
+    ensures consumed { Consumes (R.remaining from.old) (R.remaining from.new) (bytes_of (got_of result) (drop at input.new)) }
+    ensures end { at < length input.old → got_of result ≡ Some 0 → IsAtEnd (R.remaining from.new) }
     ensures kept { take at input.new ≡ take at input.old }
 {
-    let answer = from.read(&mut input[at..]);
-    got_of(answer, &input[at..])
+    from.read(&mut input[at..])
 }
 
 // Reads a whole input into a buffer: until it is full, the input ends, or a read fails.
-pub fn read_whole_from<R: Read>(from: &mut R, input: &mut [u8]) -> Whole
+pub fn read_whole_from<R: Read>(from: &mut R, input: &mut [u8]) -> Result<usize, Cut>
     ensures read_whole { ReadWhole (length input.old) result }
-    ensures prefix_len { IsPrefixLen result.length input.new }
-    ensures consumed { Consumes (R.remaining from.old) (R.remaining from.new) (take result.length input.new) }
-    ensures end { result.failed ≡ false → result.length < length input.new → IsAtEnd (R.remaining from.new) }
+    ensures prefix_len { IsPrefixLen (whole_length result) input.new }
+    ensures consumed { Consumes (R.remaining from.old) (R.remaining from.new) (take (whole_length result) input.new) }
+    ensures end { IsOk result → whole_length result < length input.new → IsAtEnd (R.remaining from.new) }
 {
     let mut at: usize = 0;
     while at < input.len() {
         match read_from(from, input, at) {
-            Got::Bytes(n) => {
+            Ok(0) => return Ok(at),
+            Ok(n) => {
                 at += n;
             }
-            Got::Nothing => {
-                return Whole {
-                    length: at,
-                    failed: false,
-                };
-            }
-            Got::Failure => {
-                return Whole {
-                    length: at,
-                    failed: true,
-                };
-            }
+            Err(error) => return Err(Cut { length: at, error }),
         }
     }
-    Whole {
-        length: at,
-        failed: false,
-    }
+    Ok(at)
 }
 
 // The same from standard input; standard error is told where a read fails.
-pub fn read_whole(rt: HostRuntime, input: &mut [u8]) -> Whole
+pub fn read_whole(rt: HostRuntime, input: &mut [u8]) -> Result<usize, Cut>
     ensures read_whole { ReadWhole (length input.old) result }
-    ensures prefix_len { IsPrefixLen result.length input.new }
+    ensures prefix_len { IsPrefixLen (whole_length result) input.new }
 {
     let whole = read_whole_from(&mut rt.stdin(), input);
-    if whole.failed {
+    if whole.is_err() {
         report(rt, End::Unread);
     }
     whole
 }
 
-// Writes a whole output, and gives whether it was written.
-pub fn write_whole_to<W: Write>(to: &mut W, text: &[u8]) -> bool
-    ensures wrote { Wrote (length text.now) result }
-    ensures appended { result ≡ true → Appends (W.contents to.old) (W.contents to.new) text.now }
+// Writes a whole output.
+pub fn write_whole_to<W: Write>(to: &mut W, text: &[u8]) -> io::Result<()>
+    ensures wrote { Wrote (length text.now) (is_ok result) }
+    ensures appended { IsOk result → Appends (W.contents to.old) (W.contents to.new) text.now }
 {
-    text.len() == 0 || to.write_all(text).is_ok()
+    if text.is_empty() {
+        return Ok(());
+    }
+    to.write_all(text)
 }
 
 // The same to standard output; standard error is told where the output was not written.
-pub fn write_whole(rt: HostRuntime, text: &[u8]) -> bool
-    ensures { Wrote (length text.now) result }
+pub fn write_whole(rt: HostRuntime, text: &[u8]) -> io::Result<()>
+    ensures { Wrote (length text.now) (is_ok result) }
 {
     let written = write_whole_to(&mut rt.stdout(), text);
-    if !written {
+    if written.is_err() {
         report(rt, End::Unwritten);
     }
     written

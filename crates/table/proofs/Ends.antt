@@ -32,7 +32,7 @@ module _ (input : List ℕ) (at : ℕ) where
   no_lines h = let e : at + 0 * line_length ≡ at = omega arith in record { inside = omega arith; after = rw e }
 
   -- a line of six numbers has its 61 bytes
-  six_inside : (k : Numbers) → read_at input at ≡ Six k → at + line_length ≤ length input
+  pub six_inside : (k : Numbers) → read_at input at ≡ Six k → at + line_length ≤ length input
   six_inside k e =
       either (leb (at + line_length) (length input))
       (λ t. leb-true _ _ t)

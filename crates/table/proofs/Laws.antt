@@ -4,9 +4,9 @@ use mathlib.Core.Path.{◌≡◌, refl, sym, ap, ◌∙◌}
 use mathlib.Core.Bool.{Bool, true, false, cond, not, ◌&&◌}
 use mathlib.Core.List.{List, [], ◌∷◌, map}
 use native.Mathlib.Omega.{arith}
-use lib.ListN.{length, get_or, take, drop}
+use lib.ListN.{length, get_or, take, drop, drop_of_length-le}
 use lib.Dec.{eqb, ltb}
-use borrow.Author.Tests.{eq-eqb, ne_eqb, ltb-true, ltb-false, not-true, not-false}
+use borrow.Author.Tests.{eq-eqb, ne_eqb, ltb-true, ltb-false}
 use Rattle.machine.specs.declared.Window.{Window}
 use Rattle.machine.specs.declared.Draft.{Draft}
 use Rattle.machine.specs.declared.Reading.{Reading}
@@ -14,17 +14,21 @@ use Rattle.machine.specs.declared.Row.{Row}
 use Rattle.machine.specs.declared.Numbers.{Numbers}
 use Rattle.machine.specs.declared.Line.{Line}
 use Rattle.machine.specs.declared.Line.TheVariants.{Six, Bad}
-use Rattle.machine.specs.declared.Table.{Table}
 use Rattle.machine.specs.Limits.{line_length}
-use Rattle.machine.specs.Windows.{no_window, windows, flagged_for}
+use Rattle.machine.specs.Windows.{no_window, flagged_for}
 use Rattle.machine.specs.Fields.{row_of}
 use Rattle.machine.specs.Line.{read_line, meaning, line_meaning, lines, line_refusal, line_end, read_at}
 use Rattle.machine.specs.Table.{head_good, head_draft, row_good, with_row, has_flagged, flagged_from, refused_table, checked_table, table_from, table_head, table_of, read_table}
 use Rattle.machine.proofs.Either.{either}
-use Rattle.machine.proofs.Taken.{taken_more, taken_done}
+use lib.Seq.{drop-cons}
+use native.Mathlib.Numerals.{add-one}
 use Rattle.machine.proofs.TextInput.{line_at, lines_end, six_end}
 use Rattle.line.proofs.Meaning.{reads}
 use Rattle.line.proofs.Parts.{part_is}
+use Rattle.std.specs.Prelude.{Ok, Err}
+use Rattle.machine.specs.declared.Refusal.TheVariants.{BadLine}
+use Rattle.table.specs.declared.Refused.{Refused}
+use Rattle.table.specs.Given.{row_in}
 use Rattle.table.specs.Room.{Room}
 use Rattle.machine.proofs.Tables.{SoundDraft, head_draft_holds, row_draft}
 
@@ -43,26 +47,26 @@ pub apart_yes : {m n x y : ℕ} {z : Bool} (b : Bool) → m ≡ x → n ≡ y �
 apart_yes {m} {n} b p q e f = rw (← p, ← q, ne_eqb m n e) f
 
 -- ---------------------------------------------------------------- the final check
-module _ (T : Table) (k i n : ℕ) (e : n ≡ length (windows T)) where
-  window_at : i < n → drop i (windows T) ≡ get_or T.windows i no_window ∷ drop (i + 1) (windows T)
-  window_at h = taken_more T.windows T.window_count i no_window (omega arith)
+module _ (ws : List Window) (k i : ℕ) where
+  window_at : i < length ws → drop i ws ≡ get_or ws i no_window ∷ drop (i + 1) ws
+  window_at h = rw add-one (drop-cons ws i no_window h)
 
   -- a flagged window of partition k is found
-  pub window_found : i < n → (b : Bool) → b ≡ flagged_for k (get_or T.windows i no_window) → b ≡ true
-      → has_flagged k (drop i (windows T)) ≡ has_flagged k (windows T) → has_flagged k (windows T) ≡ true
+  pub window_found : i < length ws → (b : Bool) → b ≡ flagged_for k (get_or ws i no_window) → b ≡ true
+      → has_flagged k (drop i ws) ≡ has_flagged k ws → has_flagged k ws ≡ true
   unfolding has_flagged
   window_found h b f t q = sym q ∙ rw (window_at h, sym f ∙ t)
 
   -- this window is not one
-  pub window_passed : i < n → (b : Bool) → b ≡ flagged_for k (get_or T.windows i no_window) → b ≡ false
-      → has_flagged k (drop i (windows T)) ≡ has_flagged k (windows T) → has_flagged k (drop (i + 1) (windows T)) ≡ has_flagged k (windows T)
+  pub window_passed : i < length ws → (b : Bool) → b ≡ flagged_for k (get_or ws i no_window) → b ≡ false
+      → has_flagged k (drop i ws) ≡ has_flagged k ws → has_flagged k (drop (i + 1) ws) ≡ has_flagged k ws
   unfolding has_flagged
   window_passed h b f t q = sym (rw (window_at h, sym f ∙ t)) ∙ q
 
   -- none is
-  pub window_missing : n ≤ i → has_flagged k (drop i (windows T)) ≡ has_flagged k (windows T) → has_flagged k (windows T) ≡ false
+  pub window_missing : length ws ≤ i → has_flagged k (drop i ws) ≡ has_flagged k ws → has_flagged k ws ≡ false
   unfolding has_flagged
-  window_missing h q = sym q ∙ rw (taken_done T.windows T.window_count i no_window (omega arith))
+  window_missing h q = sym q ∙ rw (drop_of_length-le ws h)
 
 pub partitions_start : (size : ℕ) (ws : List Window) → flagged_from (size + 1 - 1) 1 ws ≡ flagged_from size 1 ws
 partitions_start size ws = let e : size + 1 - 1 ≡ size = omega arith in rw e
@@ -113,6 +117,15 @@ module _ (input : List ℕ) (at : ℕ) where
 pub part_read : (input : List ℕ) (at : ℕ) (l : Line) → meaning l ≡ line_meaning (take (at + line_length - at) (drop at input)) → (m : Line) → l ≡ m → read_at input at ≡ m
 part_read input at l e m f = sym (reads l _ e ∙ ap read_line (part_is at line_length input)) ∙ f
 
+-- a row that a line gave, and a line that gave none
+pub row_six : (n : ℕ) {row : Row} (l : Line) → row_in n l ≡ Ok row → (k : Numbers) × (l ≡ Six k) × (row ≡ row_of k)
+row_six n (Six k) e = (k, refl, cc)
+row_six n Bad e = cc
+
+pub row_bad : (n : ℕ) {r : Refused} (l : Line) → row_in n l ≡ Err r → (l ≡ Bad) × (r ≡ record { why = BadLine; line = n })
+row_bad n (Six k) e = cc
+row_bad n Bad e = (refl, cc)
+
 -- line 1
 module _ (input : List ℕ) where
   pub first_refused : read_at input 0 ≡ Bad → refused_table line_refusal 1 ≡ read_table input
@@ -124,8 +137,8 @@ module _ (input : List ℕ) where
     unfolding table_of
     head_taken = rw f (sym (ap table_of (six_left input 0 h k e)))
 
-    pub head_refused : (b : Bool) → b ≡ head_good row → not b ≡ true → refused_table 12 1 ≡ read_table input
-    head_refused b g t = rw (sym g ∙ not-true b t) at head_taken
+    pub head_refused : (b : Bool) → b ≡ head_good row → b ≡ false → refused_table 12 1 ≡ read_table input
+    head_refused b g t = rw (sym g ∙ t) at head_taken
 
 -- the draft that line 1 gives
 module _ (r : Row) (d : Draft) (ls : List Line) (h : head_good r ≡ true) (q : d ≡ head_draft r) where
@@ -152,17 +165,17 @@ module _ (input : List ℕ) (at total line : ℕ) (d : Draft) (more : line < tot
     unfolding table_from
     row_next = rw f (rw (six_left input at h k e) at next)
 
-    pub row_refused : (b : Bool) → b ≡ row_good d row → not b ≡ true → refused_table 12 (line + 1) ≡ x
-    row_refused b g t = rw (sym g ∙ not-true b t) at row_next
+    pub row_refused : (b : Bool) → b ≡ row_good d row → b ≡ false → refused_table 12 (line + 1) ≡ x
+    row_refused b g t = rw (sym g ∙ t) at row_next
 
-    pub row_taken : (b : Bool) → b ≡ row_good d row → not b ≡ false → (d' : Draft) → d' ≡ with_row d row → SoundDraft (total - line) d
+    pub row_taken : (b : Bool) → b ≡ row_good d row → b ≡ true → (d' : Draft) → d' ≡ with_row d row → SoundDraft (total - line) d
         → SoundDraft (total - (line + 1)) d' × (table_from (total - (line + 1)) (line + 1) d' (lines_from input (at + line_length)) ≡ x)
     row_taken b g t d' w s =
         let n : total - line ≡ suc (total - (line + 1)) = omega arith in
-        let good : row_good d row ≡ true = sym g ∙ not-false b t in
+        let good : row_good d row ≡ true = sym g ∙ t in
         rw w (row_draft (total - (line + 1)) d row (rw n at s) good, rw good at row_next)
 
 -- no line is left to read
-pub lines_done : (total line : ℕ) (d : Draft) (ls : List Line) (x : Reading) → total ≤ line → table_from (total - line) line d ls ≡ x → checked_table d.table line ≡ x
+pub lines_done : (total line : ℕ) (d : Draft) (ls : List Line) (x : Reading) → line ≡ total → table_from (total - line) line d ls ≡ x → checked_table d.table total ≡ x
 unfolding table_from
-lines_done total line d ls x h q = let e : total - line ≡ 0 = omega arith in rw e at q
+lines_done total line d ls x same q = let e : total - line ≡ 0 = omega arith in rw (e, same) at q

@@ -12,10 +12,5 @@ use machine::Module;
 pub fn count(size: u8) -> usize
     ensures { ((T : Table) → T.size ≡ size → result ≡ partition_count T) × (result ≤ partition_limit) }
 {
-    let n = size as usize;
-    if n <= Module::PARTITIONS {
-        n
-    } else {
-        Module::PARTITIONS
-    }
+    usize::from(size).min(Module::PARTITIONS)
 }

@@ -11,6 +11,10 @@ ghost use Rattle.whole_input.specs.WaitingTimes.{is_question, gets, line_waiting
 use executive::Executive;
 use machine::{Line, Module, Numbers, Row, Waiting};
 
+mod programs;
+
+pub use programs::{Asking, Printing, Replaying, result, run};
+
 // The number of an output that is too short, and of a line that is no six numbers.
 const REFUSED: u8 = 11;
 

@@ -1,8 +1,7 @@
 // The windows of a table: the next start of a window, the current partition with the ticks left, the release point and the waiting time.
 #![tactic(auto)]
 
-ghost use Rattle.std.specs.Prelude.{◌≡◌, ◌≤◌, length};
-ghost use Rattle.machine.specs.Limits.{window_limit};
+ghost use Rattle.std.specs.Prelude.{◌≡◌};
 ghost use Rattle.machine.specs.Windows.{windows, covers, flagged_for, next_start, lookup, release_point, waiting_of};
 ghost use Rattle.windows.specs.Sought.{sought};
 
@@ -16,39 +15,19 @@ pub enum Sought {
     FlaggedFor(u32),
 }
 
-// How many windows a table has, the array's length at most.
-pub fn count(table: Table) -> usize
-    ensures { (result ≡ length (windows table)) × (result ≤ window_limit) }
-{
-    let n = table.window_count as usize;
-    if n < Module::WINDOWS {
-        n
-    } else {
-        Module::WINDOWS
-    }
-}
-
 // Whether a place of the frame lies in the window.
 fn does_cover(w: Window, x: u32) -> bool
     ensures { result ≡ covers w x }
 {
-    let start = w.start as u32;
-    if start <= x {
-        x < start + w.duration as u32
-    } else {
-        false
-    }
+    let start = u32::from(w.start);
+    start <= x && x < start + u32::from(w.duration)
 }
 
 // Whether the window has flag 1 and is the partition's.
 pub fn is_flagged(w: Window, k: u32) -> bool
     ensures { result ≡ flagged_for k w }
 {
-    if w.flag {
-        w.partition as u32 == k
-    } else {
-        false
-    }
+    w.flag && u32::from(w.partition) == k
 }
 
 // Whether a search goes by the window.
@@ -57,7 +36,7 @@ fn is_sought(w: Window, which: Sought) -> bool
 {
     match which {
         Sought::AnyWindow => true,
-        Sought::OwnedBy(k) => w.partition as u32 == k,
+        Sought::OwnedBy(k) => u32::from(w.partition) == k,
         Sought::FlaggedFor(k) => is_flagged(w, k),
     }
 }
@@ -66,37 +45,29 @@ fn is_sought(w: Window, which: Sought) -> bool
 pub fn next_start(table: Table, t: u32, which: Sought) -> u32
     ensures { result ≡ next_start table t (sought which) }
 {
-    let frame = table.frame as u32;
+    let frame = u32::from(table.frame);
     if frame == 0 {
         return 0;
     }
     let x = t % frame;
-    let n = count(table);
-    let mut ahead = frame;
-    let mut found = false;
-    let mut i: usize = 0;
-    while i < n {
-        let w = table.windows[i];
-        if is_sought(w, which) {
-            let start = w.start as u32;
+    let mut later = None;
+    for w in arrays::held(&table.windows, table.window_count) {
+        if is_sought(*w, which) {
+            let start = u32::from(w.start);
             if x < start {
                 return start - x;
             }
-            if !found {
-                ahead = start + frame - x;
-                found = true;
-            }
+            later = later.or(Some(start + frame - x));
         }
-        i = i + 1;
     }
-    ahead
+    later.unwrap_or(frame)
 }
 
 // The current partition at t with the ticks until its window ends; without a window, until the next start of any.
 pub fn lookup_at(table: Table, t: u32) -> Lookup
     ensures { result ≡ lookup table t }
 {
-    let frame = table.frame as u32;
+    let frame = u32::from(table.frame);
     if frame == 0 {
         return Lookup {
             partition: 0,
@@ -104,18 +75,13 @@ pub fn lookup_at(table: Table, t: u32) -> Lookup
         };
     }
     let x = t % frame;
-    let n = count(table);
-    let mut i: usize = 0;
-    while i < n {
-        let w = table.windows[i];
-        if does_cover(w, x) {
-            let start = w.start as u32;
+    for w in arrays::held(&table.windows, table.window_count) {
+        if does_cover(*w, x) {
             return Lookup {
                 partition: w.partition,
-                left: start + w.duration as u32 - x,
+                left: u32::from(w.start) + u32::from(w.duration) - x,
             };
         }
-        i = i + 1;
     }
     Lookup {
         partition: 0,
@@ -128,7 +94,7 @@ pub fn release_point(table: Table, t: u32, k: u32) -> u32
     ensures { result ≡ release_point table t k }
 {
     let ahead = next_start(table, t, Sought::FlaggedFor(k));
-    process::capped_time(t as u64 + ahead as u64)
+    process::capped_time(u64::from(t) + u64::from(ahead))
 }
 
 // The waiting time: 13 where t or the partition is out of range.
@@ -140,7 +106,7 @@ pub fn waiting_time(table: Table, t: i64, k: i64) -> Waiting
     if !fields::is_between(at, 0, Module::END) {
         return Waiting { code: 13, n: 0 };
     }
-    if !fields::is_between(own, 1, table.size as u32) {
+    if !fields::is_between(own, 1, u32::from(table.size)) {
         return Waiting { code: 13, n: 0 };
     }
     Waiting {

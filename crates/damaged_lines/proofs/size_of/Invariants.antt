@@ -1,7 +1,7 @@
--- The loop: the bytes from i on, after the number so far, spell the whole.
+-- The loop: the bytes that are left, after the number so far, spell the whole.
 use Rattle.std.proofs.Common.{◌≡◌, drop}
 use Rattle.damaged_lines.specs.Container.{size_of}
 use Rattle.damaged_lines.proofs.size_of.Given as goal
 
-abbrev pub invariant-loop-i : goal.invariant-loop-i
-invariant-loop-i l = size_of (drop l.i l.s) l.v ≡ size_of l.s 0
+abbrev pub invariant-loop-b : goal.invariant-loop-b
+invariant-loop-b l = size_of (drop l.b-index l.s) l.v ≡ size_of l.s 0

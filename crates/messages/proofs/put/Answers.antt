@@ -5,7 +5,7 @@ use borrow.Author.Rules.{rules}
 use Rattle.machine.specs.declared.Queue.{Queue}
 use Rattle.machine.specs.Limits.{message_limit}
 use Rattle.machine.specs.Messages.{put}
-use Rattle.messages.proofs.Laws.{joined}
+use Rattle.arrays.proofs.Laws.{joined}
 use Rattle.messages.proofs.put.Goals as goal
 
 pub returns : goal.returns

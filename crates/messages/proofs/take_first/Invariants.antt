@@ -1,7 +1,7 @@
 use mathlib.Core.Path.{◌≡◌}
-use lib.ListN.{take, drop}
-use Rattle.machine.specs.Messages.{held, queue_of}
+use lib.ListN.{take}
+use Rattle.machine.specs.Messages.{queue_of}
 use Rattle.messages.proofs.take_first.Given as goal
 
-abbrev pub invariant-loop-i : goal.invariant-loop-i
-invariant-loop-i l = l.rest ≡ queue_of (drop 1 (take l.i (held l.q)))
+abbrev pub invariant-loop-m : goal.invariant-loop-m
+invariant-loop-m l = l.rest ≡ queue_of (take l.m-index l.later)

@@ -7,7 +7,7 @@ use borrow.Author.Rules.{rules}
 use Rattle.machine.specs.declared.Ids.{Ids}
 use Rattle.machine.specs.Limits.{process_limit}
 use Rattle.machine.specs.Ids.{appended}
-use Rattle.messages.proofs.Laws.{joined}
+use Rattle.arrays.proofs.Laws.{joined}
 use Rattle.partition.proofs.append.Goals as goal
 
 pub returns : goal.returns

@@ -9,11 +9,11 @@ pub loop-id-preserved : goal.loop-id-preserved
 loop-id-preserved c =
     let a = c.args in
     let l = c.loop-id in
-    rw c.end_wait-q.ensures (sym (changed_more (served_with a.hands a.m) c.ids_in-id-items.result.now l.id-index l.q (omega arith)) ∙ l.invariant)
+    rw c.end_wait-q.ensures (sym (changed_more (served_with a.hands a.m) c.held-id-items.result.now l.id-index l.q (omega arith)) ∙ l.invariant)
 
 pub returns : goal.returns
 returns c =
     let a = c.args in
     let l = c.loop-id in
-    sym (changed_done (served_with a.hands a.m) c.ids_in-id-items.result.now l.id-index l.q (omega arith)) ∙ l.invariant
-    ∙ ap (λ l. changed_all (served_with a.hands a.m) l a.p) c.ids_in-id-items.ensures
+    sym (changed_done (served_with a.hands a.m) c.held-id-items.result.now l.id-index l.q (omega arith)) ∙ l.invariant
+    ∙ ap (λ l. changed_all (served_with a.hands a.m) l a.p) c.held-id-items.ensures

@@ -14,9 +14,9 @@ pub loop-id-preserved : goal.loop-id-preserved
 loop-id-preserved c =
     let a = c.args in
     let l = c.loop-id in
-    let items = c.ids_in-id-items.result.now in
+    let items = c.held-id-items.result.now in
     let ids = c.first_waiters-ids.result in
     let full : length ids.items ≡ process_limit = search rules in
-    let low : l.id-index < message_limit = omega (arith, ap length c.ids_in-id-items.ensures, length_members ids full) in
+    let low : l.id-index < message_limit = omega (arith, ap length c.held-id-items.ensures, length_members ids full) in
     rw (c.put-q.ensures, c.carried_by.ensures, c.record_in.ensures, l.invariant)
     (gathered_more (λ id. carried (process id a.p)) items l.id-index (omega arith) low)

@@ -1,4 +1,4 @@
--- `all_flagged` meets its contract. The loops: the partitions from k on are left, and of partition k the windows from i on.
+-- `all_flagged` meets its contract. The loops: the partitions from k on are left, and of partition k the windows from w on.
 use Prim.Native.Nat.{◌+◌, ◌-◌}
 use mathlib.Core.Path.{◌≡◌}
 use lib.ListN.{drop}
@@ -6,8 +6,8 @@ use Rattle.machine.specs.Windows.{windows}
 use Rattle.machine.specs.Table.{has_flagged, flagged_from}
 use Rattle.table.proofs.all_flagged.Given as goal
 
-abbrev pub invariant-loop-i : goal.invariant-loop-i
-invariant-loop-i l = has_flagged l.k (drop l.i (windows l.t)) ≡ has_flagged l.k (windows l.t)
+abbrev pub invariant-loop-w : goal.invariant-loop-w
+invariant-loop-w l = has_flagged l.k (drop l.w-index l.w-items) ≡ has_flagged l.k l.w-items
 
 abbrev pub invariant-partitions : goal.invariant-partitions
 invariant-partitions l = flagged_from (l.size + 1 - l.k) l.k (windows l.t) ≡ flagged_from l.size 1 (windows l.t)

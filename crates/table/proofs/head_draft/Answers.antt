@@ -27,4 +27,4 @@ returns c =
     let number-of2 = c.number_of-size in
     let number-of3 = c.number_of-windows in
     let number-of4 = c.number_of-channels in
-    rw (number_of_holds.ensures, number-of2.ensures, number-of3.ensures, number-of4.ensures, c.empty-none.ensures)
+    rw (number_of_holds.ensures, number-of2.ensures, number-of3.ensures, number-of4.ensures, c.empty.ensures)

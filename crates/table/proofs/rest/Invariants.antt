@@ -10,10 +10,6 @@ use Rattle.table.proofs.rest.Given as goal
 
 abbrev pub invariant-loop-line : goal.invariant-loop-line
 invariant-loop-line l =
-    (l.line ≤ l.total)
-    × (l.at ≤ length l.input)
+    (l.at ≤ length l.input)
     × SoundDraft (l.total - l.line) l.d
     × (table_from (l.total - l.line) l.line l.d (lines_from l.input l.at) ≡ table_from (l.initial.d.windows + l.initial.d.channels) 1 l.initial.d (lines_from l.input line_length))
-
-abbrev pub decreases-loop-line : goal.decreases-loop-line
-decreases-loop-line l = l.total - l.line

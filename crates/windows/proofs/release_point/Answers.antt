@@ -3,4 +3,4 @@ use Rattle.windows.proofs.release_point.Goals as goal
 
 pub returns : goal.returns
 unfolding release_point release_after
-returns c = rw (c.capped_time.ensures, c.next_start-ahead.ensures)
+returns c = rw (c.capped_time.ensures, c.from.ensures, c.from-2.ensures, c.next_start-ahead.ensures)

@@ -7,11 +7,13 @@ use lib.Dec.{ltb}
 use lib.ListN.{length, length-set}
 use borrow.Author.Rules.{rules}
 use borrow.Author.Tests.{ltb-true, ltb-false}
+use Rattle.machine.specs.declared.Decision.{Decision}
+use Rattle.machine.specs.declared.Decision.TheVariants.{Ticked}
 use Rattle.machine.specs.Windows.{lookup}
 use Rattle.machine.specs.Limits.{partition_limit, channel_limit}
 use Rattle.machine.specs.Module.{no_partition, part, message, running_in, with_time}
 use Rattle.machine.specs.Partition.{running}
-use Rattle.machine.specs.Questions.{changes, transfer_at}
+use Rattle.machine.specs.Questions.{changes, restarts, mode_of, message_at, message_of, transfer_at, transfer_of, first_change, second_change}
 use Rattle.machine.specs.Step.{sees}
 use Rattle.machine.specs.Ticks.{tick_to}
 use Rattle.machine.specs.declared.Module.{Module}
@@ -28,9 +30,9 @@ use Rattle.executive.proofs.Laws.{Planned, Decides, plan_made, place_named, few_
 use Rattle.executive.proofs.Lists.{begins_early, early_same, Running, begins, fits, ends, goes_on}
 use Rattle.machine.specs.Channels.{port_at}
 use Rattle.machine.specs.declared.Table.{Table}
-use Rattle.executive.proofs.Residents.{table_here, Beside, beside_looked, kept_fresh, none_beside, ticks_here, ticks_there, ticks_none, Current, current_same, current_moved, not_stored, restart_changes, one_of, not_far, not_near, Ready, Done, done_as_holds, done_same, done_written, done_changed, done_restarted, done_moved, done_here, done_there, restarts_in, changes_in, running_at}
+use Rattle.executive.proofs.Residents.{nothing_done, table_here, Beside, beside_looked, kept_fresh, none_beside, ticks_here, ticks_there, ticks_none, Current, current_same, current_moved, not_stored, restart_changes, one_of, not_far, not_near, Ready, Done, done_as_holds, done_same, done_written, done_changed, done_restarted, done_moved, done_here, done_there, restarts_in, changes_in, running_at}
 use Rattle.executive.proofs.Executive.run_list.Goals as goal
-use Rattle.executive.proofs.Executive.run_list.Goals.{After-is_restart, After-plan_of-x, Joined-changed, Joined-first-m, Joined-is_restart, Joined-slot-lt-PARTITIONS, Joined-stale, Joined-x-lt-PARTITIONS, Joined-x-spot, Start, Then-does_change, Then-is_restart, else-changed, else-first-m, else-is_restart+else-does_change+else-put-lt-CHANNELS+else-pass-lt-CHANNELS, else-is_restart+else-does_change+else-put-lt-CHANNELS+then-pass-lt-CHANNELS+else-end-lt-PARTITIONS, else-is_restart+else-does_change+else-put-lt-CHANNELS+then-pass-lt-CHANNELS+then-end-lt-PARTITIONS+else-end-spot, else-is_restart+else-does_change+else-put-lt-CHANNELS+then-pass-lt-CHANNELS+then-end-lt-PARTITIONS+then-end-spot, else-is_restart+else-does_change+then-put-lt-CHANNELS, else-is_restart+then-does_change, else-slot-lt-PARTITIONS, else-soon-j, else-spot-lt-PARTITIONS, else-stale, else-stale-2, else-x-lt-PARTITIONS, else-x-spot, then-changed, then-first-m, then-is_restart, then-slot-lt-PARTITIONS, then-soon-j+else-j-spot, then-soon-j+then-j-spot, then-spot-lt-PARTITIONS, then-stale, then-stale-2, then-x-lt-PARTITIONS, then-x-spot+else-spot-lt-PARTITIONS-2, then-x-spot+then-spot-lt-PARTITIONS-2}
+use Rattle.executive.proofs.Executive.run_list.Goals.{After-reply_of-reply, Joined-d, in-Refused, in-Blocked, in-Changed, in-Restarted, in-Written+then-put-lt-CHANNELS, in-Written+else-put-lt-CHANNELS, in-Passed+then-pass-lt-CHANNELS+then-end-lt-PARTITIONS+then-end-spot, in-Passed+then-pass-lt-CHANNELS+then-end-lt-PARTITIONS+else-end-spot, in-Passed+then-pass-lt-CHANNELS+else-end-lt-PARTITIONS, in-Passed+else-pass-lt-CHANNELS, After-plan_of-x, Joined-changed, Joined-first-m, Joined-slot-lt-PARTITIONS, Joined-stale, Joined-x-lt-PARTITIONS, Joined-x-spot, Start, else-changed, else-first-m, else-slot-lt-PARTITIONS, else-soon-j, else-spot-lt-PARTITIONS, else-stale, else-stale-2, else-x-lt-PARTITIONS, else-x-spot, then-changed, then-first-m, then-slot-lt-PARTITIONS, then-soon-j+else-j-spot, then-soon-j+then-j-spot, then-spot-lt-PARTITIONS, then-stale, then-stale-2, then-x-lt-PARTITIONS, then-x-spot+else-spot-lt-PARTITIONS-2, then-x-spot+then-spot-lt-PARTITIONS-2}
 
 -- the window at the time after the event
 window : (c : Joined-first-m) → c.if-first-m.window ≡ lookup c.args.self.inner.table c.place_event-first.result.time
@@ -104,47 +106,42 @@ decided c =
     ]
 
 -- all that is known before something is done
-ready : (c : After-is_restart) → Ready (planned c.before.before.before.before.before.before.before.before.before.before) c.if-x-spot.spot c.if-x-spot.here c.if-x-spot.m c.if-stale.currents c.if-stale.objects c.if-stale.run c.loop-j.soon c.if-slot-lt-PARTITIONS.d c.reply_of-reply.result
+ready : (c : After-reply_of-reply) → Ready (planned c.before.before.before.before.before.before.before) c.if-x-spot.spot c.if-x-spot.here c.if-x-spot.m c.if-stale.currents c.if-stale.objects c.if-stale.run c.loop-j.soon c.if-slot-lt-PARTITIONS.d c.reply_of-reply.result
 ready c =
-    let a = arrived c.before.before.before.before.before.before in
-    record { ticked = ticked c.before.before.before.before.before.before; long = a.0.long; here = a.1; beside = beside c.before.before.before.before.before; early = a.0.early; decides = decided c.before.before.before.before; says = c.reply_of-reply.ensures }
+    let a = arrived c.before.before.before in
+    record { ticked = ticked c.before.before.before; long = a.0.long; here = a.1; beside = beside c.before.before; early = a.0.early; decides = decided c.before; says = c.reply_of-reply.ensures }
 
--- a call that changes its partition
-did_change : (c : Joined-is_restart) → changes c.if-slot-lt-PARTITIONS.d ≡ true → Done (settled c.loop-i.spot c.loop-i.here c.loop-i.m) c.plan_of-x.result c.reply_of-reply.result c.if-x-spot.spot c.if-is_restart.m c.if-is_restart.here c.if-is_restart.currents c.if-is_restart.objects c.if-stale.run c.if-is_restart.soon c.if-is_restart.stale c.if-is_restart.changed
-did_change c = λ h.
+-- each decision does what the machine does
+did : (c : Joined-d) → Done (settled c.loop-i.spot c.loop-i.here c.loop-i.m) c.plan_of-x.result c.reply_of-reply.result c.if-x-spot.spot c.match-d.m c.match-d.here c.match-d.currents c.match-d.objects c.if-stale.run c.match-d.soon c.match-d.stale c.match-d.changed
+did c =
     let g = ready c.before in
-    elim c.if-is_restart.branch [ then-is_restart w ↦ (done_as_holds w.m-is w.here-is w.currents-is w.objects-is w.soon-is w.stale-is w.changed-is (done_restarted g (sym c.is_restart.ensures ∙ w.if-is_restart.true) w.mode_of.ensures w.restart-m.result w.restart-m.ensures _ refl)) | else-is_restart+then-does_change w ↦ (done_as_holds w.m-is w.here-is w.currents-is w.objects-is w.soon-is w.stale-is w.changed-is (done_changed g (sym w.does_change.ensures ∙ (search (rules, w.if-does_change.true))) (sym c.is_restart.ensures ∙ w.if-is_restart.false) w.make_changes-stale.new.here (rw (← w.first_change-first.ensures, ← w.second_change-second.ensures) w.make_changes-stale.ensures.made) (w.make_changes-stale.array_long, w.make_changes-stale.array_long2) (λ z. w.make_changes-stale.ensures.beside z (beside c.before.before.before.before.before.before).mirrors))) | else-is_restart+else-does_change+then-put-lt-CHANNELS w ↦ (absurd (true≢false (sym h ∙ sym w.does_change.ensures ∙ (search (rules, w.if-does_change.false))))) | else-is_restart+else-does_change+else-put-lt-CHANNELS+then-pass-lt-CHANNELS+then-end-lt-PARTITIONS+then-end-spot w ↦ (absurd (true≢false (sym h ∙ sym w.does_change.ensures ∙ (search (rules, w.if-does_change.false))))) | else-is_restart+else-does_change+else-put-lt-CHANNELS+then-pass-lt-CHANNELS+then-end-lt-PARTITIONS+else-end-spot w ↦ (absurd (true≢false (sym h ∙ sym w.does_change.ensures ∙ (search (rules, w.if-does_change.false))))) | else-is_restart+else-does_change+else-put-lt-CHANNELS+then-pass-lt-CHANNELS+else-end-lt-PARTITIONS w ↦ (absurd (true≢false (sym h ∙ sym w.does_change.ensures ∙ (search (rules, w.if-does_change.false))))) | else-is_restart+else-does_change+else-put-lt-CHANNELS+else-pass-lt-CHANNELS w ↦ (absurd (true≢false (sym h ∙ sym w.does_change.ensures ∙ (search (rules, w.if-does_change.false))))) ]
-
--- a transfer
-did_pass : (c : Joined-is_restart) → changes c.if-slot-lt-PARTITIONS.d ≡ false → transfer_at c.if-slot-lt-PARTITIONS.d < channel_limit → Done (settled c.loop-i.spot c.loop-i.here c.loop-i.m) c.plan_of-x.result c.reply_of-reply.result c.if-x-spot.spot c.if-is_restart.m c.if-is_restart.here c.if-is_restart.currents c.if-is_restart.objects c.if-stale.run c.if-is_restart.soon c.if-is_restart.stale c.if-is_restart.changed
-did_pass c = λ h n.
-    let g = ready c.before in
-    elim c.if-is_restart.branch [ then-is_restart w ↦ (absurd (true≢false (sym (restart_changes c.if-slot-lt-PARTITIONS.d (sym c.is_restart.ensures ∙ w.if-is_restart.true)) ∙ h))) | else-is_restart+then-does_change w ↦ (absurd (true≢false (sym (sym w.does_change.ensures ∙ (search (rules, w.if-does_change.true))) ∙ h))) | else-is_restart+else-does_change+then-put-lt-CHANNELS w ↦ (absurd (one_of c.if-slot-lt-PARTITIONS.d c.message_at-put.ensures w.if-put-lt-CHANNELS.true n)) | else-is_restart+else-does_change+else-put-lt-CHANNELS+then-pass-lt-CHANNELS+then-end-lt-PARTITIONS+then-end-spot w ↦ (done_as_holds refl w.here-is w.currents-is w.objects-is w.soon-is w.stale-is w.changed-is (done_here g _ c.transfer_at-pass.ensures w.if-pass-lt-CHANNELS.true w.transfer_of-transfer.ensures _ w.change.ensures _ w.ended_slot-end.ensures w.if-end-lt-PARTITIONS.true w.if-end-spot.true w.after_transfer-here.result w.after_transfer-here.ensures _ w.m-is)) | else-is_restart+else-does_change+else-put-lt-CHANNELS+then-pass-lt-CHANNELS+then-end-lt-PARTITIONS+else-end-spot w ↦ (done_as_holds refl w.here-is w.currents-is w.objects-is w.soon-is w.stale-is w.changed-is (done_there g _ c.transfer_at-pass.ensures w.if-pass-lt-CHANNELS.true w.transfer_of-transfer.ensures _ w.change.ensures _ w.ended_slot-end.ensures w.if-end-lt-PARTITIONS.true w.if-end-spot.false w.after_transfer-q.result w.after_transfer-q.ensures _ w.m-is)) | else-is_restart+else-does_change+else-put-lt-CHANNELS+then-pass-lt-CHANNELS+else-end-lt-PARTITIONS w ↦ (done_as_holds refl w.here-is w.currents-is w.objects-is w.soon-is w.stale-is w.changed-is (done_moved g _ c.transfer_at-pass.ensures w.if-pass-lt-CHANNELS.true w.transfer_of-transfer.ensures _ w.change.ensures _ w.ended_slot-end.ensures w.if-end-lt-PARTITIONS.false _ w.m-is)) | else-is_restart+else-does_change+else-put-lt-CHANNELS+else-pass-lt-CHANNELS w ↦ (absurd (not_far c.transfer_at-pass.ensures w.if-pass-lt-CHANNELS.false n)) ]
-
--- a message on a channel, or nothing
-did_else : (c : Joined-is_restart) → changes c.if-slot-lt-PARTITIONS.d ≡ false → channel_limit ≤ transfer_at c.if-slot-lt-PARTITIONS.d → Done (settled c.loop-i.spot c.loop-i.here c.loop-i.m) c.plan_of-x.result c.reply_of-reply.result c.if-x-spot.spot c.if-is_restart.m c.if-is_restart.here c.if-is_restart.currents c.if-is_restart.objects c.if-stale.run c.if-is_restart.soon c.if-is_restart.stale c.if-is_restart.changed
-did_else c = λ h n.
-    let g = ready c.before in
-    elim c.if-is_restart.branch [ then-is_restart w ↦ (absurd (true≢false (sym (restart_changes c.if-slot-lt-PARTITIONS.d (sym c.is_restart.ensures ∙ w.if-is_restart.true)) ∙ h))) | else-is_restart+then-does_change w ↦ (absurd (true≢false (sym (sym w.does_change.ensures ∙ (search (rules, w.if-does_change.true))) ∙ h))) | else-is_restart+else-does_change+then-put-lt-CHANNELS w ↦ (done_as_holds refl w.here-is w.currents-is w.objects-is w.soon-is w.stale-is w.changed-is (done_written g _ c.message_at-put.ensures w.if-put-lt-CHANNELS.true w.message_of-message.ensures _ w.m-is)) | else-is_restart+else-does_change+else-put-lt-CHANNELS+then-pass-lt-CHANNELS+then-end-lt-PARTITIONS+then-end-spot w ↦ (absurd (not_near c.transfer_at-pass.ensures w.if-pass-lt-CHANNELS.true n)) | else-is_restart+else-does_change+else-put-lt-CHANNELS+then-pass-lt-CHANNELS+then-end-lt-PARTITIONS+else-end-spot w ↦ (absurd (not_near c.transfer_at-pass.ensures w.if-pass-lt-CHANNELS.true n)) | else-is_restart+else-does_change+else-put-lt-CHANNELS+then-pass-lt-CHANNELS+else-end-lt-PARTITIONS w ↦ (absurd (not_near c.transfer_at-pass.ensures w.if-pass-lt-CHANNELS.true n)) | else-is_restart+else-does_change+else-put-lt-CHANNELS+else-pass-lt-CHANNELS w ↦ (done_as_holds w.m-is w.here-is w.currents-is w.objects-is w.soon-is w.stale-is w.changed-is (done_same g (sym w.does_change.ensures ∙ (search (rules, w.if-does_change.false))) _ _ c.message_at-put.ensures w.if-put-lt-CHANNELS.false c.transfer_at-pass.ensures w.if-pass-lt-CHANNELS.false)) ]
-
--- each way through the event
-did : (c : Joined-is_restart) → Done (settled c.loop-i.spot c.loop-i.here c.loop-i.m) c.plan_of-x.result c.reply_of-reply.result c.if-x-spot.spot c.if-is_restart.m c.if-is_restart.here c.if-is_restart.currents c.if-is_restart.objects c.if-stale.run c.if-is_restart.soon c.if-is_restart.stale c.if-is_restart.changed
-did c = either (changes c.if-slot-lt-PARTITIONS.d) (did_change c) (λ h. either (ltb (transfer_at c.if-slot-lt-PARTITIONS.d) channel_limit) (λ n. did_pass c h (ltb-true _ channel_limit n)) (λ n. did_else c h (ltb-false _ channel_limit n)))
+    elim c.match-d.branch [
+      | in-Refused w ↦ (done_as_holds w.m-is w.here-is w.currents-is w.objects-is w.soon-is w.stale-is w.changed-is (let q = nothing_done _ w.in-Refused.is in done_same g q.0 _ _ q.1 (omega arith) q.2 (omega arith)))
+      | in-Blocked w ↦ (done_as_holds w.m-is w.here-is w.currents-is w.objects-is w.soon-is w.stale-is w.changed-is (done_changed g (ap changes w.in-Blocked.is) (ap restarts w.in-Blocked.is) w.make_change-stale.new.here (w.make_change-stale.ensures.made ∙ rw (ap first_change w.in-Blocked.is, ap second_change w.in-Blocked.is)) (w.make_change-stale.array_long, w.make_change-stale.array_long2) (λ z. w.make_change-stale.ensures.beside z g.beside.mirrors)))
+      | in-Changed w ↦ (done_as_holds w.m-is w.here-is w.currents-is w.objects-is w.soon-is w.stale-is w.changed-is (done_changed g (ap changes w.in-Changed.is) (ap restarts w.in-Changed.is) w.make_changes-stale.new.here (w.make_changes-stale.ensures.made ∙ rw (ap first_change w.in-Changed.is, ap second_change w.in-Changed.is)) (w.make_changes-stale.array_long, w.make_changes-stale.array_long2) (λ z. w.make_changes-stale.ensures.beside z g.beside.mirrors)))
+      | in-Restarted w ↦ (done_as_holds w.m-is w.here-is w.currents-is w.objects-is w.soon-is w.stale-is w.changed-is (done_restarted g (ap restarts w.in-Restarted.is) (sym (ap mode_of w.in-Restarted.is)) w.restart-m.result w.restart-m.ensures _ refl))
+      | in-Written+then-put-lt-CHANNELS w ↦ (done_as_holds refl w.here-is w.currents-is w.objects-is w.soon-is w.stale-is w.changed-is (done_written g _ (sym (ap message_at w.in-Written.is)) w.if-put-lt-CHANNELS.true (sym (ap message_of w.in-Written.is)) _ w.m-is))
+      | in-Written+else-put-lt-CHANNELS w ↦ (done_as_holds w.m-is w.here-is w.currents-is w.objects-is w.soon-is w.stale-is w.changed-is (done_same g (ap changes w.in-Written.is) _ _ (sym (ap message_at w.in-Written.is)) w.if-put-lt-CHANNELS.false (sym (ap transfer_at w.in-Written.is)) (omega arith)))
+      | in-Passed+then-pass-lt-CHANNELS+then-end-lt-PARTITIONS+then-end-spot w ↦ (done_as_holds refl w.here-is w.currents-is w.objects-is w.soon-is w.stale-is w.changed-is (done_here g _ (sym (ap transfer_at w.in-Passed.is)) w.if-pass-lt-CHANNELS.true (sym (ap transfer_of w.in-Passed.is)) _ w.change.ensures _ w.ended_slot-end.ensures w.if-end-lt-PARTITIONS.true w.if-end-spot.true w.after_transfer-here.result w.after_transfer-here.ensures _ w.m-is))
+      | in-Passed+then-pass-lt-CHANNELS+then-end-lt-PARTITIONS+else-end-spot w ↦ (done_as_holds refl w.here-is w.currents-is w.objects-is w.soon-is w.stale-is w.changed-is (done_there g _ (sym (ap transfer_at w.in-Passed.is)) w.if-pass-lt-CHANNELS.true (sym (ap transfer_of w.in-Passed.is)) _ w.change.ensures _ w.ended_slot-end.ensures w.if-end-lt-PARTITIONS.true w.if-end-spot.false w.after_transfer.result w.after_transfer.ensures _ w.m-is))
+      | in-Passed+then-pass-lt-CHANNELS+else-end-lt-PARTITIONS w ↦ (done_as_holds refl w.here-is w.currents-is w.objects-is w.soon-is w.stale-is w.changed-is (done_moved g _ (sym (ap transfer_at w.in-Passed.is)) w.if-pass-lt-CHANNELS.true (sym (ap transfer_of w.in-Passed.is)) _ w.change.ensures _ w.ended_slot-end.ensures w.if-end-lt-PARTITIONS.false _ w.m-is))
+      | in-Passed+else-pass-lt-CHANNELS w ↦ (done_as_holds w.m-is w.here-is w.currents-is w.objects-is w.soon-is w.stale-is w.changed-is (done_same g (ap changes w.in-Passed.is) _ _ (sym (ap message_at w.in-Passed.is)) (omega arith) (sym (ap transfer_at w.in-Passed.is)) w.if-pass-lt-CHANNELS.false))
+    ]
 
 -- and so after the event
-left_beside : (c : Joined-changed) → Beside c.if-is_restart.here c.if-stale-2.currents c.if-stale-2.objects c.if-changed.run
+left_beside : (c : Joined-changed) → Beside c.match-d.here c.if-stale-2.currents c.if-stale-2.objects c.if-changed.run
 left_beside c =
     let b = did c.before.before in
-    let mir : Mirrors c.if-is_restart.here c.if-stale-2.currents c.if-stale-2.objects = elim c.if-stale-2.branch [ then-stale-2 w ↦ (rw (w.currents-is, w.objects-is) (mirrors_filled _ _ b.sizes w.fill-then-stale-2.ensures)) | else-stale-2 w ↦ (rw (w.currents-is, w.objects-is) (b.mirrors w.if-stale-2.false)) ] in
+    let mir : Mirrors c.match-d.here c.if-stale-2.currents c.if-stale-2.objects = elim c.if-stale-2.branch [ then-stale-2 w ↦ (rw (w.currents-is, w.objects-is) (mirrors_filled _ _ b.sizes w.fill-then-stale-2.ensures)) | else-stale-2 w ↦ (rw (w.currents-is, w.objects-is) (b.mirrors w.if-stale-2.false)) ] in
     elim c.if-changed.branch [ then-changed w ↦ (rw w.run-is (beside_looked mir w.running-run-then-changed.ensures)) | else-changed w ↦ (rw w.run-is (record { mirrors = mir; runs = b.runs w.if-changed.false })) ]
 
 -- the running process shown
-shown : (c : Joined-x-lt-PARTITIONS) → c.if-x-lt-PARTITIONS.running ≡ cond (sees c.plan_of-x.result.request c.plan_of-x.result.current) (running_in c.plan_of-x.result.current (settled c.if-x-spot.spot c.if-is_restart.here c.if-is_restart.m)) 0
+shown : (c : Joined-x-lt-PARTITIONS) → c.if-x-lt-PARTITIONS.running ≡ cond (sees c.plan_of-x.result.request c.plan_of-x.result.current) (running_in c.plan_of-x.result.current (settled c.if-x-spot.spot c.match-d.here c.match-d.m)) 0
 shown c =
-    let f = planned c.before.before.before.before.before.before.before.before.before.before.before.before.before.before.before in
+    let f = planned c.before.before.before.before.before.before.before.before.before.before.before.before in
     let b = did c.before.before.before.before in
-    let size : length c.if-is_restart.m.partitions ≡ partition_limit = sym (length-set c.if-is_restart.m.partitions c.if-x-spot.spot c.if-is_restart.here) ∙ b.after.long in
-    elim c.if-x-lt-PARTITIONS.branch [ then-x-lt-PARTITIONS w ↦ (let e = shown_spot f w.if-x-lt-PARTITIONS.true in runs_shown f b.after w.if-x-lt-PARTITIONS.true (w.running-is ∙ running_at c.if-is_restart.m c.if-x-spot.spot c.if-is_restart.here c.plan_of-x.result.spot (arrived c.before.before.before.before.before.before.before.before.before.before.before).1 (rw e at w.if-x-lt-PARTITIONS.true) size (left_beside c.before.before).runs)) | else-x-lt-PARTITIONS w ↦ (w.running-is ∙ none_shown f b.after w.if-x-lt-PARTITIONS.false) ]
+    let size : length c.match-d.m.partitions ≡ partition_limit = sym (length-set c.match-d.m.partitions c.if-x-spot.spot c.match-d.here) ∙ b.after.long in
+    elim c.if-x-lt-PARTITIONS.branch [ then-x-lt-PARTITIONS w ↦ (let e = shown_spot f w.if-x-lt-PARTITIONS.true in runs_shown f b.after w.if-x-lt-PARTITIONS.true (w.running-is ∙ running_at c.match-d.m c.if-x-spot.spot c.match-d.here c.plan_of-x.result.spot (arrived c.before.before.before.before.before.before.before.before).1 (rw e at w.if-x-lt-PARTITIONS.true) size (left_beside c.before.before).runs)) | else-x-lt-PARTITIONS w ↦ (w.running-is ∙ none_shown f b.after w.if-x-lt-PARTITIONS.false) ]
 
 begins_long : (c : Start) → length c.args.self.inner.partitions ≡ partition_limit
 begins_long c = search (rules, length_mapped)
@@ -193,14 +190,14 @@ loop-i-smaller c = omega (arith, c.loop-i-test.true)
 
 pub loop-i-preserved : goal.loop-i-preserved
 loop-i-preserved c =
-    let b = did (goal.at.loop-i-preserved c).Joined-is_restart in
+    let b = did (goal.at.loop-i-preserved c).Joined-d in
     let a = b.after in (
       goes_on c.loop-i.invariant.0 c.loop-i-test.true c.event_at.ensures (event_answered (planned (goal.at.loop-i-preserved c).After-plan_of-x) a (shown (goal.at.loop-i-preserved c).Joined-x-lt-PARTITIONS) c.answer_of-last.ensures) a.long a.held c.put_answer.ensures,
       c.loop-i.invariant.1,
       window (goal.at.loop-i-preserved c).Joined-first-m ∙ ap (lookup c.args.self.inner.table) (sym (a.clock ∙ ap (λ (v : Plan). v.time) (c.plan_of-x.ensures c.args.self.inner.table refl))),
       left_beside (goal.at.loop-i-preserved c).Joined-changed,
       b.early,
-      sym (length-set c.if-is_restart.m.partitions c.if-x-spot.spot c.if-is_restart.here) ∙ a.long,
+      sym (length-set c.match-d.m.partitions c.if-x-spot.spot c.match-d.here) ∙ a.long,
     )
 
 pub returns-then-spot-lt-PARTITIONS-3 : goal.returns-then-spot-lt-PARTITIONS-3
@@ -208,24 +205,6 @@ returns-then-spot-lt-PARTITIONS-3 c = ends c.loop-i.invariant.0 c.loop-i-test.fa
 
 pub returns-else-spot-lt-PARTITIONS-3 : goal.returns-else-spot-lt-PARTITIONS-3
 returns-else-spot-lt-PARTITIONS-3 c = let e = ends c.loop-i.invariant.0 c.loop-i-test.false in (sym (settled_past c.loop-i.spot c.loop-i.here c.loop-i.m (omega (arith, c.if-spot-lt-PARTITIONS-3.false, c.loop-i.invariant.5))) ∙ e.0, e.1, e.2)
-
-restart_in : (c : Then-is_restart) → c.plan_of-x.result.slot < partition_limit
-restart_in c = let g = ready c.before in restarts_in (planned c.before.before.before.before.before.before.before.before.before.before.before) c.if-x-spot.spot c.if-x-spot.here c.if-x-spot.m g.ticked g.long g.here c.if-slot-lt-PARTITIONS.d g.decides (sym c.is_restart.ensures ∙ c.if-is_restart.true)
-
-change_in : (c : Then-does_change) → c.plan_of-x.result.slot < partition_limit
-change_in c = let g = ready c.before.before.before in changes_in (planned c.before.before.before.before.before.before.before.before.before.before.before.before.before) c.if-x-spot.spot c.if-x-spot.here c.if-x-spot.m g.ticked g.long g.here c.if-slot-lt-PARTITIONS.d g.decides (sym c.does_change.ensures ∙ (search (rules, c.if-does_change.true)))
-
-pub offset_bounds-m-slot : goal.offset_bounds-m-slot
-offset_bounds-m-slot c = search (rules, restart_in (goal.at.offset_bounds-m-slot c).Then-is_restart)
-
-pub bounds-m-slot : goal.bounds-m-slot
-bounds-m-slot c = search (rules, restart_in (goal.at.bounds-m-slot c).Then-is_restart)
-
-pub offset_bounds-soon-slot : goal.offset_bounds-soon-slot
-offset_bounds-soon-slot c = search (rules, change_in (goal.at.offset_bounds-soon-slot c).Then-does_change)
-
-pub bounds-soon-slot : goal.bounds-soon-slot
-bounds-soon-slot c = search (rules, change_in (goal.at.bounds-soon-slot c).Then-does_change)
 
 pub offset_bounds-m-put : goal.offset_bounds-m-put
 offset_bounds-m-put c = omega (arith, c.if-put-lt-CHANNELS.true)

@@ -1,9 +1,0 @@
--- The bytes that are read lie at the buffer's front.
-use Rattle.std.proofs.Common.{◌≤◌, ◌-◌, length}
-use Rattle.damaged_lines.proofs.read_full.Given as goal
-
-abbrev pub invariant-loop-at : goal.invariant-loop-at
-invariant-loop-at g l = l.at ≤ length l.input
-
-abbrev pub decreases-loop-at : goal.decreases-loop-at
-decreases-loop-at g l = length l.input - l.at

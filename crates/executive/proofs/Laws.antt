@@ -12,15 +12,15 @@ use lib.Seq.{set_out}
 use mir.Syntax.{w64}
 use mir.Val.{to_z, of_z, SFits}
 use mir.ValLaws.{to_z-of_z}
-use borrow.Author.Tests.{ne_eqb, lt-ltb, ltb-true, ltb-false, eqb-true, eqb-false, leb-true, not-false}
-use Rattle.machine.specs.Channels.{port_at, port_of, queuing_at, sees_traffic, other_end, other_queue, no_traffic, traffic_of, passed, leads_into, kept_to, refilled_to}
+use borrow.Author.Tests.{ne_eqb, ltb-true, ltb-false, eqb-true, eqb-false, leb-true, not-false}
+use Rattle.machine.specs.Channels.{port_at, port_of, sees_traffic, other_end, other_queue, no_traffic, traffic_of, passed, leads_into, kept_to, refilled_to}
 use Rattle.machine.specs.Decisions.{no_caller_as, coded, checked, code_of, reply_of, no_message}
 use Rattle.machine.specs.Questions.{changes, restarts, message_at, message_of, transfer_at, transfer_of}
 use Rattle.machine.specs.Messages.{no_queue, moved, ends_wait}
 use Rattle.machine.specs.Fields.{request_of, number_of}
 use Rattle.machine.specs.Limits.{partition_limit, channel_limit}
 use Rattle.machine.specs.Module.{no_partition, channel, part, message, queue, current, ticks_left, running_in, with_part, with_message, with_queue, with_time}
-use Rattle.machine.specs.Partition.{within, running, ended_by, partition_after}
+use Rattle.machine.specs.Partition.{running, ended_by, partition_after}
 use Rattle.machine.specs.Places.{no_caller, ticks, event_checks, first_checks}
 use Rattle.machine.specs.Services.{called}
 use Rattle.machine.specs.Step.{context_of, decision, module_after, sees, answer_to, stepped, step}
@@ -45,14 +45,12 @@ use Rattle.machine.specs.Windows.{Waiting}
 use Rattle.machine.proofs.Applied.{NoTick, called_no_tick, after_changed, after_restarted, after_written, after_passed, after_same}
 use Rattle.machine.proofs.Reached.{refilled_table}
 use Rattle.machine.proofs.Restarts.{refilled_time, refilled_sizes}
-use Rattle.machine.proofs.Bounds.{within_out}
 use Rattle.machine.proofs.Either.{either}
 use Rattle.machine.proofs.EveryCall.{release_unseen}
 use Rattle.machine.proofs.Folds.{tick_to_none}
 use Rattle.machine.proofs.Tests.{by_test, codes_in, Passed, code_refuses, code_passes, and_left, and_right, or_left, or_right}
 use Rattle.places.specs.Placed.{placed_at}
 use Rattle.places.specs.declared.Placed.{Placed}
-use Rattle.queuing.proofs.Laws.{placed}
 use Rattle.events.specs.Plans.{call_checks, tick_count, slot_of, call_slot, takes_start_rule, release_for, shown_slot, planned, plan_of, answer_of}
 use Rattle.events.specs.declared.Plan.{Plan}
 use Rattle.executive.specs.Executive.{turned}
@@ -183,33 +181,6 @@ get_d_any : {A : Type 0} (l : List A) (i : ℕ) (d e : A) → i < length l → g
 get_d_any [] i d e h = absurd (omega arith)
 get_d_any (x ∷ l) zero d e h = refl
 get_d_any (x ∷ l) (suc i) d e h = get_d_any l i d e (omega arith)
-
--- where the partition at the other end lies, past the last where no traffic is seen
-module _ (T : Table) (long : length T.channels ≡ channel_limit) (k i : ℕ) {n : ℕ} (e : n ≡ cond (sees_traffic T k i) (other_end k (channel T i) - 1) partition_limit) where
-  sees_it : n < partition_limit → sees_traffic T k i ≡ true
-  sees_it h = either (sees_traffic T k i) (λ t. t) (λ t. let z : n ≡ partition_limit = e ∙ rw t in absurd (omega arith))
-
-  pub seen_place : n < partition_limit → i < channel_limit
-  seen_place h = placed T i long (and_right (ltb i T.channel_count) _ (and_left (queuing_at T i) _ (sees_it h)))
-
-  pub seen_here : n < partition_limit → (q : Module) → Held q → {o : ℕ} → o ≡ cond (ltb i channel_limit) (other_queue k i (channel T i)) 0 → {v : Traffic} → v ≡ traffic_of (get_or q.queues i past_queue) o (part q n) → v ≡ seen_traffic T q k i
-  seen_here h q l {o} is {v} g =
-      let at : n ≡ other_end k (channel T i) - 1 = e ∙ rw (sees_it h) in
-      let object : o ≡ other_queue k i (channel T i) = is ∙ rw (lt-ltb i channel_limit (seen_place h)) in
-      let same : get_or q.queues i past_queue ≡ queue q i = get_d_any q.queues i past_queue no_queue (let z = seen_place h in omega (arith, l.1)) in
-      g ∙ rw (object, at, sees_it h, same)
-
-  pub seen_none : partition_limit ≤ n → (q : Module) {v : Traffic} → v ≡ no_traffic → v ≡ seen_traffic T q k i
-  seen_none h q g = either (sees_traffic T k i) (λ t. absurd (near t)) (λ t. g ∙ rw t)
-    where
-      near : sees_traffic T k i ≡ true → ⊥
-      near t =
-          let c = channel T i in
-          let z = and_right (ltb 0 c.size) _ (and_right (ltb i T.channel_count) _ (and_left (queuing_at T i) _ t)) in
-          let a = within_out partition_limit c.source (and_left (within partition_limit c.source) _ z) in
-          let b = within_out partition_limit c.destination (and_right (within partition_limit c.source) _ z) in
-          let at : n ≡ other_end k c - 1 = e ∙ rw t in
-          by_test (λ (j : ℕ). n ≡ j - 1 → ⊥) (eqb c.source k) (λ _ y. omega (arith, b.0, b.1)) (λ _ y. omega (arith, a.0, a.1)) at
 
 -- record and reply after an event are the machine's, and the record has its places; the window was looked up as it is then
 pub record After (m : Module) (r : Request) (now t : ℕ) (q : Module) (b : Reply) : Type 0 where

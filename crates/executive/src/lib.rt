@@ -266,10 +266,9 @@ fn traffic_for(
     requires { HasPlaces m.now }
     ensures { line ≡ channel m.now.table place → result ≡ traffic_at (settled spot here.now m.now) own place }
 {
-    let seen = queuing::seen_slot(m.table.channel_count, line, own, place);
-    if Module::PARTITIONS <= seen {
+    let Some(seen) = queuing::seen_slot(m.table.channel_count, line, own, place) else {
         return queuing::no_traffic();
-    }
+    };
     let Some(queue) = m.queues.get(place) else {
         return queuing::no_traffic();
     };

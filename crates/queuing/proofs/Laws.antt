@@ -1,27 +1,28 @@
--- Places of queuing channels, the checks of a call that may wait at one, and the queues that a restart fills, channel by channel. Assumes
--- nothing.
-use Prim.Native.Nat.{ℕ, suc, ◌+◌, ◌<◌}
+-- The ends of queuing channels, and the queues that a restart fills, channel by channel. Assumes nothing.
+use Prim.Native.Nat.{ℕ, suc, ◌+◌, ◌-◌, ◌<◌}
 use mathlib.Core.Path.{◌≡◌, refl, ap, sym, ◌∙◌}
-use mathlib.Core.Bool.{Bool, true, false, cond, ◌&&◌, true≢false}
+use mathlib.Core.Bool.{Bool, true, false, cond, ◌&&◌}
 use native.Mathlib.Omega.{arith}
 use native.Mathlib.Numerals.{add-one}
-use lib.Dec.{leb}
-use lib.ListN.{length, get_or-eq_default}
-use borrow.Author.Tests.{leb-true, leb-false}
+use lib.Dec.{ltb, eqb}
 use Rattle.machine.specs.declared.Module.{Module}
 use Rattle.machine.specs.declared.Table.{Table}
-use Rattle.machine.specs.Limits.{channel_limit}
-use Rattle.machine.specs.Module.{no_channel, channel}
-use Rattle.machine.specs.Channels.{queuing, queuing_at, leads_into, refilled_at, refilled_to}
-use Rattle.machine.proofs.Tests.{and_left}
-use Rattle.machine.proofs.Either.{either}
+use Rattle.machine.specs.Limits.{partition_limit}
+use Rattle.machine.specs.Module.{channel}
+use Rattle.machine.specs.Channels.{queuing, other_end, queuing_at, leads_into, refilled_at, refilled_to}
+use Rattle.machine.proofs.Tests.{by_test, and_left, and_right}
+use Rattle.machine.specs.declared.Channel.{Channel}
+use Rattle.machine.specs.Partition.{within}
+use Rattle.machine.proofs.Bounds.{within_out}
 use Rattle.machine.proofs.Reached.{refilled_table}
 
--- ---------------------------------------------------------------- places
-pub placed : (T : Table) (i : ℕ) → length T.channels ≡ channel_limit → queuing (channel T i) ≡ true → i < channel_limit
-placed T i long h = either (leb channel_limit i)
-    (λ e. let g = leb-true channel_limit i e in absurd (true≢false (sym h ∙ ap queuing (get_or-eq_default T.channels no_channel (omega arith)))))
-    (λ e. leb-false channel_limit i e)
+-- both ends of a queuing channel are partitions that the record has places for
+pub end_within : (c : Channel) (k : ℕ) → queuing c ≡ true → other_end k c - 1 < partition_limit
+end_within c k h =
+    let z = and_right (ltb 0 c.size) _ h in
+    let a = within_out partition_limit c.source (and_left (within partition_limit c.source) _ z) in
+    let b = within_out partition_limit c.destination (and_right (within partition_limit c.source) _ z) in
+    by_test (λ (j : ℕ). j - 1 < partition_limit) (eqb c.source k) (λ _. omega (arith, b.0, b.1)) (λ _. omega (arith, a.0, a.1))
 
 -- ---------------------------------------------------------------- restarts
 pub refilled_none : (k : ℕ) (m : Module) → m ≡ refilled_to k 0 m

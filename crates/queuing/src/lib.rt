@@ -1,11 +1,11 @@
 // Queuing channels: what a call sees of their traffic, calls 30 and 31, and queues that a restart fills anew.
 #![tactic(auto)]
 
-ghost use Rattle.std.specs.Prelude.{◌≡◌, ℕ, ◌-◌, cond, ◌&&◌, ltb};
+ghost use Rattle.std.specs.Prelude.{◌≡◌, ℕ, ◌-◌, ◌<◌, cond, not, ◌&&◌, ltb, Some, None, IfSome};
 ghost use Rattle.machine.specs.Limits.{partition_limit, channel_limit};
 ghost use Rattle.machine.specs.Messages.{ends_wait};
 ghost use Rattle.machine.specs.Module.{channel};
-ghost use Rattle.machine.specs.Channels.{queuing_at, sees_traffic, other_end, other_queue, no_traffic, traffic_of, queuing_port, send, receive, leads_into, refilled_at, refilled_to};
+ghost use Rattle.machine.specs.Channels.{queuing, apart, queuing_at, sees_traffic, other_end, other_queue, no_traffic, traffic_of, queuing_port, send, receive, leads_into, refilled_at, refilled_to};
 ghost use Rattle.machine.specs.declared.Table.{Table as TableT};
 ghost use Rattle.queuing.specs.Ports.{number_at};
 ghost use Rattle.decisions.specs.Views.{Follows};
@@ -26,7 +26,7 @@ fn is_queuing_at(table: Table, i: usize) -> bool
 
 // Whether partition k sees the traffic of the channel at this place, which is this one of so many.
 fn sees_traffic(count: u8, c: Channel, k: u32, place: usize) -> bool
-    ensures { (T : TableT) → T.channel_count ≡ count → c ≡ channel T place → result ≡ sees_traffic T k place }
+    ensures { result ≡ ((ltb place count && queuing c) && not (apart k c)) }
 {
     place < count as usize && channels::is_queuing(c) && !channels::is_apart(c, k)
 }
@@ -48,19 +48,20 @@ fn end_slot(c: Channel, k: u32) -> usize
     usize::from(other_end(c, k)).saturating_sub(1)
 }
 
-// Where the partition at the other end lies, if partition k sees the traffic of the channel at this place, which is this one of so many;
-// past the last if not.
-pub fn seen_slot(count: u8, c: Channel, k: u32, place: usize) -> usize
-    ensures { (T : TableT) → T.channel_count ≡ count → c ≡ channel T place → result ≡ cond (sees_traffic T k place) (other_end k (channel T place) - 1) partition_limit }
+// Where the partition at the other end lies, if partition k sees the traffic of the channel at this place, which is this one of so many.
+#[tactic(auto, using(crate::proofs::Laws::end_within))]
+pub fn seen_slot(count: u8, c: Channel, k: u32, place: usize) -> Option<usize>
+    ensures slot { (T : TableT) → T.channel_count ≡ count → c ≡ channel T place → result ≡ cond (sees_traffic T k place) (Some (other_end k (channel T place) - 1)) None }
+    ensures within { IfSome result (λ i. i < partition_limit) }
 {
-    if k != 0 && sees_traffic(count, c, k, place) {
-        end_slot(c, k)
+    if sees_traffic(count, c, k, place) {
+        Some(end_slot(c, k))
     } else {
-        Module::PARTITIONS
+        None
     }
 }
 
-// Where it lies, if this transfer of partition k ends a wait there; past the last if not.
+// Where it lies, if this transfer of partition k ends a wait there; past the last, where no partition lies either, if not.
 pub fn ended_slot(table: Table, k: u32, place: usize, a: Transfer) -> usize
     ensures { result ≡ cond (ends_wait a) (other_end k (channel table place) - 1) partition_limit }
 {

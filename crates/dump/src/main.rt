@@ -4,16 +4,16 @@
 
 use machine::{
     Blackboard, Buffer, Channel, EventState, Ids, Message, Module, Partition, Process, Queue,
-    Semaphore, Table, Time, Wait,
+    Semaphore, Table, Wait,
 };
 use std::{fmt, io};
 
 // ---------------------------------------------------------------- words
-// A time, or -1 for never.
+// A number, or -1 for none.
 #[derive(Clone, Copy)]
-struct Moment(Time);
+struct OrMinusOne(Option<u32>);
 
-impl fmt::Display for Moment {
+impl fmt::Display for OrMinusOne {
     fn fmt<W: fmt::Write>(&self, f: &mut fmt::Formatter<W>) -> fmt::Result {
         match self.0 {
             Some(t) => write!(f, "{t}"),
@@ -55,15 +55,15 @@ fn print_process(rt: &impl Print, id: u8, x: Process) -> io::Result<()> {
     )?;
     print!(rt;
         " period {} capacity {}",
-        Moment(given.period),
-        Moment(given.capacity)
+        OrMinusOne(given.period),
+        OrMinusOne(given.capacity)
     )?;
     print!(rt;
         " release {} deadline {}",
-        Moment(times.release),
-        Moment(times.deadline)
+        OrMinusOne(times.release),
+        OrMinusOne(times.deadline)
     )?;
-    print!(rt; " wake {} delay {}", Moment(times.wake), times.delay)?;
+    print!(rt; " wake {} delay {}", OrMinusOne(times.wake), times.delay)?;
     print!(rt;
         " suspended {} missed {}",
         x.suspended as u8, x.missed as u8
@@ -102,8 +102,7 @@ fn print_buffer(rt: &impl Print, id: u8, b: Buffer) -> io::Result<()> {
 }
 
 fn print_blackboard(rt: &impl Print, id: u8, b: Blackboard) -> io::Result<()> {
-    let shown = if b.shown { Some(b.message) } else { None };
-    println!(rt; "blackboard {id} name {} message {}", b.name, Moment(shown))
+    println!(rt; "blackboard {id} name {} message {}", b.name, OrMinusOne(b.message))
 }
 
 fn print_ids(rt: &impl Print, q: Ids) -> io::Result<()> {
@@ -178,7 +177,8 @@ fn print_queues(rt: &impl Print, p: Partition) -> io::Result<()> {
 fn print_partition(rt: &impl Print, k: u32, p: Partition) -> io::Result<()> {
     print!(rt;
         "partition {k} mode {} processes {}",
-        p.mode, p.process_count
+        p.mode.number(),
+        p.process_count
     )?;
     print!(rt;
         " semaphores {} events {}",
@@ -239,16 +239,16 @@ fn print_windows(rt: &impl Print, table: Table) -> io::Result<()> {
     Ok(())
 }
 
-fn print_message(rt: &impl Print, x: Message) -> io::Result<()> {
-    if x.present {
-        println!(rt; " message {} written {}", x.value, x.written)
-    } else {
-        println!(rt; " message -1 written -1")
-    }
+fn print_message(rt: &impl Print, held: Option<Message>) -> io::Result<()> {
+    println!(rt;
+        " message {} written {}",
+        OrMinusOne(held.map(|x| x.value)),
+        OrMinusOne(held.map(|x| x.written))
+    )
 }
 
 // What a channel holds: the messages of a queuing one, or the message of a sampling one.
-fn print_content(rt: &impl Print, c: Channel, x: Message, q: Queue) -> io::Result<()> {
+fn print_content(rt: &impl Print, c: Channel, x: Option<Message>, q: Queue) -> io::Result<()> {
     if channels::is_queuing(c) {
         return print_limited(rt, c.size, q);
     }

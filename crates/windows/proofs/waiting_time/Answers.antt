@@ -12,4 +12,4 @@ pub returns-then-not-is_between-2 : goal.returns-then-not-is_between-2
 returns-then-not-is_between-2 c = waiting_stranger c.args.table _ _ _ _ _ _ (told _ c.ranges.t _ c.from-at.ensures) (told _ c.ranges.k _ c.from-own.ensures) c.is_between.ensures (c.is_between-2.ensures ∙ ap (λ (n : ℕ). between 1 n c.from-own.result) c.from.ensures) c.if-not-is_between.false-raw c.if-not-is_between-2.true-raw
 
 pub returns : goal.returns
-returns c = waiting_given c.args.table _ _ _ _ _ _ (told _ c.ranges.t _ c.from-at.ensures) (told _ c.ranges.k _ c.from-own.ensures) c.is_between.ensures (c.is_between-2.ensures ∙ ap (λ (n : ℕ). between 1 n c.from-own.result) c.from.ensures) _ _ _ c.number_of.ensures c.number_of-2.ensures c.next_start.ensures c.if-not-is_between.false-raw c.if-not-is_between-2.false-raw
+returns c = waiting_given c.args.table _ _ _ _ _ _ (told _ c.ranges.t _ c.from-at.ensures) (told _ c.ranges.k _ c.from-own.ensures) c.is_between.ensures (c.is_between-2.ensures ∙ ap (λ (n : ℕ). between 1 n c.from-own.result) c.from.ensures) _ _ _ c.number_of-2.ensures c.number_of.ensures c.next_start.ensures c.if-not-is_between.false-raw c.if-not-is_between-2.false-raw

@@ -102,7 +102,11 @@ fn print_buffer(rt: &impl Print, id: u8, b: Buffer) -> io::Result<()> {
 }
 
 fn print_blackboard(rt: &impl Print, id: u8, b: Blackboard) -> io::Result<()> {
-    println!(rt; "blackboard {id} name {} message {}", b.name, OrMinusOne(b.message))
+    println!(rt;
+        "blackboard {id} name {} message {}",
+        b.name,
+        OrMinusOne(b.message)
+    )
 }
 
 fn print_ids(rt: &impl Print, q: Ids) -> io::Result<()> {

@@ -3,10 +3,11 @@
 
 ghost use Rattle.std.specs.Prelude.{◌≡◌, ◌/◌, length, drop, ltb};
 ghost use Rattle.machine.specs.Limits.{line_length};
-ghost use Rattle.machine.specs.Line.{lines, read_at, written, written_at};
+ghost use Rattle.machine.specs.Line.{lines, numbers_of, read_at, written, written_at};
+ghost use Rattle.machine.specs.Windows.{waited};
 ghost use Rattle.machine.specs.Replay.{line_next, line_answer, refusal_numbers, text_into, replayed_into};
 ghost use Rattle.whole_input.specs.WholeInput.{no_room, refusal_printed, Counts, shown_length, shown_into, printed_text, printed};
-ghost use Rattle.whole_input.specs.WaitingTimes.{is_question, gets, line_waiting, asked};
+ghost use Rattle.whole_input.specs.WaitingTimes.{is_question, gets, waiting_numbers, line_waiting, asked};
 
 use executive::Executive;
 use machine::{Line, Module, Numbers, Refusal, Row};
@@ -139,15 +140,22 @@ fn waiting_of(e: Executive, l: Line) -> Result<u32, Refusal>
     e.waiting_time(n.n1, n.n2)
 }
 
+// Code, n, four 0: the waiting time, or the number of why there is none.
+fn waiting_numbers(w: Result<u32, Refusal>) -> Numbers
+    ensures { result ≡ numbers_of (waiting_numbers (waited w)) }
+{
+    match w {
+        Ok(n) => event_lines::refusal(0, n),
+        Err(e) => event_lines::refusal(e.code(), 0),
+    }
+}
+
 // The answer to the line at a position of the input, written at a position of the output: code, n, four 0.
 fn ask_line(e: Executive, input: &[u8], at: usize, out: &mut [u8], to: usize)
     ensures { out.new ≡ written_at to out.old (line_waiting e.inner.table (read_at input.now at)) }
 {
-    let (code, n) = match waiting_of(e, line::read_at(input, at)) {
-        Ok(n) => (0, n),
-        Err(e) => (e.code(), 0),
-    };
-    let _ = line::write_at(out, to, event_lines::refusal(code, n));
+    let w = waiting_of(e, line::read_at(input, at));
+    let _ = line::write_at(out, to, waiting_numbers(w));
 }
 
 // Reads a table, then a question a line, and prints one answer line for each; or the one line of a bad table. Where the output is too

@@ -9,4 +9,4 @@ returns c =
     let a = c.args in
     let read = c.read_at in
     let line = waiting_line a.e.inner.table read.result _ (reads read.result _ read.ensures) _ c.waiting_of-w.ensures in
-    c.write_at.ensures.1 ∙ rw c.refusal.ensures (ap (written_at a.to a.out.now) line)
+    c.write_at.ensures.1 ∙ rw c.waiting_numbers.ensures (ap (written_at a.to a.out.now) line)

@@ -42,7 +42,7 @@ use Rattle.partition.proofs.Laws.{named_at, named_past}
 use Rattle.ticks.proofs.Laws.{tick_due, tick_later}
 use Rattle.resident.specs.Mirrors.{first_on, running_by, Mirrors}
 use Rattle.resident.specs.Settled.{settled}
-use Rattle.resident.proofs.Laws.{mirrors_first, mirrors_lengths, mirrors_running}
+use Rattle.resident.proofs.Laws.{mirrors_first, mirrors_running}
 use Rattle.resident.proofs.Settled.{settled_here, settled_there, settled_twice, settled_both, settled_past, settled_same}
 use Rattle.services.specs.Looked.{object_for, waiter_for}
 use Rattle.executive.specs.Lists.{Early}
@@ -60,15 +60,8 @@ pub beside_looked : {p : Partition} {cs os : List ℕ} → Mirrors p cs os → {
 beside_looked m e = record { mirrors = m; runs = e ∙ mirrors_running m }
 
 -- where they may be those of a record that was replaced, stale
-pub record Kept (stale : Bool) (p : Partition) (currents objects : List ℕ) (run : ℕ) : Type 0 where
-  pub sizes : (length currents ≡ process_limit) × (length objects ≡ process_limit)
-  pub fresh : stale ≡ false → Beside p currents objects run
-
-pub kept_fresh : {stale : Bool} {p : Partition} {cs os : List ℕ} {run : ℕ} → Beside p cs os run → Kept stale p cs os run
-kept_fresh b = record { sizes = mirrors_lengths b.mirrors; fresh = λ _. b }
-
-pub kept_stale : {p : Partition} {cs os : List ℕ} (run : ℕ) → (length cs ≡ process_limit) × (length os ≡ process_limit) → Kept true p cs os run
-kept_stale run h = record { sizes = h; fresh = λ z. absurd (true≢false z) }
+abbrev pub Kept : Bool → Partition → List ℕ → List ℕ → ℕ → Type 0
+Kept stale p currents objects run = stale ≡ false → Beside p currents objects run
 
 -- ---------------------------------------------------------------- the tick
 -- j partitions of the module M are ticked: the next one is the one that lies here, or another, or one that the tick leaves as it is
@@ -222,7 +215,7 @@ module _ {M : Module} {spot j : ℕ} {m : Module} {p : Partition} {cs os : List 
     state = tick_here m spot p M j h.state (rw h.long low) e x is;
     long = h.long;
     held = h.held;
-    kept = kept_stale run h.kept.sizes;
+    kept = λ z. absurd (true≢false z);
     early = early_set h.early all_long low x (omega (arith, soonest)) (rw e (sym (set-set m.partitions spot p x))) refl;
   }
 
@@ -249,7 +242,6 @@ module _ {M : Module} {spot j : ℕ} {m : Module} {p : Partition} {cs os : List 
 -- the answer, and what lies here after it
 pub record Done (M : Module) (x : Plan) (b : Reply) (spot : ℕ) (m : Module) (p : Partition) (currents objects : List ℕ) (run : ℕ) (soon : List ℕ) (stale changed : Bool) : Type 0 where
   pub after : After M x.request x.current x.time (settled spot p m) b
-  pub sizes : (length currents ≡ process_limit) × (length objects ≡ process_limit)
   pub mirrors : stale ≡ false → Mirrors p currents objects
   pub runs : changed ≡ false → run ≡ running p
   pub early : Early (settled spot p m) soon
@@ -286,24 +278,20 @@ module _ {M : Module} {e : Event} {T : Table} {x : Plan} {f : Planned M e T x} {
   abbrev says : b ≡ reply_of d
   says = known.says
 
-  abbrev same_sizes : (length cs ≡ process_limit) × (length os ≡ process_limit)
-  same_sizes = mirrors_lengths beside.mirrors
-
   lengths : length (settled spot p m).partitions ≡ partition_limit
   lengths = length-set m.partitions spot p ∙ long
 
   pub done_same : changes d ≡ false → (i k : ℕ) → i ≡ message_at d → channel_limit ≤ i → k ≡ transfer_at d → channel_limit ≤ k → Done M x b spot m p cs os run soon false false
-  done_same c i k ei h ek h' = record { after = did_same f spot p m ticked long here d decides says c (rw ei at h) (rw ek at h'); sizes = same_sizes; mirrors = λ _. beside.mirrors; runs = λ _. beside.runs; early = early }
+  done_same c i k ei h ek h' = record { after = did_same f spot p m ticked long here d decides says c (rw ei at h) (rw ek at h'); mirrors = λ _. beside.mirrors; runs = λ _. beside.runs; early = early }
 
   pub done_written : (k : ℕ) → k ≡ message_at d → k < channel_limit → {a : Option Message} → a ≡ message_of d → (y : Module) → y ≡ with_message k a m → Done M x b spot y p cs os run soon false false
-  done_written k ek h is y g = record { after = did_written f spot p m ticked long here d decides says (rw ek at h) is y (rw ek at g); sizes = same_sizes; mirrors = λ _. beside.mirrors; runs = λ _. beside.runs; early = early_same early (ap (λ (z : Module). set z.partitions spot p) g) refl }
+  done_written k ek h is y g = record { after = did_written f spot p m ticked long here d decides says (rw ek at h) is y (rw ek at g); mirrors = λ _. beside.mirrors; runs = λ _. beside.runs; early = early_same early (ap (λ (z : Module). set z.partitions spot p) g) refl }
 
-  pub done_changed : changes d ≡ true → restarts d ≡ false → (z : Partition) → z ≡ applied (second_change d) (applied (first_change d) p) → {cs' os' : List ℕ} {stale : Bool} → (length cs' ≡ process_limit) × (length os' ≡ process_limit) → (stale ≡ false → Mirrors z cs' os') → Done M x b spot m z cs' os' run (set soon x.slot 0) stale true
-  done_changed c r z g sizes mir =
+  pub done_changed : changes d ≡ true → restarts d ≡ false → (z : Partition) → z ≡ applied (second_change d) (applied (first_change d) p) → {cs' os' : List ℕ} {stale : Bool} → (stale ≡ false → Mirrors z cs' os') → Done M x b spot m z cs' os' run (set soon x.slot 0) stale true
+  done_changed c r z g mir =
       let i = changes_in f spot p m ticked long here d decides c in
       record {
         after = did_changed f spot p m ticked long here d decides says c r z g;
-        sizes = sizes;
         mirrors = mir;
         runs = λ n. absurd (true≢false n);
         early = early_set early lengths i z (omega arith) (rw (at_spot f spot p m ticked long here i) (sym (set-set m.partitions spot p z))) refl;
@@ -311,7 +299,7 @@ module _ {M : Module} {e : Event} {T : Table} {x : Plan} {f : Planned M e T x} {
 
   pub done_restarted : restarts d ≡ true → {mode : Mode} → mode ≡ mode_of d → (y : Module) → y ≡ restarted x.own (nothing_created (mode_number mode)) m
       → (o : Partition) → o ≡ get_or y.partitions x.slot no_partition → Done M x b spot y o cs os run (replicate partition_limit 0) true true
-  done_restarted r is y g o read = record { after = did_restarted f spot p m ticked long here d decides says r is y g o read; sizes = same_sizes; mirrors = λ n. absurd (true≢false n); runs = λ n. absurd (true≢false n); early = begins_early _ }
+  done_restarted r is y g o read = record { after = did_restarted f spot p m ticked long here d decides says r is y g o read; mirrors = λ n. absurd (true≢false n); runs = λ n. absurd (true≢false n); early = begins_early _ }
 
   module _ (k : ℕ) (ek : k ≡ transfer_at d) (h : k < channel_limit) {a : Transfer} (is : a ≡ transfer_of d) (l : Queue) (moved-is : l ≡ moved a (get_or m.queues k past_queue)) (end : ℕ) (ends : end ≡ cond (ends_wait a) (other_end x.own (channel T k) - 1) partition_limit) where
     abbrev h' : transfer_at d < channel_limit
@@ -324,13 +312,12 @@ module _ {M : Module} {e : Event} {T : Table} {x : Plan} {f : Planned M e T x} {
     ends' = rw ek at ends
 
     pub done_moved : partition_limit ≤ end → (y : Module) → y ≡ record { table = m.table; t = m.t; messages = m.messages; queues = set m.queues k l; partitions = m.partitions } → Done M x b spot y p cs os run soon false false
-    done_moved far y g = rw (rw ek at g) (record { after = did_moved f spot p m ticked long here d decides says h' is l moved' end ends' far; sizes = same_sizes; mirrors = λ _. beside.mirrors; runs = λ _. beside.runs; early = early_same early refl refl })
+    done_moved far y g = rw (rw ek at g) (record { after = did_moved f spot p m ticked long here d decides says h' is l moved' end ends' far; mirrors = λ _. beside.mirrors; runs = λ _. beside.runs; early = early_same early refl refl })
 
     pub done_here : end < partition_limit → end ≡ spot → (z : Partition) → z ≡ ended_by a p → (y : Module) → y ≡ record { table = m.table; t = m.t; messages = m.messages; queues = set m.queues k l; partitions = m.partitions }
         → Done M x b spot y z cs os run (set soon end 0) true true
     done_here near at z g y made = rw (rw ek at made) (record {
       after = did_here f spot p m ticked long here d decides says h' is l moved' end ends' near at z g;
-      sizes = same_sizes;
       mirrors = λ n. absurd (true≢false n);
       runs = λ n. absurd (true≢false n);
       early = early_set early lengths near z (omega arith) (rw at (sym (set-set m.partitions spot p z))) refl;
@@ -340,7 +327,6 @@ module _ {M : Module} {e : Event} {T : Table} {x : Plan} {f : Planned M e T x} {
         → (y : Module) → y ≡ record { table = m.table; t = m.t; messages = m.messages; queues = set m.queues k l; partitions = set m.partitions end z } → Done M x b spot y p cs os run (set soon end 0) false false
     done_there near other z g y made = record {
       after = did_there f spot p m ticked long here d decides says h' is l moved' end ends' near other z g y (rw ek at made);
-      sizes = same_sizes;
       mirrors = λ _. beside.mirrors;
       runs = λ _. beside.runs;
       early = early_set early lengths near z (omega arith) (ap (λ (v : Module). set v.partitions spot p) made ∙ ap (λ (v : Module). v.partitions) (settled_both end z m spot p other)) refl;
@@ -365,7 +351,7 @@ module _ {M : Module} {spot j : ℕ} {m : Module} {p : Partition} {cs os : List 
     state = same ∙ back;
     long = ap (λ (z : Module). length z.partitions) back ∙ length-set m.partitions spot p ∙ h.long;
     held = rw back h.held;
-    kept = kept_stale run h.kept.sizes;
+    kept = λ z. absurd (true≢false z);
     early = early_same h.early (ap (λ (z : Module). z.partitions) (same ∙ back)) refl;
   }
 

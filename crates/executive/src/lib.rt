@@ -4,7 +4,7 @@
 ghost use Rattle.std.specs.Prelude.{◌≡◌, ◌+◌, ◌-◌, ◌≤◌, length, false, List, ℕ};
 ghost use Rattle.std.proofs.lemmas.List.Edits.{sets};
 ghost use Rattle.machine.specs.Limits.{process_limit};
-ghost use Rattle.machine.specs.Partition.{nothing_created, applied, stored};
+ghost use Rattle.machine.specs.Partition.{nothing_created, applied, stored, running};
 ghost use Rattle.machine.specs.Mode.{mode_number};
 ghost use Rattle.machine.specs.Module.{channel, message};
 ghost use Rattle.machine.specs.Channels.{port_at, traffic_at};
@@ -94,163 +94,179 @@ fn put_answer(list: &mut [i64], at: usize, a: Answer)
     list[at + 5] = a.running as i64;
 }
 
-// Stores a process's record in the partition that lies in place: both lists and the numbers beside it follow.
-fn store(
-    here: &mut Partition,
-    currents: &mut [u8; Module::PROCESSES],
-    objects: &mut [u16; Module::PROCESSES],
-    id: u32,
-    x: Process,
-)
-    ensures stored { here.new ≡ stored id x here.old }
-    ensures beside { Mirrors here.old currents.old objects.old → Mirrors here.new currents.new objects.new }
-{
-    let k = partition::slot(id, Module::PROCESSES);
-    if k < Module::PROCESSES {
-        let old = here.processes[k];
-        here.processes[k] = x;
-        here.arrival = partition::arrival_with(here.arrival, old, x, id);
-        here.waiting = partition::waiting_with(here.waiting, old, x, id);
-        currents[k] = x.current;
-        objects[k] = resident::object_of(x);
-    }
+// The partition that lies in place, and beside it the current priority of each of its processes and the object that each waits for, which are lent
+// without a copy.
+#[derive(Clone, Copy)]
+struct Resident {
+    partition: Partition,
+    currents: [u8; Module::PROCESSES],
+    objects: [u16; Module::PROCESSES],
 }
 
-// One change of the partition that lies in place. The numbers beside it follow where one process is stored; they have to be filled anew where the
-// result is true.
-fn make_change(
-    here: &mut Partition,
-    currents: &mut [u8; Module::PROCESSES],
-    objects: &mut [u16; Module::PROCESSES],
-    change: Change,
-) -> bool
-    ensures made { here.new ≡ applied change here.old }
-    ensures beside { result ≡ false → Mirrors here.old currents.old objects.old → Mirrors here.new currents.new objects.new }
-{
-    match change {
-        Change::Nothing => {}
-        Change::Stored(id, y) => store(here, currents, objects, id, y),
-        Change::Created(id, y) => {
-            *here = partition::create(*here, id, y);
-            return true;
-        }
-        Change::Last(id) => here.arrival = partition::last_in(here.arrival, id),
-        Change::StoredSemaphore(id, y) => {
-            let k = partition::slot(id, Module::SEMAPHORES);
-            if k < Module::SEMAPHORES {
-                here.semaphores[k] = y;
-                here.semaphore_count = partition::counted(here.semaphore_count, id);
-            }
-        }
-        Change::StoredEvent(id, y) => {
-            let k = partition::slot(id, Module::EVENTS);
-            if k < Module::EVENTS {
-                here.events[k] = y;
-                here.event_count = partition::counted(here.event_count, id);
-            }
-        }
-        Change::CreatedBuffer(id, name, limit) => {
-            *here = partition::create_buffer(*here, id, name, limit);
-        }
-        Change::Moved(id, y) => {
-            let k = partition::slot(id, Module::BUFFERS);
-            if k < Module::BUFFERS {
-                let mut v = here.buffers[k];
-                v.queue = messages::change(v.queue, y);
-                here.buffers[k] = v;
-                here.buffer_count = partition::counted(here.buffer_count, id);
-            }
-            let other = partition::ended_id(y);
-            let ended = partition::ended_as(partition::process_at(*here, other), y);
-            store(here, currents, objects, other, ended);
-        }
-        Change::StoredBlackboard(id, y) => {
-            let k = partition::slot(id, Module::BLACKBOARDS);
-            if k < Module::BLACKBOARDS {
-                here.blackboards[k] = y;
-                here.blackboard_count = partition::counted(here.blackboard_count, id);
-            }
-        }
-        Change::Ended(o) => {
-            *here = partition::end_queue(*here, o, false, 0);
-            return true;
-        }
-        Change::Handed(o, y) => {
-            *here = partition::end_queue(*here, o, true, y);
-            return true;
-        }
-        Change::LevelSet(level, holder) => {
-            here.level = level;
-            here.holder = holder;
-        }
-        Change::Entered(y) => {
-            *here = partition::enter_normal(*here, y);
-            return true;
+impl Resident {
+    // Stores a process's record: both lists and the numbers beside it follow.
+    fn store(&mut self, id: u32, x: Process)
+        ensures stored { self.new.partition ≡ stored id x self.old.partition }
+        ensures beside { Mirrors self.old.partition self.old.currents self.old.objects → Mirrors self.new.partition self.new.currents self.new.objects }
+    {
+        let k = partition::slot(id, Module::PROCESSES);
+        if k < Module::PROCESSES {
+            let old = self.partition.processes[k];
+            self.partition.processes[k] = x;
+            self.partition.arrival = partition::arrival_with(self.partition.arrival, old, x, id);
+            self.partition.waiting = partition::waiting_with(self.partition.waiting, old, x, id);
+            self.currents[k] = x.current;
+            self.objects[k] = resident::object_of(x);
         }
     }
-    false
-}
 
-// Two changes, one after the other.
-fn make_changes(
-    here: &mut Partition,
-    currents: &mut [u8; Module::PROCESSES],
-    objects: &mut [u16; Module::PROCESSES],
-    first: Change,
-    second: Change,
-) -> bool
-    ensures made { here.new ≡ applied second (applied first here.old) }
-    ensures beside { result ≡ false → Mirrors here.old currents.old objects.old → Mirrors here.new currents.new objects.new }
-{
-    if make_change(here, currents, objects, first) {
-        make_change(here, currents, objects, second);
-        return true;
+    // One change. The numbers follow where one process is stored; they have to be filled anew where the result is true.
+    fn change(&mut self, change: Change) -> bool
+        ensures made { self.new.partition ≡ applied change self.old.partition }
+        ensures beside { result ≡ false → Mirrors self.old.partition self.old.currents self.old.objects → Mirrors self.new.partition self.new.currents self.new.objects }
+    {
+        match change {
+            Change::Nothing => {}
+            Change::Stored(id, y) => self.store(id, y),
+            Change::Created(id, y) => {
+                self.partition = partition::create(self.partition, id, y);
+                return true;
+            }
+            Change::Last(id) => self.partition.arrival = partition::last_in(
+                self.partition.arrival,
+                id,
+            ),
+            Change::StoredSemaphore(id, y) => {
+                let k = partition::slot(id, Module::SEMAPHORES);
+                if k < Module::SEMAPHORES {
+                    self.partition.semaphores[k] = y;
+                    self.partition.semaphore_count = partition::counted(
+                        self.partition.semaphore_count,
+                        id,
+                    );
+                }
+            }
+            Change::StoredEvent(id, y) => {
+                let k = partition::slot(id, Module::EVENTS);
+                if k < Module::EVENTS {
+                    self.partition.events[k] = y;
+                    self.partition.event_count = partition::counted(self.partition.event_count, id);
+                }
+            }
+            Change::CreatedBuffer(id, name, limit) => {
+                self.partition = partition::create_buffer(self.partition, id, name, limit);
+            }
+            Change::Moved(id, y) => {
+                let k = partition::slot(id, Module::BUFFERS);
+                if k < Module::BUFFERS {
+                    let mut v = self.partition.buffers[k];
+                    v.queue = messages::change(v.queue, y);
+                    self.partition.buffers[k] = v;
+                    self.partition.buffer_count = partition::counted(
+                        self.partition.buffer_count,
+                        id,
+                    );
+                }
+                let other = partition::ended_id(y);
+                let ended = partition::ended_as(partition::process_at(self.partition, other), y);
+                self.store(other, ended);
+            }
+            Change::StoredBlackboard(id, y) => {
+                let k = partition::slot(id, Module::BLACKBOARDS);
+                if k < Module::BLACKBOARDS {
+                    self.partition.blackboards[k] = y;
+                    self.partition.blackboard_count = partition::counted(
+                        self.partition.blackboard_count,
+                        id,
+                    );
+                }
+            }
+            Change::Ended(o) => {
+                self.partition = partition::end_queue(self.partition, o, false, 0);
+                return true;
+            }
+            Change::Handed(o, y) => {
+                self.partition = partition::end_queue(self.partition, o, true, y);
+                return true;
+            }
+            Change::LevelSet(level, holder) => {
+                self.partition.level = level;
+                self.partition.holder = holder;
+            }
+            Change::Entered(y) => {
+                self.partition = partition::enter_normal(self.partition, y);
+                return true;
+            }
+        }
+        false
     }
-    make_change(here, currents, objects, second)
+
+    // Two changes, one after the other.
+    fn change_twice(&mut self, first: Change, second: Change) -> bool
+        ensures made { self.new.partition ≡ applied second (applied first self.old.partition) }
+        ensures beside { result ≡ false → Mirrors self.old.partition self.old.currents self.old.objects → Mirrors self.new.partition self.new.currents self.new.objects }
+    {
+        if self.change(first) {
+            self.change(second);
+            return true;
+        }
+        self.change(second)
+    }
+
+    // The numbers, read off the records.
+    fn refresh(&mut self)
+        ensures partition { self.new.partition ≡ self.old.partition }
+        ensures beside { Mirrors self.new.partition self.new.currents self.new.objects }
+    {
+        resident::fill(self.partition, &mut self.currents, &mut self.objects);
+    }
+
+    // The running process, by the numbers.
+    fn running(&self) -> u8
+        ensures { Mirrors self.now.partition self.now.currents self.now.objects → result ≡ running self.now.partition }
+    {
+        let p = &self.partition;
+        resident::running(p.mode, p.level, p.holder, p.arrival, &self.currents)
+    }
 }
 
 // What a call sees of the partition that lies in place, by its number and its field a.
-fn view_of(
-    here: &Partition,
-    objects: &[u16; Module::PROCESSES],
-    context: Context,
-    call: u32,
-    a: Field,
-) -> View
+fn view_of(here: &Resident, context: Context, call: u32, a: Field) -> View
     ensures context { result.context ≡ context }
-    ensures shows { Shows result (number_of a) here.now }
-    ensures taken { result.taken ≡ taken_for call a here.now }
-    ensures waiter { (currents : List ℕ) → Mirrors here.now currents objects.now → result.waiter ≡ waiter_for call (number_of a) here.now }
+    ensures shows { Shows result (number_of a) here.now.partition }
+    ensures taken { result.taken ≡ taken_for call a here.now.partition }
+    ensures waiter { Mirrors here.now.partition here.now.currents here.now.objects → result.waiter ≡ waiter_for call (number_of a) here.now.partition }
 {
+    let p = &here.partition;
     let id = fields::number_of(a);
     let object = services::object_for(call, id);
     let waiter = if object == 0 {
         0
     } else {
-        resident::first_on(here.waiting, objects, object)
+        resident::first_on(p.waiting, &here.objects, object)
     };
-    let buffer = partition::by_id(&here.buffers, id, Buffer::blank());
+    let buffer = partition::by_id(&p.buffers, id, Buffer::blank());
     View {
         context,
-        mode: here.mode,
-        level: here.level,
-        holder: here.holder,
-        count: here.process_count,
-        semaphores: here.semaphore_count,
-        events: here.event_count,
-        buffers: here.buffer_count,
-        blackboards: here.blackboard_count,
-        taken: services::does_create(call) && services::is_taken(*here, call, a),
-        named: partition::by_id(&here.processes, id, Process::blank()),
-        calling: partition::by_id(&here.processes, context.caller as u32, Process::blank()),
-        semaphore: partition::by_id(&here.semaphores, id, objects::no_semaphore()),
-        event: partition::by_id(&here.events, id, objects::no_event()),
+        mode: p.mode,
+        level: p.level,
+        holder: p.holder,
+        count: p.process_count,
+        semaphores: p.semaphore_count,
+        events: p.event_count,
+        buffers: p.buffer_count,
+        blackboards: p.blackboard_count,
+        taken: services::does_create(call) && services::is_taken(*p, call, a),
+        named: partition::by_id(&p.processes, id, Process::blank()),
+        calling: partition::by_id(&p.processes, context.caller as u32, Process::blank()),
+        semaphore: partition::by_id(&p.semaphores, id, objects::no_semaphore()),
+        event: partition::by_id(&p.events, id, objects::no_event()),
         limit: buffer.limit,
         len: buffer.queue.len,
         first: messages::first_of(buffer.queue),
-        blackboard: partition::by_id(&here.blackboards, id, blackboards::empty_blackboard(0)),
+        blackboard: partition::by_id(&p.blackboards, id, blackboards::empty_blackboard(0)),
         waiter,
-        served: partition::by_id(&here.processes, waiter as u32, Process::blank()),
+        served: partition::by_id(&p.processes, waiter as u32, Process::blank()),
     }
 }
 
@@ -323,9 +339,11 @@ impl Executive {
         let n = list.len() / SIX;
         let mut window = windows::lookup_at(table, m.t);
         let mut spot = Module::PARTITIONS;
-        let mut here = Partition::empty();
-        let mut currents = [0u8; Module::PROCESSES];
-        let mut objects = [0u16; Module::PROCESSES];
+        let mut here = Resident {
+            partition: Partition::empty(),
+            currents: [0; Module::PROCESSES],
+            objects: [0; Module::PROCESSES],
+        };
         let mut run: u8 = 0;
         let mut soon = [0u32; Module::PARTITIONS];
         for i in 0..n {
@@ -341,8 +359,8 @@ impl Executive {
             for j in 0..x.ticks {
                 if soon[j] <= m.t {
                     if j == spot {
-                        here = partition::ticked(here, m.t);
-                        soon[j] = partition::soonest_of(here);
+                        here.partition = partition::ticked(here.partition, m.t);
+                        soon[j] = partition::soonest_of(here.partition);
                         stale = true;
                     } else {
                         let p = m.partitions[j];
@@ -354,18 +372,17 @@ impl Executive {
             }
             if x.spot != spot {
                 if spot < Module::PARTITIONS {
-                    m.partitions[spot] = here;
+                    m.partitions[spot] = here.partition;
                 }
                 spot = x.spot;
                 if spot < Module::PARTITIONS {
-                    here = m.partitions[spot];
+                    here.partition = m.partitions[spot];
                 }
                 stale = true;
             }
             if stale {
-                resident::fill(here, &mut currents, &mut objects);
-                let ready = here.arrival;
-                run = resident::running(here.mode, here.level, here.holder, ready, &currents);
+                here.refresh();
+                run = here.running();
             }
             let mut d = Decision::Refused(x.code);
             let slot = x.slot;
@@ -378,8 +395,8 @@ impl Executive {
                     release: events::release_for(table, m.t, x.own, x.call),
                     caller: run,
                 };
-                let view = view_of(&here, &objects, context, x.call, request.a);
-                let port = port_of(&m, &here, spot, x.own, request.a);
+                let view = view_of(&here, context, x.call, request.a);
+                let port = port_of(&m, &here.partition, spot, x.own, request.a);
                 d = services::call(view, port, x.call, request);
             }
             let reply = decisions::reply_of(d);
@@ -389,18 +406,18 @@ impl Executive {
                 Decision::Refused(_) | Decision::Unchanged(_, _) | Decision::Ticked => {}
                 Decision::Blocked(id, y) => {
                     let change = Change::Stored(id as u32, y);
-                    stale = make_change(&mut here, &mut currents, &mut objects, change);
+                    stale = here.change(change);
                     soon[slot] = 0;
                     changed = true;
                 }
                 Decision::Changed(first, second, _) => {
-                    stale = make_changes(&mut here, &mut currents, &mut objects, first, second);
+                    stale = here.change_twice(first, second);
                     soon[x.slot] = 0;
                     changed = true;
                 }
                 Decision::Restarted(mode) => {
                     m = restart(m, x.own, mode);
-                    here = m.partitions[slot];
+                    here.partition = m.partitions[slot];
                     soon = [0; Module::PARTITIONS];
                     stale = true;
                     changed = true;
@@ -419,7 +436,10 @@ impl Executive {
                         if end < Module::PARTITIONS {
                             soon[end] = 0;
                             if end == spot {
-                                here = partition::after_transfer(here, transfer);
+                                here.partition = partition::after_transfer(
+                                    here.partition,
+                                    transfer,
+                                );
                                 stale = true;
                                 changed = true;
                             } else {
@@ -431,11 +451,10 @@ impl Executive {
                 }
             }
             if stale {
-                resident::fill(here, &mut currents, &mut objects);
+                here.refresh();
             }
             if changed {
-                let ready = here.arrival;
-                run = resident::running(here.mode, here.level, here.holder, ready, &currents);
+                run = here.running();
             }
             let mut running: u8 = 0;
             if x.shown < Module::PARTITIONS {
@@ -445,7 +464,7 @@ impl Executive {
             put_answer(list, at, last);
         }
         if spot < Module::PARTITIONS {
-            m.partitions[spot] = here;
+            m.partitions[spot] = here.partition;
         }
         let executive = Executive { inner: m };
         Turn {

@@ -1,19 +1,17 @@
 // What an event decides: its reply, what it changes, and the checks that several calls share.
 #![tactic(auto)]
 
-ghost use Rattle.std.specs.Prelude.{◌≡◌, ◌+◌, ◌<◌, ℕ, ◌&&◌, ◌||◌, [], ◌∷◌, true, eqb, ltb, leb, take, OnOk, IfOk};
-ghost use Rattle.machine.specs.Fields.{is_number};
+ghost use Rattle.std.specs.Prelude.{◌≡◌, ◌+◌, ◌<◌, ℕ, ◌&&◌, ◌||◌, true, eqb, ltb, leb, take, OnOk, IfOk};
 ghost use Rattle.machine.specs.Mode.{mode_number};
-ghost use Rattle.machine.specs.Decisions.{coded, checked, code_of, reply_of, changed, blocked, creation_checks, wait_checks, unknown, name_taken};
-ghost use Rattle.machine.specs.Questions.{changes, restarts, mode_of, first_change, second_change, message_at, message_of, transfer_at, transfer_of};
+ghost use Rattle.machine.specs.Decisions.{coded, checked, code_of, reply_of, changed, blocked, creation_checks, unknown, name_taken};
 ghost use Rattle.decisions.specs.Results.{decided, code_given, after};
 ghost use Rattle.machine.specs.declared.Decision.{Decision as DecisionT};
 ghost use Rattle.machine.specs.declared.Decision.TheVariants.{Refused};
 ghost use Rattle.decisions.specs.Names.{process_name, semaphore_name, event_name, buffer_name, blackboard_name};
 
 use machine::{
-    Blackboard, Buffer, Change, Context, Decision, EventState, Field, Message, Mode, Module,
-    Process, Refusal, Reply, Semaphore, Time, Transfer,
+    Blackboard, Buffer, Change, Context, Decision, EventState, Field, Mode, Process, Refusal,
+    Reply, Semaphore, Time,
 };
 
 // ---------------------------------------------------------------- decisions
@@ -40,92 +38,6 @@ pub fn reply_of(d: Decision) -> Reply
         Decision::Unchanged(value, extra) => reply(0, value, extra),
         Decision::Changed(_, _, value) | Decision::Passed(_, _, value) => reply(0, value, Some(0)),
         Decision::Ticked | Decision::Restarted(_) | Decision::Written(_, _) => reply_with(0),
-    }
-}
-
-// Whether it changes the caller's partition.
-pub fn does_change(d: Decision) -> bool
-    ensures { result ≡ changes d }
-{
-    matches!(
-        d,
-        Decision::Blocked(_, _) | Decision::Changed(_, _, _) | Decision::Restarted(_)
-    )
-}
-
-pub fn is_restart(d: Decision) -> bool
-    ensures { result ≡ restarts d }
-{
-    matches!(d, Decision::Restarted(_))
-}
-
-// Its mode; IDLE for another decision.
-pub fn mode_of(d: Decision) -> Mode
-    ensures { result ≡ mode_of d }
-{
-    match d {
-        Decision::Restarted(mode) => mode,
-        _ => Mode::Idle,
-    }
-}
-
-// The two changes that it makes of the caller's partition, in order, where it is no restart.
-pub fn first_change(d: Decision) -> Change
-    ensures { result ≡ first_change d }
-{
-    match d {
-        Decision::Blocked(id, x) => Change::Stored(id as u32, x),
-        Decision::Changed(a, _, _) => a,
-        _ => Change::Nothing,
-    }
-}
-
-pub fn second_change(d: Decision) -> Change
-    ensures { result ≡ second_change d }
-{
-    match d {
-        Decision::Changed(_, b, _) => b,
-        _ => Change::Nothing,
-    }
-}
-
-// The place of the channel on which it leaves a message, past the last for none.
-pub fn message_at(d: Decision) -> usize
-    ensures { result ≡ message_at d }
-{
-    match d {
-        Decision::Written(i, _) => i as usize,
-        _ => Module::CHANNELS,
-    }
-}
-
-// The message that it leaves there.
-pub fn message_of(d: Decision) -> Option<Message>
-    ensures { result ≡ message_of d }
-{
-    match d {
-        Decision::Written(_, x) => Some(x),
-        _ => None,
-    }
-}
-
-// The place of the channel on which it makes a transfer, past the last for none.
-pub fn transfer_at(d: Decision) -> usize
-    ensures { result ≡ transfer_at d }
-{
-    match d {
-        Decision::Passed(i, _, _) => i as usize,
-        _ => Module::CHANNELS,
-    }
-}
-
-// The transfer that it makes there.
-pub fn transfer_of(d: Decision) -> Transfer
-    ensures { result ≡ transfer_of d }
-{
-    match d {
-        Decision::Passed(_, a, _) => a,
-        _ => Transfer::Taken,
     }
 }
 

@@ -9,7 +9,7 @@ ghost use Rattle.decisions.specs.Results.{decided};
 ghost use Rattle.decisions.specs.Views.{Shows, Follows};
 
 use decisions::View;
-use machine::{Blackboard, Change, Decision, Field, Module, Partition, Refusal, Time, Wait};
+use machine::{Blackboard, Change, Decision, Field, Module, Partition, Refusal, Wait};
 
 // A blackboard that shows nothing.
 pub fn empty_blackboard(name: u16) -> Blackboard

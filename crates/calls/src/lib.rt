@@ -1,7 +1,7 @@
 // Calls 1 to 13 and 32 to 34: what each decides.
 #![tactic(auto, unfolding(machine::specs::Decisions::checked, machine::specs::Calls::set_mode, machine::specs::Calls::create_process, machine::specs::Calls::start, machine::specs::Calls::stop, machine::specs::Calls::stop_self, machine::specs::Calls::suspend, machine::specs::Calls::suspend_self, machine::specs::Calls::timed_wait, machine::specs::Calls::periodic_wait, machine::specs::Calls::resume, machine::specs::Calls::set_priority, machine::specs::Calls::get_status, machine::specs::Calls::lock_preemption, machine::specs::Calls::unlock_preemption, machine::specs::Calls::get_ticks_left))]
 
-ghost use Rattle.std.specs.Prelude.{◌≡◌, ℕ, cond, not, ◌&&◌, ◌||◌, eqb, take};
+ghost use Rattle.std.specs.Prelude.{◌≡◌, ℕ, not, ◌&&◌, ◌||◌, take};
 ghost use Rattle.machine.specs.Limits.{duration_limit};
 ghost use Rattle.machine.specs.Fields.{is_number, is_minus_one, between, is_duration, number_of};
 ghost use Rattle.machine.specs.Process.{periodic};
@@ -13,7 +13,7 @@ ghost use Rattle.machine.specs.Calls.{set_mode, process_named, is_multiple, abov
 
 use decisions::View;
 use machine::{
-    Change, Context, Decision, Field, Given, Mode, Module, Process, Refusal, Request, Time, Wait,
+    Change, Context, Decision, Field, Given, Mode, Module, Process, Refusal, Request, Wait,
 };
 
 // 1 SET_PARTITION_MODE; the messages are erased with the module.

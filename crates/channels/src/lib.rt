@@ -13,9 +13,7 @@ ghost use Rattle.machine.specs.declared.Table.{Table as TableT};
 ghost use Rattle.machine.specs.Channels.{queuing, seen_at, port_at, apart, channel_checks, write, read, kept_to};
 ghost use Rattle.decisions.specs.Results.{decided, code_given, after};
 
-use machine::{
-    Channel, Context, Decision, Field, Message, Module, Port, Refusal, Table, Time, Traffic,
-};
+use machine::{Channel, Context, Decision, Field, Message, Module, Port, Refusal, Table, Traffic};
 
 // ---------------------------------------------------------------- what a call sees of a channel
 // The place of the channel that a field names: its number less one.
@@ -144,7 +142,7 @@ pub fn read_channel(c: Context, x: Port) -> Result<Decision, Refusal>
 }
 
 // ---------------------------------------------------------------- restarts
-// The messages without those on channels into partition k.
+// The messages without those on channels into partition k, channel by channel as the definition counts them.
 #[tactic(auto, using(machine::proofs::Folds::kept_none, machine::proofs::Folds::kept_erased, machine::proofs::Folds::kept_same))]
 pub fn erase_into(messages: &mut [Option<Message>; Module::CHANNELS], table: Table, k: u32)
     ensures { messages.new ≡ kept_to table k channel_limit messages.old }

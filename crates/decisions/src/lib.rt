@@ -1,19 +1,17 @@
 // What an event decides: its reply, what it changes, and the checks that several calls share.
 #![tactic(auto)]
 
-ghost use Rattle.std.specs.Prelude.{◌≡◌, ◌+◌, ◌<◌, ℕ, ◌&&◌, ◌||◌, [], ◌∷◌, true, eqb, ltb, leb, take, OnOk, IfOk};
-ghost use Rattle.machine.specs.Fields.{is_number};
+ghost use Rattle.std.specs.Prelude.{◌≡◌, ◌+◌, ◌<◌, ℕ, ◌&&◌, ◌||◌, true, eqb, ltb, leb, take, OnOk, IfOk};
 ghost use Rattle.machine.specs.Mode.{mode_number};
-ghost use Rattle.machine.specs.Decisions.{coded, checked, code_of, reply_of, changed, blocked, creation_checks, wait_checks, unknown, name_taken};
-ghost use Rattle.machine.specs.Questions.{changes, restarts, mode_of, first_change, second_change, message_at, message_of, transfer_at, transfer_of};
+ghost use Rattle.machine.specs.Decisions.{coded, checked, code_of, reply_of, changed, blocked, creation_checks, unknown, name_taken};
 ghost use Rattle.decisions.specs.Results.{decided, code_given, after};
 ghost use Rattle.machine.specs.declared.Decision.{Decision as DecisionT};
 ghost use Rattle.machine.specs.declared.Decision.TheVariants.{Refused};
 ghost use Rattle.decisions.specs.Names.{process_name, semaphore_name, event_name, buffer_name, blackboard_name};
 
 use machine::{
-    Blackboard, Buffer, Change, Context, Decision, EventState, Field, Message, Mode, Module,
-    Process, Refusal, Reply, Semaphore, Time, Transfer,
+    Blackboard, Buffer, Change, Context, Decision, EventState, Field, Mode, Process, Refusal,
+    Reply, Semaphore, Time,
 };
 
 // ---------------------------------------------------------------- decisions

@@ -15,7 +15,7 @@ ghost use Rattle.decisions.specs.Views.{Shows, Follows};
 
 use decisions::View;
 use machine::{
-    Change, Decision, EventState, Field, Module, Partition, Refusal, Request, Semaphore, Time, Wait,
+    Change, Decision, EventState, Field, Module, Partition, Refusal, Request, Semaphore, Wait,
 };
 
 pub fn no_semaphore() -> Semaphore

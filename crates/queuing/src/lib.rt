@@ -61,7 +61,8 @@ pub fn seen_slot(count: u8, c: Channel, k: u32, place: usize) -> Option<usize>
     }
 }
 
-// Where it lies, if this transfer of partition k ends a wait there; past the last, where no partition lies either, if not.
+// Where it lies, if this transfer of partition k ends a wait there; past the last if not. An end that no table checked may itself lie past the
+// last, so that one test of the place serves both.
 pub fn ended_slot(table: Table, k: u32, place: usize, a: Transfer) -> usize
     ensures { result ≡ cond (ends_wait a) (other_end k (channel table place) - 1) partition_limit }
 {

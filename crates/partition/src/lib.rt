@@ -387,7 +387,12 @@ pub fn ticked(p: Partition, t: u32) -> Partition
     }
     let mut q = p;
     for k in 0..p.process_count {
-        let x = record_in(&q, k + 1);
+        // Read in place and not by `by_id`: where q is lent, each tick copies the partition twice more, which misses the time of a line.
+        let i = usize::from(k);
+        let mut x = Process::blank();
+        if i < Module::PROCESSES {
+            x = q.processes[i];
+        }
         if is_touched(x, t) {
             q = store(q, u32::from(k + 1), process::tick(x, t));
         }

@@ -9,17 +9,11 @@ ghost use Rattle.whole_input.specs.WholeInput.{no_room, refusal_printed, Counts,
 ghost use Rattle.whole_input.specs.WaitingTimes.{is_question, gets, line_waiting, asked};
 
 use executive::Executive;
-use machine::{Line, Module, Numbers, Row, Waiting};
+use machine::{Line, Module, Numbers, Refusal, Row, Waiting};
 
 mod programs;
 
 pub use programs::{Asking, Printing, Replaying, result, run};
-
-// The number of an output that is too short, and of a line that is no six numbers.
-const REFUSED: u8 = 11;
-
-// The number of a question whose unused numbers are not all 0.
-const UNASKED: u8 = 13;
 
 // Why nothing was printed: what the line of a refusal has before its four 0. Any code may be shown, so it is no `Refusal`, which would admit fewer.
 #[derive(Clone, Copy)]
@@ -33,7 +27,7 @@ pub fn no_room() -> Result<usize, Refused>
     ensures { result ≡ no_room }
 {
     Err(Refused {
-        code: REFUSED,
+        code: Refusal::BadLine.code(),
         value: 0,
     })
 }
@@ -59,7 +53,8 @@ pub fn shown(out: &mut [u8], r: Result<usize, Refused>) -> usize
     }
 }
 
-// How many lines an input has from a position on.
+// How many lines an input has from a position on. Lines have any length, so the position goes from one's end to the next one's; a chain over the
+// pieces between LFs would be no plainer, since `next_line` says already where a line ends.
 fn count_lines(input: &[u8], from: usize) -> usize
     ensures { result ≡ length (lines (drop from input.now)) }
 {
@@ -137,14 +132,14 @@ fn waiting_of(e: Executive, l: Line) -> Waiting
         Line::Six(n) => {
             if !is_question(fields::row_of(n)) {
                 return Waiting {
-                    code: UNASKED,
+                    code: Refusal::Malformed.code(),
                     n: 0,
                 };
             }
             e.waiting_time(n.n1, n.n2)
         }
         Line::Bad => Waiting {
-            code: REFUSED,
+            code: Refusal::BadLine.code(),
             n: 0,
         },
     }

@@ -58,6 +58,7 @@ pub fn step_line(e: Executive, l: Line) -> Turn
 }
 
 // ---------------------------------------------------------------- a block of lines
+// The list is lent as numbers, so a line's six are stored and read by their places: an array between would be no plainer.
 fn put_six(list: &mut [i64], at: usize, n: Numbers)
     requires { at + six ≤ length list.old }
     ensures { list.new ≡ sets list.old at (number_list n) }

@@ -13,9 +13,6 @@ use machine::{Module, Numbers, Refusal};
 // The bytes of the longest table.
 const HELD: usize = (1 + Module::WINDOWS + Module::CHANNELS) * Module::LINE;
 
-// The number of a refused line.
-const REFUSED: u8 = 11;
-
 // What the next line of the input belongs to; after a refused table nothing is read.
 #[derive(Clone, Copy)]
 pub enum Stage {
@@ -94,7 +91,7 @@ fn is_missing(code: u8, value: u32, n: usize) -> bool
     requires { n ≤ held_limit }
     ensures { result ≡ missing code value n }
 {
-    code == REFUSED && value as usize * Module::LINE == n + Module::LINE
+    code == Refusal::BadLine.code() && value as usize * Module::LINE == n + Module::LINE
 }
 
 // The same before the input's end.

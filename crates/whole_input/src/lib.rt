@@ -16,9 +16,6 @@ mod programs;
 
 pub use programs::{Asking, Printing, Replaying, result, run};
 
-// The number of an output that is too short, and of a line that is no six numbers.
-const REFUSED: u8 = 11;
-
 // Why nothing was printed: what the line of a refusal has before its four 0. Any code may be shown, so it is no `Refusal`, which would admit fewer.
 #[derive(Clone, Copy)]
 pub struct Refused {
@@ -31,7 +28,7 @@ pub fn no_room() -> Result<usize, Refused>
     ensures { result ≡ no_room }
 {
     Err(Refused {
-        code: REFUSED,
+        code: Refusal::BadLine.code(),
         value: 0,
     })
 }
@@ -57,7 +54,8 @@ pub fn shown(out: &mut [u8], r: Result<usize, Refused>) -> usize
     }
 }
 
-// How many lines an input has from a position on.
+// How many lines an input has from a position on. Lines have any length, so the position goes from one's end to the next one's; a chain over the
+// pieces between LFs would be no plainer, since `next_line` says already where a line ends.
 fn count_lines(input: &[u8], from: usize) -> usize
     ensures { result ≡ length (lines (drop from input.now)) }
 {

@@ -67,11 +67,12 @@ pub fn is_unknown(id: u32, count: u8) -> bool
     id == 0 || (count as u32) < id
 }
 
-// 9: whether a partition in this mode whose running process is this one makes no call.
-pub fn has_no_caller(mode: Mode, running: u8) -> bool
-    ensures { result ≡ (eqb (mode_number mode) 0 || (eqb (mode_number mode) 3 && eqb running 0)) }
+// 9: whether a partition in the mode of this number whose running process is this one makes no call. By number: a `Mode` would ask more of
+// callers, who may give any.
+pub fn has_no_caller(mode: u8, running: u8) -> bool
+    ensures { result ≡ (eqb mode 0 || (eqb mode 3 && eqb running 0)) }
 {
-    mode.is_idle() || (mode.is_normal() && running == 0)
+    mode == 0 || (mode == 3 && running == 0)
 }
 
 // ---------------------------------------------------------------- names

@@ -39,12 +39,10 @@ fn call_code(n: u8, k: u32, current: u8) -> u8
         return n;
     }
     if k == 0 {
-        return 0;
-    }
-    if current as u32 != k {
-        return 8;
-    }
-    if (Module::PARTITIONS as u32) < k {
+        0
+    } else if u32::from(current) != k {
+        8
+    } else if (Module::PARTITIONS as u32) < k {
         9
     } else {
         0
@@ -55,13 +53,11 @@ fn call_code(n: u8, k: u32, current: u8) -> u8
 fn tick_count(size: u8, code: u8, k: u32) -> usize
     ensures { (T : TableT) → T.size ≡ size → result ≡ tick_count T code k }
 {
-    if code != 0 {
-        return 0;
+    if code != 0 || k != 0 {
+        0
+    } else {
+        ticks::count(size)
     }
-    if k != 0 {
-        return 0;
-    }
-    ticks::count(size)
 }
 
 // Where partition k lies, past the last for none.
@@ -69,22 +65,17 @@ fn slot_of(k: u32) -> usize
     ensures { result ≡ slot_of k }
 {
     if k == 0 {
-        return Module::PARTITIONS;
+        Module::PARTITIONS
+    } else {
+        (k - 1) as usize
     }
-    (k - 1) as usize
 }
 
 // Whether a call takes the start rule: 1 SET_PARTITION_MODE, 3 START, 4 DELAYED_START.
 fn takes_start_rule(call: u32) -> bool
     ensures { result ≡ takes_start_rule call }
 {
-    if call == 1 {
-        return true;
-    }
-    if call == 3 {
-        return true;
-    }
-    call == 4
+    matches!(call, 1 | 3 | 4)
 }
 
 // The release point that a call of partition k is shown: it is looked up only for one that takes the start rule.
@@ -92,18 +83,20 @@ pub fn release_for(table: Table, t: u32, k: u32, call: u32) -> u32
     ensures { result ≡ release_for table t k call }
 {
     if takes_start_rule(call) {
-        return windows::release_point(table, t, k);
+        windows::release_point(table, t, k)
+    } else {
+        0
     }
-    0
 }
 
 fn call_slot(code: u8, k: u32) -> usize
     ensures { result ≡ call_slot code k }
 {
     if code != 0 {
-        return Module::PARTITIONS;
+        Module::PARTITIONS
+    } else {
+        slot_of(k)
     }
-    slot_of(k)
 }
 
 // Whether an event of this partition is shown the running process of partition k.
@@ -111,38 +104,36 @@ fn is_shown(r: Request, k: u8) -> bool
     ensures { result ≡ sees r k }
 {
     let own = r.partition;
-    fields::is_number(own, 0) || fields::is_number(own, k as u32)
+    fields::is_number(own, 0) || fields::is_number(own, u32::from(k))
 }
 
 fn shown_slot(r: Request, k: u8) -> usize
     ensures { result ≡ shown_slot r k }
 {
     if is_shown(r, k) {
-        return slot_of(k as u32);
+        slot_of(u32::from(k))
+    } else {
+        Module::PARTITIONS
     }
-    Module::PARTITIONS
 }
 
 // Of a request so placed, over a table of this size, with the window at the time after it.
 pub fn plan_of(size: u8, request: Request, first: Placed, window: Lookup) -> Plan
     ensures { (T : TableT) → T.size ≡ size → result ≡ planned T request (number_of request.partition) first window }
 {
-    let partition = request.partition;
-    let own = fields::number_of(partition);
-    let call = request.call;
-    let a = request.a;
+    let own = fields::number_of(request.partition);
     let code = call_code(first.code, own, window.partition);
     Plan {
         request,
         own,
-        call: fields::number_of(call),
-        place: channels::place_of(a) as usize,
+        call: fields::number_of(request.call),
+        place: channels::place_of(request.a) as usize,
         code,
         time: first.time,
         current: window.partition,
         left: window.left,
         ticks: tick_count(size, code, own),
-        spot: slot_of(window.partition as u32),
+        spot: slot_of(u32::from(window.partition)),
         slot: call_slot(code, own),
         shown: shown_slot(request, window.partition),
     }
@@ -152,11 +143,10 @@ pub fn plan_of(size: u8, request: Request, first: Placed, window: Lookup) -> Pla
 pub fn answer_of(reply: Reply, t: u32, current: u8, running: u8) -> Answer
     ensures { result ≡ answer_of reply t current running }
 {
-    let extra = reply.extra;
     Answer {
         code: reply.code,
         value: reply.value,
-        extra,
+        extra: reply.extra,
         t,
         current,
         running,

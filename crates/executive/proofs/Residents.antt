@@ -56,7 +56,7 @@ pub record Beside (p : Partition) (currents objects : List ℕ) (run : ℕ) : Ty
   pub mirrors : Mirrors p currents objects
   pub runs : run ≡ running p
 
-pub beside_looked : {p : Partition} {cs os : List ℕ} → Mirrors p cs os → {n : ℕ} → n ≡ running_by p.mode p.level p.holder p.arrival cs → Beside p cs os n
+pub beside_looked : {p : Partition} {cs os : List ℕ} → Mirrors p cs os → {n : ℕ} → n ≡ running_by (mode_number p.mode) p.level p.holder p.arrival cs → Beside p cs os n
 beside_looked m e = record { mirrors = m; runs = e ∙ mirrors_running m }
 
 -- where they may be those of a record that was replaced, stale

@@ -58,7 +58,7 @@ fn restart(m: Module, k: u32, mode: Mode) -> Module
     channels::erase_into(&mut r.messages, r.table, k);
     let slot = k.saturating_sub(1) as usize;
     if slot < Module::PARTITIONS {
-        r.partitions[slot] = partition::nothing_created(mode);
+        r.partitions[slot] = partition::nothing_created(mode.number());
     }
     queuing::refill(r, k)
 }
@@ -226,7 +226,13 @@ impl Resident {
         ensures { Mirrors self.now.partition self.now.currents self.now.objects → result ≡ running self.now.partition }
     {
         let p = &self.partition;
-        resident::running(p.mode, p.level, p.holder, p.arrival, &self.currents)
+        resident::running(
+            p.mode.number(),
+            p.level,
+            p.holder,
+            p.arrival,
+            &self.currents,
+        )
     }
 }
 
@@ -511,7 +517,7 @@ impl Executive {
         let table = m.table;
         let now = windows::lookup_at(table, m.t);
         Answer {
-            code: 11,
+            code: Refusal::BadLine.code(),
             value: 0,
             extra: Some(0),
             t: m.t,

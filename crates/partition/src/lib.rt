@@ -421,13 +421,13 @@ pub fn enter_normal(p: Partition, c: Context) -> Partition
     q
 }
 
-// A partition in this mode with nothing created.
+// A partition with nothing created, in the mode of this number (a `Mode` would ask more of callers).
 #[tactic(auto, unfolding(machine::specs::Partition::empty_partition))]
-pub fn nothing_created(mode: Mode) -> Partition
-    ensures { result ≡ nothing_created (mode_number mode) }
+pub fn nothing_created(mode: u8) -> Partition
+    ensures { result ≡ nothing_created mode }
 {
     Partition {
-        mode,
+        mode: Mode::numbered(u32::from(mode)),
         ..Partition::empty()
     }
 }

@@ -72,7 +72,7 @@ module _ {p : Partition} {currents objects : List ℕ} (m : Mirrors p currents o
   chosen_by_holds c [] = refl
   chosen_by_holds c (id ∷ l) = ap (λ (n : ℕ). chosen_by currents (preferred c id n) l) (current_of_holds id) ∙ chosen_by_holds (preferred c id (process id p).current) l
 
-  pub mirrors_running : running_by p.mode p.level p.holder p.arrival currents ≡ running p
+  pub mirrors_running : running_by (mode_number p.mode) p.level p.holder p.arrival currents ≡ running p
   unfolding running
   mirrors_running = ap (λ (c : Choice). cond (eqb (mode_number p.mode) 3) (cond (locked p.level) p.holder c.id) 0) (chosen_by_holds (record { id = 0; priority = 0 }) (members p.arrival))
 

@@ -3,9 +3,7 @@ use Rattle.std.specs.Prelude.{ℕ, Bool, cond, List, [], ◌∷◌, map, ◌≡�
 use Rattle.machine.specs.Ids.{members, kept}
 use Rattle.machine.specs.Limits.{process_limit}
 use Rattle.machine.specs.Partition.{by_id, preferred, locked}
-use Rattle.machine.specs.Mode.{mode_number}
 use Rattle.machine.specs.Process.{object}
-use Rattle.machine.specs.declared.Mode.{Mode}
 use Rattle.machine.specs.declared.Choice.{Choice}
 use Rattle.machine.specs.declared.Ids.{Ids}
 use Rattle.machine.specs.declared.Partition.{Partition}
@@ -45,6 +43,6 @@ unfoldable pub chosen_by : List ℕ → Choice → List ℕ → Choice
 chosen_by l c [] = c
 chosen_by l c (id ∷ k) = chosen_by l (preferred c id (by_id process_limit 0 id l)) k
 
--- the running process of a partition in this mode, with this lock and this arrival list
-abbrev pub running_by : Mode → ℕ → ℕ → Ids → List ℕ → ℕ
-running_by mode level holder q l = cond (eqb (mode_number mode) 3) (cond (locked level) holder (chosen_by l (record { id = 0; priority = 0 }) (members q)).id) 0
+-- the running process of a partition in the mode of this number, with this lock and this arrival list
+abbrev pub running_by : ℕ → ℕ → ℕ → Ids → List ℕ → ℕ
+running_by mode level holder q l = cond (eqb mode 3) (cond (locked level) holder (chosen_by l (record { id = 0; priority = 0 }) (members q)).id) 0

@@ -8,7 +8,7 @@ ghost use Rattle.machine.specs.Ids.{ids_of};
 ghost use Rattle.machine.specs.Partition.{by_id};
 ghost use Rattle.resident.specs.Mirrors.{current_of, object_of, filled, is_on, queue_on, first_on, running_by};
 
-use machine::{Ids, Mode, Module, Partition, Process};
+use machine::{Ids, Module, Partition, Process};
 
 // The object that a process waits for, 0 for none.
 pub fn object_of(x: Process) -> u16
@@ -36,9 +36,10 @@ fn is_on(objects: &[u16; Module::PROCESSES], id: u8, object: u64) -> bool
     u64::from(waited_for(objects, id)) == object
 }
 
-// The running process of a partition in this mode, with this lock and this arrival list. While preemption is locked, the holder.
+// The running process of a partition in the mode of this number, with this lock and this arrival list. While preemption is locked, the holder.
+// By number: a `Mode` would ask more of callers, who may give any.
 pub fn running(
-    mode: Mode,
+    mode: u8,
     level: u8,
     holder: u8,
     arrival: Ids,
@@ -46,7 +47,7 @@ pub fn running(
 ) -> u8
     ensures { result ≡ running_by mode level holder arrival currents.now }
 {
-    if !mode.is_normal() {
+    if mode != 3 {
         return 0;
     }
     if 0 < level {

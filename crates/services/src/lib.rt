@@ -99,7 +99,7 @@ fn decide(v: View, x: Port, n: u32, r: Request) -> Result<Decision, Refusal>
 pub fn call(v: View, x: Port, n: u32, r: Request) -> Decision
     ensures { (p : PartitionT) → Shows v (number_of r.a) p → v.taken ≡ taken_for n r.a p → v.waiter ≡ waiter_for n (number_of r.a) p → result ≡ called v.context x n r p }
 {
-    if decisions::has_no_caller(v.mode, v.context.caller) {
+    if decisions::has_no_caller(v.mode.number(), v.context.caller) {
         return Decision::Refused(Refusal::NoCaller.code());
     }
     match decide(v, x, n, r) {

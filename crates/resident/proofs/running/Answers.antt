@@ -1,5 +1,5 @@
 use borrow.Author.Rules.{rules}
-use borrow.Author.Tests.{not-false, le-ltb}
+use borrow.Author.Tests.{eq-eqb, le-ltb}
 use Rattle.machine.specs.Ids.{members}
 use Rattle.machine.specs.Limits.{process_limit}
 use Rattle.machine.specs.Partition.{by_id}
@@ -9,5 +9,5 @@ use Rattle.resident.proofs.running.Goals as goal
 pub returns : goal.returns
 returns c =
     let a = c.args in
-    rw (← c.is_normal.ensures, not-false _ c.if-not-is_normal.false-raw, le-ltb _ _ c.if-level-gt0.false, chosen_by-fold a.currents.now (record { id = 0; priority = 0 }) (members a.arrival))
+    rw (eq-eqb _ _ c.if-mode-ne3.false, le-ltb _ _ c.if-level-gt0.false, chosen_by-fold a.currents.now (record { id = 0; priority = 0 }) (members a.arrival))
     (c.greatest.ensures (λ id. by_id process_limit 0 id a.currents.now) (λ x r e. search rules))

@@ -3,4 +3,4 @@ use Rattle.resident.proofs.Laws.{mirrors_running}
 use Rattle.executive.proofs.Resident.running.Goals as goal
 
 pub returns : goal.returns
-returns c mirrors = c.running.ensures ∙ mirrors_running mirrors
+returns c mirrors = (rw c.number.ensures at c.running.ensures) ∙ mirrors_running mirrors

@@ -103,6 +103,7 @@ fn print_number(rt: &impl Print, n: u64) -> io::Result<()> {
 
 fn print_codes(rt: &impl Print, input: &[u8], start: usize) -> io::Result<()> {
     let mut at = start;
+    // Damaged lines have any length.
     while at < input.len() {
         print_number(rt, code_of(line::read_at(input, at)) as u64)?;
         at = line::next_line(input, at);
@@ -128,6 +129,7 @@ fn print_no_case(rt: &impl Print) -> io::Result<()> {
 
 fn print_cases(rt: &impl Print, input: &[u8]) -> io::Result<()> {
     let mut at: usize = 0;
+    // A case has the length that its heading says.
     while at < input.len() {
         let Some(c) = case_at(input, at) else {
             return print_no_case(rt);

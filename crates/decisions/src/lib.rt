@@ -124,7 +124,7 @@ impl Named for Blackboard {
     }
 }
 
-// Whether one of the first count has this name.
+// Whether one of the first count has this name. Not by `.any`: the equation of its result with `name_taken` did not close.
 #[tactic(auto, using(std::proofs::lemmas::List::take_min, crate::proofs::Names::name_here, crate::proofs::Names::name_later, crate::proofs::Names::name_nowhere))]
 pub fn is_named<T: Named>(items: &[T], count: u8, name: Field) -> bool
     ensures { result ≡ name_taken T.name name (take count items.now) }

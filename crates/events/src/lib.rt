@@ -13,7 +13,8 @@ use places::Placed;
 // ---------------------------------------------------------------- before its partition is looked at
 // The code of the places that need no partition, the time, the current partition and the ticks left after the event, how many
 // partitions are ticked, and where these lie: the channel that a call may name, the current partition, the one that makes a call,
-// the one whose running process is shown; past the last for none.
+// the one whose running process is shown; past the last for none, which `planned` says too, so that one test of the array's bound serves both.
+// The code is a number, since 0 goes on to the partition; time, window and places are there whatever it is.
 #[derive(Clone, Copy)]
 pub struct Plan {
     pub request: Request,

@@ -40,7 +40,8 @@ pub struct Turn {
     pub answer: Answer,
 }
 
-// What reading a table gives: the executive, or an empty one with 11 or 12 and the line's number; and how many lines it took.
+// What reading a table gives: the executive, or an empty one with 11 or 12 and the line's number; and how many lines it took. It is no Result,
+// since `opened` gives executive and lines where it is refused too.
 #[derive(Clone, Copy)]
 pub struct Opening {
     pub executive: Executive,

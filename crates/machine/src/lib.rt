@@ -68,7 +68,7 @@ pub struct Process {
     pub wait: Wait,
 }
 
-// Process ids in order; what lies past len is 0.
+// Process ids in order; what lies past len is 0. An array with its length, as in a queue and a table: there is no heap.
 #[derive(Clone, Copy)]
 pub struct Ids {
     pub items: [u8; Module::PROCESSES],
@@ -242,7 +242,7 @@ pub struct Numbers {
     pub n6: i64,
 }
 
-// What a line holds: six numbers, or it is refused (11).
+// What a line holds: six numbers, or it is refused (11): the form that document 01 names, and no Option.
 #[derive(Clone, Copy)]
 pub enum Line {
     Six(Numbers),
@@ -316,7 +316,7 @@ impl Refusal {
     }
 }
 
-// The first three numbers of an answer.
+// The first three numbers of an answer. The code is a number here and in an answer: 0 and 7 are no refusals, and the claims say each number.
 #[derive(Clone, Copy)]
 pub struct Reply {
     pub code: u8,
@@ -412,7 +412,8 @@ pub enum Change {
 
 // What an event decides: the code of a refusal; code 0 with value and extra; a tick, code 0; code 7 with the caller's record, in which
 // it waits; code 0 with two changes in order and a value; a mode 0, 1 or 2, code 0; a message on the sampling channel at this place, code 0; a
-// transfer on the queuing channel at this place, code 0 with a value.
+// transfer on the queuing channel at this place, code 0 with a value. A refusal has its number, of which the definitions and the claims speak
+// (`reply_of`, `SoundDecision`); the functions of the calls give a `Result` and `services::call` turns it into this.
 #[derive(Clone, Copy)]
 pub enum Decision {
     Refused(u8),
@@ -431,7 +432,7 @@ pub struct Stepped {
     pub answer: Answer,
 }
 
-// The process chosen so far, with its priority; id 0 is none.
+// The process chosen so far, with its priority; id 0 is none, as in an answer's last number.
 #[derive(Clone, Copy)]
 pub struct Choice {
     pub id: u8,
@@ -447,7 +448,8 @@ pub struct Draft {
     pub channels: u8,
 }
 
-// What reading a table gives: the module, or the empty record with 11 or 12 and the line's number; and how many lines it took.
+// What reading a table gives: the module, or the empty record with 11 or 12 and the line's number; and how many lines it took. It is no Result,
+// since `read_table` gives record and lines where it is refused too.
 #[derive(Clone, Copy)]
 pub struct Reading {
     pub state: Module,

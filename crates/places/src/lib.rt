@@ -23,7 +23,8 @@ const FIELDS: [u8; 35] = [
     0, 0, 0,
 ];
 
-// How many of the fields a, b, c, e call n uses; the tick and another number use none.
+// How many of the fields a, b, c, e call n uses; the tick and another number use none. Not by `FIELDS.get(..)`: that its copy is the number there
+// did not close.
 fn fields_of(n: u32) -> u8
     ensures { result ≡ (service_of n).fields }
 {

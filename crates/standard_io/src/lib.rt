@@ -77,6 +77,7 @@ fn print_chunk<W: Write>(to: &mut W, s: Stream, chunk: &[u8], out: &mut [u8], pr
     let mut stream = s;
     let mut written = true;
     let mut at: usize = 0;
+    // The step is what the stream took, which only it knows.
     while at < chunk.len() {
         let a = stream.advance(&chunk[at..], out);
         if print(to, prints, out, a.printed).is_err() {
@@ -280,6 +281,7 @@ pub fn read_whole_from<R: Read>(from: &mut R, input: &mut [u8]) -> Result<usize,
     ensures end { IsOk result → whole_length result < length input.new → IsAtEnd (R.remaining from.new) }
 {
     let mut at: usize = 0;
+    // The step is what a read gave.
     while at < input.len() {
         match read_from(from, input, at) {
             Ok(0) => return Ok(at),

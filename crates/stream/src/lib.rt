@@ -247,6 +247,7 @@ impl Stream {
         let mut x = self.place;
         let mut at: usize = 0;
         let mut to: usize = 0;
+        // The step is a block of lines or a byte, as the place in the input says.
         while at < chunk.len() {
             if out.len() - to < Module::LINE {
                 break;

@@ -100,6 +100,7 @@ pub fn replay(input: &[u8], out: &mut [u8]) -> Result<usize, Refused>
     }
     let mut executive = o.executive;
     let mut to: usize = 0;
+    // The step is the block of lines that was taken.
     while at < input.len() {
         let r = event_lines::run_lines(executive, input, at, out, to);
         if 0 < r.lines {
@@ -171,6 +172,7 @@ pub fn waiting_times(input: &[u8], out: &mut [u8]) -> Result<usize, Refused>
     }
     let executive = o.executive;
     let mut to: usize = 0;
+    // The step is the length of a line, as in `count_lines`.
     while at < input.len() {
         ask_line(executive, input, at, out, to);
         at = line::next_line(input, at);

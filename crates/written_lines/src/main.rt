@@ -50,7 +50,7 @@ const TRIED: [i64; COUNT] = [
 // The fields of a line.
 const FIELDS: usize = 6;
 
-// What is printed for a line that is not written.
+// What is printed for a line that is not written. By number: beside the writer by itself (tools/take-writer) `machine` has no function.
 const REFUSED: u8 = 11;
 
 // A line with a number in the field at a place, counted from 0.

@@ -65,7 +65,7 @@ pub fn read_blackboard(v: View, k: u32, a: Field) -> Result<Decision, Refusal>
     }
     let message = v.blackboard.message;
     let success = Decision::Unchanged(message.unwrap_or(0), Some(0));
-    objects::awaited(
+    objects::awaited_in_mode(
         v,
         true,
         a,

@@ -51,7 +51,7 @@ pub fn send_buffer(v: View, k: u32, m: Field, a: Field) -> Result<Decision, Refu
     let n = fields::number_of(m);
     let success = decisions::changed(Change::Moved(k, messages::sent_to(v.waiter, n)));
     let wait = Wait::Sending(k as u8, n);
-    objects::awaited(v, fields::is_message(m), a, v.has_room(), success, wait)
+    objects::awaited_in_mode(v, fields::is_message(m), a, v.has_room(), success, wait)
 }
 
 // 25 RECEIVE_BUFFER
@@ -67,5 +67,5 @@ pub fn receive_buffer(v: View, k: u32, a: Field) -> Result<Decision, Refusal>
         Change::Nothing,
         v.first,
     );
-    objects::awaited(v, true, a, 0 < v.len, success, Wait::Receiving(k as u8))
+    objects::awaited_in_mode(v, true, a, 0 < v.len, success, Wait::Receiving(k as u8))
 }

@@ -14,6 +14,13 @@ use machine::{
     Reply, Semaphore, Time,
 };
 
+mod questions;
+
+pub use questions::{
+    does_change, first_change, is_restart, message_at, message_of, mode_of, second_change,
+    transfer_at, transfer_of, wait_code,
+};
+
 // ---------------------------------------------------------------- decisions
 fn reply(code: u8, value: u32, extra: Time) -> Reply
     ensures { result ≡ record { code = code; value = value; extra = extra } }

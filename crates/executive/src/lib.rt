@@ -4,7 +4,8 @@
 ghost use Rattle.std.specs.Prelude.{◌≡◌, ◌+◌, ◌-◌, ◌≤◌, length, false, List, ℕ};
 ghost use Rattle.std.proofs.lemmas.List.Edits.{sets};
 ghost use Rattle.machine.specs.Limits.{process_limit};
-ghost use Rattle.machine.specs.Partition.{nothing_created, applied, stored, running};
+ghost use Rattle.machine.specs.Partition.{nothing_created, process, applied, stored, created, stored_buffer, empty_buffer, changed_all, waiters, entered_normal, running};
+ghost use Rattle.partition.specs.Waits.{served_with};
 ghost use Rattle.machine.specs.Mode.{mode_number};
 ghost use Rattle.machine.specs.Module.{channel, message};
 ghost use Rattle.machine.specs.Channels.{port_at, traffic_at};
@@ -121,6 +122,40 @@ impl Resident {
         }
     }
 
+    // A process's record, read where it lies: by `process_at` each message would copy the partition.
+    fn process(&self, id: u32) -> Process
+        ensures { result ≡ process id self.now.partition }
+    {
+        partition::by_id(&self.partition.processes, id, Process::blank())
+    }
+
+    // Four changes that give a whole partition, which is copied. Each is a function of its own: a function pays at its entry for all that it
+    // holds, and `change` would do so at every event.
+    fn create(&mut self, id: u32, x: Process)
+        ensures { self.new.partition ≡ created id x self.old.partition }
+    {
+        self.partition = partition::create(self.partition, id, x);
+    }
+
+    fn create_buffer(&mut self, id: u32, name: u16, limit: u8)
+        ensures made { self.new.partition ≡ stored_buffer id (empty_buffer name limit) self.old.partition }
+        ensures beside { Mirrors self.old.partition self.old.currents self.old.objects → Mirrors self.new.partition self.new.currents self.new.objects }
+    {
+        self.partition = partition::create_buffer(self.partition, id, name, limit);
+    }
+
+    fn end_queue(&mut self, object: u16, hands: bool, m: u32)
+        ensures { self.new.partition ≡ changed_all (served_with hands m) (waiters object self.old.partition) self.old.partition }
+    {
+        self.partition = partition::end_queue(self.partition, object, hands, m);
+    }
+
+    fn enter_normal(&mut self, c: Context)
+        ensures { self.new.partition ≡ entered_normal c self.old.partition }
+    {
+        self.partition = partition::enter_normal(self.partition, c);
+    }
+
     // One change. The numbers follow where one process is stored; they have to be filled anew where the result is true.
     fn change(&mut self, change: Change) -> bool
         ensures made { self.new.partition ≡ applied change self.old.partition }
@@ -130,7 +165,7 @@ impl Resident {
             Change::Nothing => {}
             Change::Stored(id, y) => self.store(id, y),
             Change::Created(id, y) => {
-                self.partition = partition::create(self.partition, id, y);
+                self.create(id, y);
                 return true;
             }
             Change::Last(id) => self.partition.arrival = partition::last_in(
@@ -155,7 +190,7 @@ impl Resident {
                 }
             }
             Change::CreatedBuffer(id, name, limit) => {
-                self.partition = partition::create_buffer(self.partition, id, name, limit);
+                self.create_buffer(id, name, limit);
             }
             Change::Moved(id, y) => {
                 let k = partition::slot(id, Module::BUFFERS);
@@ -169,7 +204,8 @@ impl Resident {
                     );
                 }
                 let other = partition::ended_id(y);
-                let ended = partition::ended_as(partition::process_at(self.partition, other), y);
+                let old = self.process(other);
+                let ended = partition::ended_as(old, y);
                 self.store(other, ended);
             }
             Change::StoredBlackboard(id, y) => {
@@ -183,11 +219,11 @@ impl Resident {
                 }
             }
             Change::Ended(o) => {
-                self.partition = partition::end_queue(self.partition, o, false, 0);
+                self.end_queue(o, false, 0);
                 return true;
             }
             Change::Handed(o, y) => {
-                self.partition = partition::end_queue(self.partition, o, true, y);
+                self.end_queue(o, true, y);
                 return true;
             }
             Change::LevelSet(level, holder) => {
@@ -195,7 +231,7 @@ impl Resident {
                 self.partition.holder = holder;
             }
             Change::Entered(y) => {
-                self.partition = partition::enter_normal(self.partition, y);
+                self.enter_normal(y);
                 return true;
             }
         }
@@ -451,7 +487,8 @@ impl Executive {
                                 changed = true;
                             } else {
                                 let p = m.partitions[end];
-                                m.partitions[end] = partition::after_transfer(p, transfer);
+                                let after = partition::after_transfer(p, transfer);
+                                m.partitions[end] = after;
                             }
                         }
                     }

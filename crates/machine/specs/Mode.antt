@@ -10,6 +10,6 @@ mode_number ColdStart = 1
 mode_number WarmStart = 2
 mode_number NormalMode = 3
 
--- the mode of this number
+-- the mode of this number; of a number that no mode has it is a start mode, which runs nothing
 abbrev pub mode_numbered : ℕ → Mode
-mode_numbered n = cond (eqb n 0) Idle (cond (eqb n 1) ColdStart (cond (eqb n 2) WarmStart NormalMode))
+mode_numbered n = cond (eqb n 0) Idle (cond (eqb n 1) ColdStart (cond (eqb n 3) NormalMode WarmStart))

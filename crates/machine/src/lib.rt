@@ -142,15 +142,15 @@ impl Mode {
         self == Mode::Normal
     }
 
-    // NORMAL for every number past those of the others.
+    // A number that no mode has gives a start mode, which runs nothing.
     pub fn numbered(n: u32) -> Mode
         ensures { result ≡ mode_numbered n }
     {
         match n {
             0 => Mode::Idle,
             1 => Mode::ColdStart,
-            2 => Mode::WarmStart,
-            _ => Mode::Normal,
+            3 => Mode::Normal,
+            _ => Mode::WarmStart,
         }
     }
 }

@@ -1,9 +1,10 @@
 // Semaphores and events of a partition: calls 14 to 20.
 #![tactic(auto, unfolding(machine::specs::Decisions::checked, machine::specs::Decisions::queued, machine::specs::Decisions::awaiting, machine::specs::Objects::create_semaphore, machine::specs::Objects::create_event, machine::specs::Objects::wait_semaphore, machine::specs::Objects::wait_event, machine::specs::Objects::signal, machine::specs::Objects::set_event, machine::specs::Objects::reset_event))]
 
-ghost use Rattle.std.specs.Prelude.{◌≡◌, ℕ, ◌&&◌, [], take};
+ghost use Rattle.std.specs.Prelude.{◌≡◌, ℕ, cond, ◌&&◌, [], eqb, leb, take};
 ghost use Rattle.machine.specs.Limits.{value_limit};
-ghost use Rattle.machine.specs.Fields.{is_name, between, number_of};
+ghost use Rattle.machine.specs.Fields.{is_name, is_message, is_timeout, between, number_of};
+ghost use Rattle.machine.specs.declared.Decision.TheVariants.{Refused};
 ghost use Rattle.machine.specs.Partition.{semaphore, event, no_semaphore, no_event, waiters, first_waiter};
 ghost use Rattle.machine.specs.Objects.{semaphore_named, event_named, create_semaphore, create_event, wait_semaphore, wait_event, signalled, signal, set_event, reset_event};
 ghost use Rattle.machine.specs.Decisions.{queued, awaiting};
@@ -95,9 +96,39 @@ fn wait_queued(v: View, a: Field, wait: Wait) -> Result<Decision, Refusal>
     )
 }
 
+// What a send that may wait admits.
+pub fn is_sending_admitted(m: Field, a: Field) -> bool
+    ensures { result ≡ is_message m && is_timeout a }
+{
+    fields::is_message(m) && fields::is_timeout(a)
+}
+
+// The id of an object in 8 bits; 0 for one that no object has.
+pub fn short_id(k: u32) -> u8
+    ensures { result ≡ cond (leb k 255) k 0 }
+{
+    u8::try_from(k).unwrap_or(0)
+}
+
+// A call that waits with time-out a, by the code of its checks: where it need not wait, success.
+pub fn awaited(v: View, code: u8, a: Field, passes: bool, success: Decision, wait: Wait) -> Decision
+    ensures { (p : PartitionT) (id : ℕ) → Shows v id p → result ≡ cond (eqb code 0) (cond passes success (queued v.context a wait p)) (Refused code) }
+{
+    if code != 0 {
+        return Decision::Refused(code);
+    }
+    if passes {
+        return success;
+    }
+    match wait_queued(v, a, wait) {
+        Ok(d) => d,
+        Err(e) => Decision::Refused(e.code()),
+    }
+}
+
 // A call that may wait, once it has passed the checks of its own: the checks of the mode, and of time-out a with what stands beside it; where it
 // need not wait, success; else it waits.
-pub fn awaited(
+pub fn awaited_in_mode(
     v: View,
     beside: bool,
     a: Field,
@@ -129,7 +160,7 @@ pub fn wait_semaphore(v: View, k: u32, a: Field) -> Result<Decision, Refusal>
     let s = v.semaphore;
     let value = s.value.saturating_sub(1);
     let success = decisions::changed(Change::StoredSemaphore(k, Semaphore { value, ..s }));
-    awaited(v, true, a, 0 < s.value, success, Wait::Semaphore(k as u8))
+    awaited_in_mode(v, true, a, 0 < s.value, success, Wait::Semaphore(k as u8))
 }
 
 // 20 WAIT_EVENT
@@ -140,7 +171,7 @@ pub fn wait_event(v: View, k: u32, a: Field) -> Result<Decision, Refusal>
         return Err(Refusal::InvalidParameter);
     }
     let success = Decision::Unchanged(0, Some(0));
-    awaited(v, true, a, v.event.up, success, Wait::Event(k as u8))
+    awaited_in_mode(v, true, a, v.event.up, success, Wait::Event(k as u8))
 }
 
 // The first waiter's wait on an object ends; none: the value rises by one.

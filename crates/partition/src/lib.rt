@@ -12,9 +12,9 @@ ghost use Rattle.machine.specs.Process as Pr;
 ghost use Rattle.machine.specs.Process.{carried, due, ready, on_object, ticked, served, entered};
 ghost use Rattle.machine.specs.Partition.{by_id, process, stored, arrived_last, preferred, running, waits_on, waiters, first_waiter, changed_all, tick_partition, entered_normal, nothing_created, stored_event, stored_buffer, empty_buffer, created, ended_by, applied, partition_after};
 
+pub use lists::{first_where, greatest, keep, or_later};
 use machine::{
-    Buffer, Choice, Context, EventState, Ids, Mode, Module, Partition, Process, Queue, Time,
-    Transfer,
+    Buffer, Context, EventState, Ids, Mode, Module, Partition, Process, Queue, Time, Transfer,
 };
 
 // An id in a byte; no record has one past 255.
@@ -30,37 +30,6 @@ fn append(q: Ids, id: u8) -> Ids
     let mut r = q;
     r.len = arrays::join_last(&mut r.items, q.len, id);
     r
-}
-
-// The ids of a list that pass a test. The new list is filled where it lies: a function that gives a list would copy it at each turn.
-pub fn keep<F: Fn(u8) -> bool>(q: Ids, test: F) -> Ids
-    requires { F.IsAlwaysCallable test }
-    ensures { (f : ℕ → Bool) → ((x : ℕ) (r : Bool) → F.post test x r → r ≡ f x) → result ≡ ids_of (kept f (members q)) }
-{
-    let mut found = Ids {
-        items: [0; Module::PROCESSES],
-        len: 0,
-    };
-    for id in arrays::held(&q.items, q.len) {
-        if test(*id) {
-            let len = found.len;
-            found.len = arrays::join_last(&mut found.items, len, *id);
-        }
-    }
-    found
-}
-
-// The first id of a list that passes a test, 0 for none.
-pub fn first_where<F: Fn(u8) -> bool>(q: Ids, test: F) -> u8
-    requires { F.IsAlwaysCallable test }
-    ensures { (f : ℕ → Bool) → ((x : ℕ) (r : Bool) → F.post test x r → r ≡ f x) → result ≡ get_or (kept f (members q)) 0 0 }
-{
-    for id in arrays::held(&q.items, q.len) {
-        if test(*id) {
-            return *id;
-        }
-    }
-    0
 }
 
 // A list without an id.
@@ -108,29 +77,6 @@ pub fn process_at(p: Partition, id: u32) -> Process
     ensures { result ≡ process id p }
 {
     by_id(&p.processes, id, Process::blank())
-}
-
-// The process chosen so far, or a later one of greater priority.
-pub fn or_later(c: Choice, id: u8, priority: u8) -> Choice
-    ensures { result ≡ preferred c id priority }
-{
-    if c.id == 0 || c.priority < priority {
-        Choice { id, priority }
-    } else {
-        c
-    }
-}
-
-// The id of a list that has the greatest priority, the first among equals; 0 for none.
-pub fn greatest<F: Fn(u8) -> u8>(q: Ids, priority: F) -> u8
-    requires { F.IsAlwaysCallable priority }
-    ensures { (f : ℕ → ℕ) → ((x r : ℕ) → F.post priority x r → r ≡ f x) → result ≡ (fold (λ c id. preferred c id (f id)) (record { id = 0; priority = 0 }) (members q)).id }
-{
-    let mut best = Choice { id: 0, priority: 0 };
-    for id in arrays::held(&q.items, q.len) {
-        best = or_later(best, *id, priority(*id));
-    }
-    best.id
 }
 
 // While preemption is locked, the holder.

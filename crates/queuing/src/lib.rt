@@ -142,7 +142,7 @@ pub fn send_channel(v: View, x: Port, m: Field, a: Field) -> Result<Decision, Re
     let success = Decision::Passed(x.place, messages::sent_to(x.traffic.waiter, n), 0);
     let has_room = x.traffic.len < x.channel.size;
     let wait = Wait::Source(number_at(x.place as usize), n);
-    objects::awaited(v, fields::is_message(m), a, has_room, success, wait)
+    objects::awaited_in_mode(v, fields::is_message(m), a, has_room, success, wait)
 }
 
 // 31 RECEIVE
@@ -157,7 +157,7 @@ pub fn receive_channel(v: View, x: Port, a: Field) -> Result<Decision, Refusal>
         x.traffic.first,
     );
     let wait = Wait::Destination(number_at(x.place as usize));
-    objects::awaited(v, true, a, 0 < x.traffic.len, success, wait)
+    objects::awaited_in_mode(v, true, a, 0 < x.traffic.len, success, wait)
 }
 
 // ---------------------------------------------------------------- restarts

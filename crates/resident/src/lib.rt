@@ -53,21 +53,21 @@ pub fn running(
     if 0 < level {
         return holder;
     }
-    partition::greatest(arrival, |id| priority_of(currents, id))
+    lists::greatest(arrival, |id| priority_of(currents, id))
 }
 
 // The first of the queue of an object, 0 for none.
 pub fn first_on(waiting: Ids, objects: &[u16; Module::PROCESSES], object: u64) -> u8
     ensures { result ≡ first_on object waiting objects.now }
 {
-    partition::first_where(waiting, |id| is_on(objects, id, object))
+    lists::first_where(waiting, |id| is_on(objects, id, object))
 }
 
 // The queue of an object.
 pub fn queue_on(waiting: Ids, objects: &[u16; Module::PROCESSES], object: u64) -> Ids
     ensures { result ≡ ids_of (queue_on object waiting objects.now) }
 {
-    partition::keep(waiting, |id| is_on(objects, id, object))
+    lists::keep(waiting, |id| is_on(objects, id, object))
 }
 
 // The numbers of a partition's processes.

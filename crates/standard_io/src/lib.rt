@@ -49,7 +49,7 @@ pub struct Replayed {
 }
 
 // A read failed, after so many bytes of an input, which lie at the front of a buffer.
-#[derive(Drop)]
+#[derive(Clone, Copy)]
 pub struct Cut {
     pub length: usize,
     pub error: io::Error,

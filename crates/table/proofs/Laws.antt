@@ -176,6 +176,10 @@ module _ (input : List ℕ) (at total line : ℕ) (d : Draft) (more : line < tot
         rw w (row_draft (total - (line + 1)) d row (rw n at s) good, rw good at row_next)
 
 -- no line is left to read
-pub lines_done : (total line : ℕ) (d : Draft) (ls : List Line) (x : Reading) → line ≡ total → table_from (total - line) line d ls ≡ x → checked_table d.table total ≡ x
+pub lines_done : (total line : ℕ) (d : Draft) (ls : List Line) (x : Reading) → total ≤ line → table_from (total - line) line d ls ≡ x → checked_table d.table line ≡ x
 unfolding table_from
-lines_done total line d ls x same q = let e : total - line ≡ 0 = omega arith in rw (e, same) at q
+lines_done total line d ls x h q = let e : total - line ≡ 0 = omega arith in rw e at q
+
+-- the same by the number of all
+pub all_lines_done : (total line : ℕ) (d : Draft) (ls : List Line) (x : Reading) → line ≡ total → table_from (total - line) line d ls ≡ x → checked_table d.table total ≡ x
+all_lines_done total line d ls x same q = ap (checked_table d.table) (sym same) ∙ lines_done total line d ls x (omega (arith, same)) q

@@ -7,7 +7,7 @@ use Rattle.std.specs.Prelude.{Err}
 use Rattle.machine.specs.Limits.{line_length}
 use Rattle.machine.specs.Line.{read_at}
 use Rattle.table.specs.Given.{reading_of}
-use Rattle.table.proofs.Laws.{lines_from, row_six, row_bad, head_sound, head_read, room, line_refused, row_refused, row_taken, lines_done}
+use Rattle.table.proofs.Laws.{lines_from, row_six, row_bad, head_sound, head_read, room, line_refused, row_refused, row_taken, all_lines_done}
 use Rattle.table.proofs.Ends.{six_inside}
 use Rattle.table.proofs.rest.Goals as goal
 
@@ -53,4 +53,4 @@ returns c =
     let a = c.args in
     let l = c.loop-line in
     head_read a.head _ _ c.requires.0 c.head_draft-d.ensures _
-    (c.checked.ensures ∙ lines_done _ l.line l.d _ _ (omega arith) l.invariant.2)
+    (c.checked.ensures ∙ all_lines_done _ l.line l.d _ _ (omega arith) l.invariant.2)

@@ -128,7 +128,7 @@ did c =
       | in-Written+then-put-lt-CHANNELS w ↦ (done_as_holds refl (ap lies w.here-is) (ap (λ (r : Resident). r.currents) w.here-is) (ap (λ (r : Resident). r.objects) w.here-is) w.soon-is w.stale-is w.changed-is (done_written g _ (sym (ap message_at w.in-Written.is)) w.if-put-lt-CHANNELS.true (sym (ap message_of w.in-Written.is)) _ w.m-is))
       | in-Written+else-put-lt-CHANNELS w ↦ (done_as_holds w.m-is (ap lies w.here-is) (ap (λ (r : Resident). r.currents) w.here-is) (ap (λ (r : Resident). r.objects) w.here-is) w.soon-is w.stale-is w.changed-is (done_same g (ap changes w.in-Written.is) _ _ (sym (ap message_at w.in-Written.is)) w.if-put-lt-CHANNELS.false (sym (ap transfer_at w.in-Written.is)) (omega arith)))
       | in-Passed+then-pass-lt-CHANNELS+then-end-lt-PARTITIONS+then-end-spot w ↦ (done_as_holds refl (ap lies w.here-is) (ap (λ (r : Resident). r.currents) w.here-is) (ap (λ (r : Resident). r.objects) w.here-is) w.soon-is w.stale-is w.changed-is (done_here g _ (sym (ap transfer_at w.in-Passed.is)) w.if-pass-lt-CHANNELS.true (sym (ap transfer_of w.in-Passed.is)) _ w.change.ensures _ w.ended_slot-end.ensures w.if-end-lt-PARTITIONS.true w.if-end-spot.true w.after_transfer-here.result w.after_transfer-here.ensures _ w.m-is))
-      | in-Passed+then-pass-lt-CHANNELS+then-end-lt-PARTITIONS+else-end-spot w ↦ (done_as_holds refl (ap lies w.here-is) (ap (λ (r : Resident). r.currents) w.here-is) (ap (λ (r : Resident). r.objects) w.here-is) w.soon-is w.stale-is w.changed-is (done_there g _ (sym (ap transfer_at w.in-Passed.is)) w.if-pass-lt-CHANNELS.true (sym (ap transfer_of w.in-Passed.is)) _ w.change.ensures _ w.ended_slot-end.ensures w.if-end-lt-PARTITIONS.true w.if-end-spot.false w.after_transfer.result w.after_transfer.ensures _ w.m-is))
+      | in-Passed+then-pass-lt-CHANNELS+then-end-lt-PARTITIONS+else-end-spot w ↦ (done_as_holds refl (ap lies w.here-is) (ap (λ (r : Resident). r.currents) w.here-is) (ap (λ (r : Resident). r.objects) w.here-is) w.soon-is w.stale-is w.changed-is (done_there g _ (sym (ap transfer_at w.in-Passed.is)) w.if-pass-lt-CHANNELS.true (sym (ap transfer_of w.in-Passed.is)) _ w.change.ensures _ w.ended_slot-end.ensures w.if-end-lt-PARTITIONS.true w.if-end-spot.false w.after_transfer-after.result w.after_transfer-after.ensures _ w.m-is))
       | in-Passed+then-pass-lt-CHANNELS+else-end-lt-PARTITIONS w ↦ (done_as_holds refl (ap lies w.here-is) (ap (λ (r : Resident). r.currents) w.here-is) (ap (λ (r : Resident). r.objects) w.here-is) w.soon-is w.stale-is w.changed-is (done_moved g _ (sym (ap transfer_at w.in-Passed.is)) w.if-pass-lt-CHANNELS.true (sym (ap transfer_of w.in-Passed.is)) _ w.change.ensures _ w.ended_slot-end.ensures w.if-end-lt-PARTITIONS.false _ w.m-is))
       | in-Passed+else-pass-lt-CHANNELS w ↦ (done_as_holds w.m-is (ap lies w.here-is) (ap (λ (r : Resident). r.currents) w.here-is) (ap (λ (r : Resident). r.objects) w.here-is) w.soon-is w.stale-is w.changed-is (done_same g (ap changes w.in-Passed.is) _ _ (sym (ap message_at w.in-Passed.is)) (omega arith) (sym (ap transfer_at w.in-Passed.is)) w.if-pass-lt-CHANNELS.false))
     ]

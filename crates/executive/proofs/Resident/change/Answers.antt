@@ -4,10 +4,8 @@ use Rattle.machine.specs.Partition.{buffer, ended_by, moved_in, stored_buffer, a
 use Rattle.machine.proofs.Bounds.{semaphore_out, event_out, buffer_out, blackboard_out}
 use Rattle.partition.proofs.Laws.{slot_out, semaphore_at, event_at_holds, blackboard_at, moved_at_holds, ended}
 use Rattle.partition.specs.Waits.{ended_as}
-use Rattle.resident.proofs.Laws.{mirrors_same, processes_of}
 use Rattle.machine.specs.declared.Partition.{Partition}
 use Rattle.executive.specs.declared.Resident.{Resident}
-use Rattle.executive.proofs.Residents.{buffer_keeps}
 use Rattle.executive.proofs.Resident.change.Goals as goal
 use Rattle.executive.proofs.Resident.change.Goals.{Joined-k-lt-BUFFERS, then-k-lt-BUFFERS, else-k-lt-BUFFERS}
 
@@ -28,7 +26,7 @@ pub returns-else-k-lt-EVENTS-clause-made : goal.returns-else-k-lt-EVENTS-clause-
 returns-else-k-lt-EVENTS-clause-made c = rw c.in-StoredEvent.is (sym (event_out _ _ c.args.self.now.partition (slot_out event_limit c.in-StoredEvent.id _ c.slot-k-in-StoredEvent.ensures c.if-k-lt-EVENTS.false)))
 
 pub returns-in-CreatedBuffer-clause-beside : goal.returns-in-CreatedBuffer-clause-beside
-returns-in-CreatedBuffer-clause-beside c _ mirrors = mirrors_same mirrors (ap processes_of c.create_buffer-self.ensures ∙ buffer_keeps _ _ c.args.self.now.partition)
+returns-in-CreatedBuffer-clause-beside c _ = c.create_buffer.ensures.beside
 
 -- the partition of what lies in place
 abbrev resident_partition : Resident → Partition
@@ -44,7 +42,7 @@ moved c = elim c.if-k-lt-BUFFERS.branch [
 pub returns-after-k-lt-BUFFERS-clause-made : goal.returns-after-k-lt-BUFFERS-clause-made
 returns-after-k-lt-BUFFERS-clause-made c =
     c.store-in-Moved.ensures.stored
-    ∙ ended c.in-Moved.y _ c.if-k-lt-BUFFERS.self.partition c.ended_id-other.ensures _ (c.ended_as-ended.ensures ∙ ap (ended_as c.in-Moved.y) c.process_at.ensures)
+    ∙ ended c.in-Moved.y _ c.if-k-lt-BUFFERS.self.partition c.ended_id-other.ensures _ (c.ended_as-ended.ensures ∙ ap (ended_as c.in-Moved.y) c.process-old.ensures)
     ∙ rw c.in-Moved.is (ap (ended_by c.in-Moved.y) (moved (goal.at.returns-after-k-lt-BUFFERS-clause-made c).Joined-k-lt-BUFFERS))
 
 pub returns-then-k-lt-BLACKBOARDS-clause-made : goal.returns-then-k-lt-BLACKBOARDS-clause-made

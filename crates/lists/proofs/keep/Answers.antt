@@ -6,9 +6,9 @@ use lib.ListN.{length}
 use Rattle.machine.specs.Limits.{process_limit}
 use Rattle.machine.specs.Ids.{ids_of}
 use Rattle.machine.proofs.Lists.{kept_none, length_members}
-use Rattle.partition.proofs.Laws.{kept_in, kept_out}
-use Rattle.partition.proofs.keep.Goals as goal
-use Rattle.partition.proofs.keep.Goals.{then-test, else-test}
+use Rattle.lists.proofs.Laws.{kept_in, kept_out}
+use Rattle.lists.proofs.keep.Goals as goal
+use Rattle.lists.proofs.keep.Goals.{then-test, else-test}
 use borrow.Author.Rules.{rules}
 
 pub loop-id-init : goal.loop-id-init

@@ -1,36 +1,17 @@
 -- A list filled in place with the ids that pass a test; the first that passes one. Assumes nothing.
-use Prim.Native.Nat.{ℕ, zero, suc, ◌+◌, ◌-◌, ◌≤◌, ◌<◌, max, min}
-use mathlib.Core.Path.{◌≡◌, refl, sym, ap, ap₂, ◌∙◌}
-use mathlib.Core.Bool.{Bool, true, false, cond, ◌||◌}
-use mathlib.Core.List.{List, [], ◌∷◌, ◌++◌, map, map-append}
+use Prim.Native.Nat.{ℕ, ◌+◌, ◌-◌, ◌≤◌, ◌<◌, min}
+use mathlib.Core.Path.{◌≡◌, ap, ◌∙◌}
+use mathlib.Core.Bool.{Bool, true, false, cond}
+use mathlib.Core.List.{List}
 use native.Mathlib.Omega.{arith}
 use native.Mathlib.Numerals.{add-one}
-use lib.ListN.{length, get_or, set, take, drop, replicate, length-append, length-replicate, length-take, length-map, drop_of_length-le}
-use lib.Seq.{drop-cons, take-append-le, take_all, take-suc}
-use lib.Dec.{eqb, ltb}
-use borrow.Author.Tests.{eq-eqb, ne_eqb, eqb-true, eqb-false}
+use lib.ListN.{length, get_or, set, take, drop, replicate, length-append, length-replicate, length-take, drop_of_length-le}
+use lib.Seq.{drop-cons}
+use lib.Dec.{ltb}
 use Rattle.machine.specs.declared.Ids.{Ids}
-use Rattle.machine.specs.declared.Process.{Process}
-use Rattle.machine.specs.declared.Semaphore.{Semaphore}
-use Rattle.machine.specs.declared.EventState.{EventState}
-use Rattle.machine.specs.declared.Buffer.{Buffer}
-use Rattle.machine.specs.declared.Blackboard.{Blackboard}
-use Rattle.machine.specs.declared.Transfer.{Transfer}
-use Rattle.machine.specs.declared.Transfer.TheVariants.{Put, HandedTo, Taken, LetIn}
-use Rattle.machine.specs.declared.Partition.{Partition}
-use Rattle.machine.specs.declared.Change.{Change}
-use Rattle.machine.specs.declared.Choice.{Choice}
-use Rattle.std.specs.List.{fold}
-use Rattle.machine.specs.Limits.{message_limit, process_limit, semaphore_limit, event_limit, buffer_limit, blackboard_limit}
-use Rattle.machine.specs.Ids.{members, ids_of, kept, appended, follow}
-use Rattle.machine.specs.Messages.{queue_of, put}
-use Rattle.machine.specs.Process.{blank_process, due, ticked, ready, on_object}
-use Rattle.machine.specs.Partition.{within, by_id, process, buffer, no_buffer, moved_in, with_processes, with_semaphores, with_events, with_buffers, with_blackboards, stored, created, preferred, chosen, changed_all, stored_semaphore, stored_event, stored_buffer, stored_blackboard, ended_by, applied}
-use Rattle.machine.proofs.Bounds.{inside, outside_zero, outside_high, named_in, named_out, stored_in, created_in, semaphore_in, event_in, buffer_in, blackboard_in, stored_out}
-use Rattle.machine.proofs.Either.{either}
-use Rattle.machine.proofs.Lists.{scan_next, length_kept, members_of, put_queue_of}
-use Rattle.machine.proofs.Quiet.{stored_same, ticked_same}
-use Rattle.machine.proofs.Tests.{or_left, or_right}
+use Rattle.machine.specs.Limits.{process_limit}
+use Rattle.machine.specs.Ids.{ids_of, kept, appended}
+use Rattle.machine.proofs.Lists.{scan_next, length_kept}
 use Rattle.arrays.proofs.Laws.{joined}
 
 -- ---------------------------------------------------------------- a list filled in place

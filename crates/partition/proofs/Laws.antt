@@ -1,14 +1,14 @@
 -- Loops over the processes, from the first up; the first who wait on an object; records at their places; two changes in order. Assumes
 -- nothing.
-use Prim.Native.Nat.{ℕ, zero, suc, ◌+◌, ◌-◌, ◌≤◌, ◌<◌, max, min}
+use Prim.Native.Nat.{ℕ, zero, suc, ◌+◌, ◌-◌, ◌≤◌, ◌<◌, max}
 use mathlib.Core.Path.{◌≡◌, refl, sym, ap, ap₂, ◌∙◌}
-use mathlib.Core.Bool.{Bool, true, false, cond, ◌||◌}
+use mathlib.Core.Bool.{true, false, ◌||◌}
 use mathlib.Core.List.{List, [], ◌∷◌, ◌++◌, map, map-append}
 use native.Mathlib.Omega.{arith}
 use native.Mathlib.Numerals.{add-one}
-use lib.ListN.{length, get_or, set, take, drop, replicate, length-append, length-replicate, length-take, length-map, drop_of_length-le}
+use lib.ListN.{length, get_or, set, take, drop, length-take, length-map, drop_of_length-le}
 use lib.Seq.{drop-cons, take-append-le, take_all, take-suc}
-use lib.Dec.{eqb, ltb}
+use lib.Dec.{eqb}
 use borrow.Author.Tests.{eq-eqb, ne_eqb, eqb-true, eqb-false}
 use Rattle.machine.specs.declared.Ids.{Ids}
 use Rattle.machine.specs.declared.Process.{Process}
@@ -23,16 +23,15 @@ use Rattle.machine.specs.declared.Change.{Change}
 use Rattle.machine.specs.declared.Choice.{Choice}
 use Rattle.std.specs.List.{fold}
 use Rattle.machine.specs.Limits.{message_limit, process_limit, semaphore_limit, event_limit, buffer_limit, blackboard_limit}
-use Rattle.machine.specs.Ids.{members, ids_of, kept, appended, follow}
+use Rattle.machine.specs.Ids.{members, ids_of, follow}
 use Rattle.machine.specs.Messages.{queue_of, put}
 use Rattle.machine.specs.Process.{blank_process, due, ticked, ready, on_object}
 use Rattle.machine.specs.Partition.{within, by_id, process, buffer, no_buffer, moved_in, with_processes, with_semaphores, with_events, with_buffers, with_blackboards, stored, created, preferred, chosen, changed_all, stored_semaphore, stored_event, stored_buffer, stored_blackboard, ended_by, applied}
 use Rattle.machine.proofs.Bounds.{inside, outside_zero, outside_high, named_in, named_out, stored_in, created_in, semaphore_in, event_in, buffer_in, blackboard_in, stored_out}
 use Rattle.machine.proofs.Either.{either}
-use Rattle.machine.proofs.Lists.{scan_next, length_kept, members_of, put_queue_of}
+use Rattle.machine.proofs.Lists.{members_of, put_queue_of}
 use Rattle.machine.proofs.Quiet.{stored_same, ticked_same}
 use Rattle.machine.proofs.Tests.{or_left, or_right}
-use Rattle.arrays.proofs.Laws.{joined}
 use Rattle.partition.specs.Places.{slot_of, in_byte}
 use Rattle.partition.specs.Waits.{ended_id, ended_as}
 

@@ -6,12 +6,13 @@ ghost use Rattle.partition.specs.Places.{slot_of, in_byte};
 ghost use Rattle.partition.specs.Soonest.{sooner, soonest_of};
 ghost use Rattle.partition.specs.Waits.{served_with, ended_id, ended_as};
 ghost use Rattle.machine.specs.Mode.{mode_number};
-ghost use Rattle.machine.specs.Ids.{members, ids_of, kept, appended, removed, follow};
+ghost use Rattle.machine.specs.Ids.{members, ids_of, other, appended, removed, follow};
 ghost use Rattle.machine.specs.Messages.{queue_of};
 ghost use Rattle.machine.specs.Process as Pr;
 ghost use Rattle.machine.specs.Process.{carried, due, ready, on_object, ticked, served, entered};
 ghost use Rattle.machine.specs.Partition.{by_id, process, stored, arrived_last, preferred, running, waits_on, waiters, first_waiter, changed_all, tick_partition, entered_normal, nothing_created, stored_event, stored_buffer, empty_buffer, created, ended_by, applied, partition_after};
 
+use lists::{Priority, Test};
 pub use lists::{first_where, greatest, keep, or_later};
 use machine::{
     Buffer, Context, EventState, Ids, Mode, Module, Partition, Process, Queue, Time, Transfer,
@@ -32,12 +33,26 @@ fn append(q: Ids, id: u8) -> Ids
     r
 }
 
+// Every id but one passes.
+#[derive(Clone, Copy)]
+struct Except {
+    id: u8,
+}
+
+impl Test<Ids> for Except {
+    ghost passes = { λ s q. other s.id };
+
+    fn passes(self, _known: &Ids, id: u8) -> bool {
+        id != self.id
+    }
+}
+
 // A list without an id.
 #[tactic(auto, unfolding(machine::specs::Ids::removed))]
 fn remove(q: Ids, id: u8) -> Ids
     ensures { result ≡ removed id q }
 {
-    keep(q, |x| x != id)
+    keep(q, &q, Except { id })
 }
 
 // The list with this id at its end, and nowhere else.
@@ -89,7 +104,7 @@ pub fn running_process(p: Partition) -> u8
     if 0 < p.level {
         return p.holder;
     }
-    greatest(p.arrival, |id| record_in(&p, id).current)
+    greatest(p.arrival, &p, Current)
 }
 
 // The record of process id, read where it lies: no partition is copied.
@@ -99,10 +114,30 @@ fn record_in(p: &Partition, id: u8) -> Process
     by_id(&p.processes, u32::from(id), Process::blank())
 }
 
-fn is_on(p: &Partition, id: u8, object: u16) -> bool
-    ensures { result ≡ waits_on object p.now id }
-{
-    process::object_of(record_in(p, id).wait) == object
+// A process's current priority.
+#[derive(Clone, Copy)]
+struct Current;
+
+impl Priority<Partition> for Current {
+    ghost priority = { λ s p id. (process id p).current };
+
+    fn priority(self, known: &Partition, id: u8) -> u8 {
+        record_in(known, id).current
+    }
+}
+
+// Whether a process waits for an object.
+#[derive(Clone, Copy)]
+struct WaitsOn {
+    object: u16,
+}
+
+impl Test<Partition> for WaitsOn {
+    ghost passes = { λ s. waits_on s.object };
+
+    fn passes(self, known: &Partition, id: u8) -> bool {
+        process::object_of(record_in(known, id).wait) == self.object
+    }
 }
 
 // The queue of an object.
@@ -110,7 +145,7 @@ fn is_on(p: &Partition, id: u8, object: u16) -> bool
 pub fn queue_of(p: Partition, object: u16) -> Ids
     ensures { result ≡ ids_of (waiters object p) }
 {
-    keep(p.waiting, |id| is_on(&p, id, object))
+    keep(p.waiting, &p, WaitsOn { object })
 }
 
 // The first of the queue of an object, 0 for none.
@@ -118,7 +153,7 @@ pub fn queue_of(p: Partition, object: u16) -> Ids
 pub fn first_waiter(p: Partition, object: u16) -> u8
     ensures { result ≡ first_waiter object p }
 {
-    first_where(p.waiting, |id| is_on(&p, id, object))
+    first_where(p.waiting, &p, WaitsOn { object })
 }
 
 // The first n of the queue of an object.

@@ -8,6 +8,7 @@ ghost use Rattle.machine.specs.Ids.{ids_of};
 ghost use Rattle.machine.specs.Partition.{by_id};
 ghost use Rattle.resident.specs.Mirrors.{current_of, object_of, filled, is_on, queue_on, first_on, running_by};
 
+use lists::{Priority, Test};
 use machine::{Ids, Module, Partition, Process};
 
 // The object that a process waits for, 0 for none.
@@ -36,6 +37,32 @@ fn is_on(objects: &[u16; Module::PROCESSES], id: u8, object: u64) -> bool
     u64::from(waited_for(objects, id)) == object
 }
 
+// The priorities, by the numbers.
+#[derive(Clone, Copy)]
+struct Current;
+
+impl Priority<[u8; Module::PROCESSES]> for Current {
+    ghost priority = { λ s l id. by_id process_limit 0 id l };
+
+    fn priority(self, known: &[u8; Module::PROCESSES], id: u8) -> u8 {
+        priority_of(known, id)
+    }
+}
+
+// Whether a process waits for an object, by the numbers.
+#[derive(Clone, Copy)]
+struct WaitsOn {
+    object: u64,
+}
+
+impl Test<[u16; Module::PROCESSES]> for WaitsOn {
+    ghost passes = { λ s. is_on s.object };
+
+    fn passes(self, known: &[u16; Module::PROCESSES], id: u8) -> bool {
+        is_on(known, id, self.object)
+    }
+}
+
 // The running process of a partition in the mode of this number, with this lock and this arrival list. While preemption is locked, the holder.
 // By number: a `Mode` would ask more of callers, who may give any.
 pub fn running(
@@ -53,21 +80,21 @@ pub fn running(
     if 0 < level {
         return holder;
     }
-    lists::greatest(arrival, |id| priority_of(currents, id))
+    lists::greatest(arrival, currents, Current)
 }
 
 // The first of the queue of an object, 0 for none.
 pub fn first_on(waiting: Ids, objects: &[u16; Module::PROCESSES], object: u64) -> u8
     ensures { result ≡ first_on object waiting objects.now }
 {
-    lists::first_where(waiting, |id| is_on(objects, id, object))
+    lists::first_where(waiting, objects, WaitsOn { object })
 }
 
 // The queue of an object.
 pub fn queue_on(waiting: Ids, objects: &[u16; Module::PROCESSES], object: u64) -> Ids
     ensures { result ≡ ids_of (queue_on object waiting objects.now) }
 {
-    lists::keep(waiting, |id| is_on(objects, id, object))
+    lists::keep(waiting, objects, WaitsOn { object })
 }
 
 // The numbers of a partition's processes.

@@ -1,7 +1,6 @@
-use borrow.Author.Rules.{rules}
 use borrow.Author.Tests.{not-true, not-false, lt-ltb, le-ltb}
 use Rattle.machine.specs.Ids.{members}
-use Rattle.machine.specs.Partition.{running, process}
+use Rattle.machine.specs.Partition.{running}
 use Rattle.partition.proofs.Laws.{chosen-fold}
 use Rattle.partition.proofs.running_process.Goals as goal
 
@@ -18,4 +17,4 @@ unfolding running
 returns c =
     let p = c.args.p in
     rw (← c.is_normal.ensures, not-false _ c.if-not-is_normal.false-raw, le-ltb _ _ c.if-p-gt0.false, chosen-fold p (record { id = 0; priority = 0 }) (members p.arrival))
-    (c.greatest.ensures (λ id. (process id p).current) (λ x r e. search rules))
+    c.greatest.ensures

@@ -6,16 +6,17 @@ ghost use Rattle.partition.specs.Places.{slot_of, in_byte};
 ghost use Rattle.partition.specs.Soonest.{sooner, soonest_of};
 ghost use Rattle.partition.specs.Waits.{served_with, ended_id, ended_as};
 ghost use Rattle.machine.specs.Mode.{mode_number};
-ghost use Rattle.machine.specs.Ids.{members, ids_of, other, appended, removed, follow};
+ghost use Rattle.machine.specs.Ids.{members, ids_of, kept, other, appended, removed, follow};
 ghost use Rattle.machine.specs.Messages.{queue_of};
 ghost use Rattle.machine.specs.Process as Pr;
 ghost use Rattle.machine.specs.Process.{carried, due, ready, on_object, ticked, served, entered};
 ghost use Rattle.machine.specs.Partition.{by_id, process, stored, arrived_last, preferred, running, waits_on, waiters, first_waiter, changed_all, tick_partition, entered_normal, nothing_created, stored_event, stored_buffer, empty_buffer, created, ended_by, applied, partition_after};
 
 use lists::{Priority, Test};
-pub use lists::{first_where, greatest, keep, or_later};
+pub use lists::{first_where as first_by, greatest as greatest_by, keep as keep_by, or_later};
 use machine::{
-    Buffer, Context, EventState, Ids, Mode, Module, Partition, Process, Queue, Time, Transfer,
+    Buffer, Choice, Context, EventState, Ids, Mode, Module, Partition, Process, Queue, Time,
+    Transfer,
 };
 
 // An id in a byte; no record has one past 255.
@@ -31,6 +32,49 @@ fn append(q: Ids, id: u8) -> Ids
     let mut r = q;
     r.len = arrays::join_last(&mut r.items, q.len, id);
     r
+}
+
+// The ids of a list that pass a test, by a closure. The new list is filled where it lies: a function that gives a list would copy it at each turn.
+pub fn keep<F: Fn(u8) -> bool>(q: Ids, test: F) -> Ids
+    requires { F.IsAlwaysCallable test }
+    ensures { (f : ℕ → Bool) → ((x : ℕ) (r : Bool) → F.post test x r → r ≡ f x) → result ≡ ids_of (kept f (members q)) }
+{
+    let mut found = Ids {
+        items: [0; Module::PROCESSES],
+        len: 0,
+    };
+    for id in arrays::held(&q.items, q.len) {
+        if test(*id) {
+            let len = found.len;
+            found.len = arrays::join_last(&mut found.items, len, *id);
+        }
+    }
+    found
+}
+
+// The first id of a list that passes a test, 0 for none, by a closure.
+pub fn first_where<F: Fn(u8) -> bool>(q: Ids, test: F) -> u8
+    requires { F.IsAlwaysCallable test }
+    ensures { (f : ℕ → Bool) → ((x : ℕ) (r : Bool) → F.post test x r → r ≡ f x) → result ≡ get_or (kept f (members q)) 0 0 }
+{
+    for id in arrays::held(&q.items, q.len) {
+        if test(*id) {
+            return *id;
+        }
+    }
+    0
+}
+
+// The id of a list that has the greatest priority, the first among equals, by a closure; 0 for none.
+pub fn greatest<F: Fn(u8) -> u8>(q: Ids, priority: F) -> u8
+    requires { F.IsAlwaysCallable priority }
+    ensures { (f : ℕ → ℕ) → ((x r : ℕ) → F.post priority x r → r ≡ f x) → result ≡ (fold (λ c id. preferred c id (f id)) (record { id = 0; priority = 0 }) (members q)).id }
+{
+    let mut best = Choice { id: 0, priority: 0 };
+    for id in arrays::held(&q.items, q.len) {
+        best = or_later(best, *id, priority(*id));
+    }
+    best.id
 }
 
 // Every id but one passes.
@@ -52,7 +96,7 @@ impl Test<Ids> for Except {
 fn remove(q: Ids, id: u8) -> Ids
     ensures { result ≡ removed id q }
 {
-    keep(q, &q, Except { id })
+    keep_by(q, &q, Except { id })
 }
 
 // The list with this id at its end, and nowhere else.
@@ -104,7 +148,7 @@ pub fn running_process(p: Partition) -> u8
     if 0 < p.level {
         return p.holder;
     }
-    greatest(p.arrival, &p, Current)
+    greatest_by(p.arrival, &p, Current)
 }
 
 // The record of process id, read where it lies: no partition is copied.
@@ -145,7 +189,7 @@ impl Test<Partition> for WaitsOn {
 pub fn queue_of(p: Partition, object: u16) -> Ids
     ensures { result ≡ ids_of (waiters object p) }
 {
-    keep(p.waiting, &p, WaitsOn { object })
+    keep_by(p.waiting, &p, WaitsOn { object })
 }
 
 // The first of the queue of an object, 0 for none.
@@ -153,7 +197,7 @@ pub fn queue_of(p: Partition, object: u16) -> Ids
 pub fn first_waiter(p: Partition, object: u16) -> u8
     ensures { result ≡ first_waiter object p }
 {
-    first_where(p.waiting, &p, WaitsOn { object })
+    first_by(p.waiting, &p, WaitsOn { object })
 }
 
 // The first n of the queue of an object.
@@ -410,5 +454,39 @@ pub fn nothing_created(mode: u8) -> Partition
     Partition {
         mode: Mode::numbered(u32::from(mode)),
         ..Partition::empty()
+    }
+}
+
+#[cfg(test)]
+mod tests {
+    use super::*;
+
+    // Closures that choose from a list of three and from an empty one.
+    #[test]
+    fn closures_choose(rt: HostRuntime) {
+        let none = Ids {
+            items: [0; Module::PROCESSES],
+            len: 0,
+        };
+        let three = append(append(append(none, 4), 2), 7);
+
+        let even = keep(three, |id| id % 2 == 0);
+        assert_eq!(rt; even.len, 2);
+        assert_eq!(rt; even.items[0], 4);
+        assert_eq!(rt; even.items[1], 2);
+        assert_eq!(rt; even.items[2], 0);
+        assert_eq!(rt; keep(none, |id| id % 2 == 0).len, 0);
+
+        assert_eq!(rt; first_where(three, |id| id < 4), 2);
+        assert_eq!(rt; first_where(three, |id| 7 < id), 0, "none passes");
+        assert_eq!(rt; first_where(none, |id| id < 4), 0, "an empty list");
+
+        assert_eq!(rt; greatest(three, |id| id), 7);
+        assert_eq!(rt;
+            greatest(three, |id| if id == 7 { 1 } else { 5 }),
+            4,
+            "the first among equals"
+        );
+        assert_eq!(rt; greatest(none, |id| id), 0, "an empty list");
     }
 }
